@@ -1,0 +1,7 @@
+//! The sequential adjudicator, which the shared one answers like at its place in the history.
+#![tactic(auto)]
+
+mod adjudicator;
+
+pub use adjudicator::{Adjudicator, LAST_TIME};
+

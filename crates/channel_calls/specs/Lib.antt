@@ -1,0 +1,4 @@
+pub mod Refusing
+pub mod Flows
+pub mod Replies
+pub mod History

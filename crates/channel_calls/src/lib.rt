@@ -1,0 +1,16 @@
+//! The words that the adjudicator and its callers share, and what histories of them mean.
+#![tactic(auto)]
+
+mod balances;
+mod call;
+mod entry;
+mod funds;
+mod laws;
+mod refusal;
+
+pub use balances::{deposited, held, paid};
+pub use call::{Call, Op};
+pub use entry::Entry;
+pub use funds::Flow;
+pub use laws::{every_legal_history_conserves, nobody_holds_more_than_was_deposited};
+pub use refusal::{Refusal, Reply};
