@@ -1,12 +1,13 @@
 -- Nothing is lost or made.
-use Rattle.std.proofs.Common.{◌≡◌, ℕ, ◌+◌, ◌≤◌, ◌<◌, ◌^◌, List, [], ◌∷◌, ◌++◌, true, cond, Option, Some, None, ◌∙◌, ap, arith, append_assoc}
-use Rattle.std.proofs.lemmas.List.Sums.{sum_by-cons}
-use Rattle.std.specs.Prelude.{◌-◌, sum_by}
+use Rattle.std.proofs.Common.{◌≡◌, ℕ, ◌+◌, ◌≤◌, ◌<◌, ◌^◌, List, [], ◌∷◌, ◌++◌, Bool, true, false, cond, Option, Some, None, refl, sym, ◌∙◌, ap, arith, append_assoc, append-nil}
+use Rattle.std.proofs.lemmas.List.{reverse-append}
+use Rattle.std.proofs.lemmas.List.Sums.{sum_by-cons, sum_by-append}
+use Rattle.std.specs.Prelude.{◌-◌, sum_by, reverse}
 use Rattle.nitro_bytes.specs.Outcomes.{is_same}
 use Rattle.nitro_bytes.specs.declared.value.Dest.{Dest}
 use Rattle.nitro_bytes.specs.declared.value.Dest.TheVariants.{Person, Channel}
-use Rattle.channel_calls.specs.Flows.{carries, comes_from, is_outside, brings, takes, enters, into, out_of, held_in, paid_in, deposited_in, AreCovered, is_among, distinct, channel_of, person_of, source_of, channels_named, persons_named, AreConserved, AreWithinAmounts}
-use Rattle.channel_calls.specs.History.{Legal, flows_of, IsConserved, IsWithinDeposits}
+use Rattle.channel_calls.specs.Flows.{is_person, carries, comes_from, is_outside, brings, takes, enters, into, out_of, held_in, paid_in, deposited_in, AreCovered, is_among, distinct, channel_of, person_of, source_of, channels_named, persons_named, AreConserved, held_by_all, paid_to_all, AreWithinAmounts}
+use Rattle.channel_calls.specs.History.{Legal, newest_first, flow_of, flows_of, IsConserved, IsWithinDeposits}
 use Rattle.channel_calls.specs.declared.funds.Flow.{Flow}
 use Rattle.channel_calls.specs.declared.entry.Entry.{Entry}
 use Rattle.channel_calls.proofs.Legality.{covered, deposits_fit}
@@ -144,5 +145,62 @@ within_deposits h legal = record {
   paid = λ person asset. paid_le (flows_of h) (covered h legal) person asset;
 }
 
+-- what a flow pays to a person
+abbrev pub pays_person : ℕ → Flow → ℕ
+pays_person asset f = cond (is_person f.to) (carries asset f) 0
+
+brings_person : (cs ps : List (List ℕ)) (n : ℕ) (to : Dest) → Reaches cs ps to → sum_by (λ p. cond (is_same to (Person p)) n 0) (distinct ps) ≡ cond (is_person to) n 0
+brings_person cs ps n (Channel c) h = sum_by_zero (distinct ps)
+brings_person cs ps n (Person p) h = sum_distinct p n ps ∙ ap (λ b. cond b n 0) h
+
+paid_over : (cs ps : List (List ℕ)) (asset : ℕ) (fs : List Flow) → Named cs ps fs → sum_by (λ p. paid_in fs p asset) (distinct ps) ≡ sum_by (pays_person asset) fs
+paid_over cs ps asset [] h = sum_by_zero (distinct ps)
+paid_over cs ps asset (f ∷ fs) h =
+    omega (
+      arith,
+      paid_over cs ps asset fs h.2,
+      brings_person cs ps (carries asset f) f.to h.1,
+      sum_by-cons (pays_person asset) f fs,
+      sum_by_plus (λ p. brings (Person p) asset f) (λ p. paid_in fs p asset) (λ p. paid_in (f ∷ fs) p asset) (λ p. sum_by-cons (brings (Person p) asset) f fs) (distinct ps),
+    )
+
+pub paid_to_persons : (fs : List Flow) (asset : ℕ) → paid_to_all fs asset ≡ sum_by (pays_person asset) fs
+paid_to_persons fs asset = paid_over (channels_named fs) (persons_named fs) asset fs (all_named fs)
+
+pub all_paid_fits : (fs : List Flow) (asset : ℕ) → AreWithinAmounts fs → paid_to_all fs asset < 2 ^ 64
+all_paid_fits fs asset w = omega (arith, flows_conserved fs w.covered asset, w.deposits asset)
+
+pub persons_fit : (fs : List Flow) (asset : ℕ) → AreWithinAmounts fs → sum_by (pays_person asset) fs < 2 ^ 64
+persons_fit fs asset w = omega (arith, paid_to_persons fs asset, all_paid_fits fs asset w)
+
+pub held_is_left : (fs : List Flow) (asset : ℕ) → AreWithinAmounts fs → held_by_all fs asset + paid_to_all fs asset ≡ deposited_in fs asset
+held_is_left fs asset w = omega (arith, flows_conserved fs w.covered asset)
+
 pub within_amounts : (h : List Entry) → Legal h → AreWithinAmounts (flows_of h)
 within_amounts h legal = record { covered = covered h legal; deposits = deposits_fit h legal }
+
+-- sums over flows don't tell the order of the entries
+flows_of-append : (g h : List Entry) → flows_of (g ++ h) ≡ flows_of g ++ flows_of h
+flows_of-append [] h = refl
+flows_of-append (e ∷ past) h = ap (λ fs. flow_of e.op e.reply ++ fs) (flows_of-append past h) ∙ sym (append_assoc (flow_of e.op e.reply) (flows_of past) (flows_of h))
+
+flows_of-push : (g : List Entry) (e : Entry) → flows_of (g ++ e ∷ []) ≡ flows_of g ++ flow_of e.op e.reply
+flows_of-push g e = flows_of-append g (e ∷ []) ∙ ap (λ fs. flows_of g ++ fs) (append-nil (flow_of e.op e.reply))
+
+sum_in_time : (f : Flow → ℕ) (h : List Entry) → sum_by f (flows_of (reverse h)) ≡ sum_by f (flows_of h)
+sum_in_time f [] = refl
+sum_in_time f (e ∷ later) =
+    omega (
+      arith,
+      sum_in_time f later,
+      ap (λ es. sum_by f (flows_of es)) (reverse-append (e ∷ []) later),
+      ap (sum_by f) (flows_of-push (reverse later) e),
+      sum_by-append f (flows_of (reverse later)) (flow_of e.op e.reply),
+      sum_by-append f (flow_of e.op e.reply) (flows_of later),
+    )
+
+pub within_in_time : (h : List Entry) → Legal (newest_first h) → AreWithinAmounts (flows_of h)
+within_in_time h legal = record {
+  covered = λ channel asset. omega (arith, covered (newest_first h) legal channel asset, sum_in_time (takes channel asset) h, sum_in_time (brings (Channel channel) asset) h);
+  deposits = λ asset. omega (arith, deposits_fit (newest_first h) legal asset, sum_in_time (enters asset) h);
+}

@@ -7,6 +7,10 @@ use Rattle.nitro_bytes.specs.declared.value.Dest.{Dest}
 use Rattle.nitro_bytes.specs.declared.value.Dest.TheVariants.{Person, Channel}
 use Rattle.channel_calls.specs.declared.funds.Flow.{Flow}
 
+abbrev pub is_person : Dest → Bool
+is_person (Person person) = true
+is_person (Channel channel) = false
+
 -- what a flow carries of an asset
 abbrev pub carries : ℕ → Flow → ℕ
 carries asset flow = if flow.asset == asset then flow.amount else 0
@@ -82,11 +86,16 @@ channels_named flows = flat_map (λ flow. source_of flow.from ++ channel_of flow
 abbrev pub persons_named : List Flow → List (List ℕ)
 persons_named flows = flat_map (λ flow. person_of flow.to) flows
 
+-- what all channels hold and all persons were paid, of an asset
+abbrev pub held_by_all : List Flow → ℕ → ℕ
+held_by_all flows asset = sum_by (λ channel. held_in flows channel asset) (distinct (channels_named flows))
+
+abbrev pub paid_to_all : List Flow → ℕ → ℕ
+paid_to_all flows asset = sum_by (λ person. paid_in flows person asset) (distinct (persons_named flows))
+
 -- of each asset, what came from outside is what the channels hold and what the persons were paid
 abbrev pub AreConserved : List Flow → Type 0
-AreConserved flows = (asset : ℕ) → deposited_in flows asset ≡
-    sum_by (λ channel. held_in flows channel asset) (distinct (channels_named flows))
-    + sum_by (λ person. paid_in flows person asset) (distinct (persons_named flows))
+AreConserved flows = (asset : ℕ) → deposited_in flows asset ≡ held_by_all flows asset + paid_to_all flows asset
 
 -- A flow more changes these balances: of its source, of its destination, and where it comes from outside what was deposited.
 -- Where a channel pays itself, what it holds stays.

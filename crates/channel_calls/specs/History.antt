@@ -1,5 +1,5 @@
 -- Histories, the newest entry first: time, flows, balances, replies, and which histories are legal.
-use Rattle.std.specs.Prelude.{◌≡◌, ◌≤◌, ℕ, suc, List, [], ◌∷◌, ◌++◌, length, Option, Some, None}
+use Rattle.std.specs.Prelude.{◌≡◌, ◌≤◌, ℕ, suc, List, [], ◌∷◌, ◌++◌, length, reverse, Option, Some, None}
 use Rattle.nitro_bytes.specs.declared.value.Dest.TheVariants.{Channel}
 use Rattle.channel_calls.specs.Refusing.{told}
 use Rattle.channel_calls.specs.Flows.{held_in, paid_in, deposited_in, AreConserved}
@@ -12,6 +12,10 @@ use Rattle.channel_calls.specs.declared.entry.Entry.{Entry}
 use Rattle.channel_calls.specs.declared.funds.Flow.{Flow}
 use Rattle.channel_calls.specs.declared.refusal.Reply.{Reply}
 use Rattle.channel_calls.specs.declared.refusal.Reply.TheVariants.{Held, Now, No}
+
+-- a list in the order of time, the newest first
+abbrev pub newest_first : List Entry → List Entry
+newest_first h = reverse h
 
 -- ---- time
 
@@ -37,6 +41,7 @@ abbrev pub flow_of : Op → Reply → List Flow
 flow_of (ops.Call (Deposit channel asset expected amount)) (Held n) = record { from = None; to = Channel channel; asset = asset; amount = amount } ∷ []
 flow_of _ _ = []
 
+-- the flows of entries, in the order of these
 abbrev pub flows_of : List Entry → List Flow
 flows_of [] = []
 flows_of (e ∷ past) = flow_of e.op e.reply ++ flows_of past

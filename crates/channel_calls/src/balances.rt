@@ -1,7 +1,7 @@
 //! What flows sum up to.
 
 ghost use Rattle.std.specs.Prelude.{◌≡◌};
-ghost use Rattle.channel_calls.specs.Flows.{into, out_of, held_in, paid_in, deposited_in, comes_from, AreWithinAmounts};
+ghost use Rattle.channel_calls.specs.Flows.{into, out_of, held_in, paid_in, deposited_in, held_by_all, paid_to_all, is_person, comes_from, AreWithinAmounts};
 
 use crate::funds::Flow;
 use nitro_bytes::{Dest, Name};
@@ -58,6 +58,35 @@ pub fn paid(flows: &[Flow], person: &Name, asset: u32) -> u64
     ensures { result ≡ paid_in flows.now person.now asset }
 {
     received(flows, &Dest::Person(*person), asset) as u64
+}
+
+fn is_person(dest: &Dest) -> bool
+    ensures { result ≡ is_person dest.now }
+{
+    matches!(dest, Dest::Person(_))
+}
+
+/// What all persons were paid of an asset.
+pub fn paid_to_all(flows: &[Flow], asset: u32) -> u64
+    requires { AreWithinAmounts flows.now }
+    ensures { result ≡ paid_to_all flows.now asset }
+{
+    let mut sum: u128 = 0;
+    for flow in flows {
+        if is_person(&flow.to) && flow.asset == asset {
+            sum += u128::from(flow.amount);
+        }
+    }
+    sum as u64
+}
+
+/// What all channels hold of an asset.
+#[tactic(auto, using(crate::proofs::Conservation::held_is_left))]
+pub fn held_by_all(flows: &[Flow], asset: u32) -> u64
+    requires { AreWithinAmounts flows.now }
+    ensures { result ≡ held_by_all flows.now asset }
+{
+    deposited(flows, asset) - paid_to_all(flows, asset)
 }
 
 /// What was deposited of an asset.

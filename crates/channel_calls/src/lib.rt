@@ -8,7 +8,7 @@ mod funds;
 mod laws;
 mod refusal;
 
-pub use balances::{deposited, held, paid};
+pub use balances::{deposited, held, held_by_all, paid, paid_to_all};
 pub use call::{Call, Op};
 pub use entry::Entry;
 pub use funds::Flow;
