@@ -184,7 +184,7 @@ flows_of-append : (g h : List Entry) → flows_of (g ++ h) ≡ flows_of g ++ flo
 flows_of-append [] h = refl
 flows_of-append (e ∷ past) h = ap (λ fs. flow_of e.op e.reply ++ fs) (flows_of-append past h) ∙ sym (append_assoc (flow_of e.op e.reply) (flows_of past) (flows_of h))
 
-flows_of-push : (g : List Entry) (e : Entry) → flows_of (g ++ e ∷ []) ≡ flows_of g ++ flow_of e.op e.reply
+pub flows_of-push : (g : List Entry) (e : Entry) → flows_of (g ++ e ∷ []) ≡ flows_of g ++ flow_of e.op e.reply
 flows_of-push g e = flows_of-append g (e ∷ []) ∙ ap (λ fs. flows_of g ++ fs) (append-nil (flow_of e.op e.reply))
 
 sum_in_time : (f : Flow → ℕ) (h : List Entry) → sum_by f (flows_of (reverse h)) ≡ sum_by f (flows_of h)

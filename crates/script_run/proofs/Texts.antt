@@ -1,0 +1,35 @@
+-- What one more entry or flow adds to a text.
+use Rattle.std.proofs.Common.{◌≡◌, ◌+◌, ◌<◌, ℕ, List, [], ◌∷◌, ◌++◌, take, length, get_or, sym, ◌∙◌, ap}
+use Rattle.std.specs.Prelude.{reverse}
+use Rattle.std.specs.Ordering.{nat_cmp}
+use Rattle.std.specs.BTreeSet.{insert_key}
+use Rattle.std.proofs.lemmas.List.{take_more, reverse-append}
+use Rattle.std.proofs.lemmas.List.Sums.{fold_more}
+use Rattle.channel_calls.specs.History.{newest_first, time_set, or_before, now_of, flow_of, flows_of}
+use Rattle.channel_calls.specs.declared.entry.Entry.{Entry}
+use Rattle.channel_calls.specs.declared.funds.Flow.{Flow}
+use Rattle.channel_calls.proofs.Conservation.{flows_of-push}
+use Rattle.script_run.specs.Text.{assets_of, receivers_of, add_receiver, Pair}
+
+pub assets_of_more : (flows : List Flow) (i : ℕ) (seen new : List ℕ) (d : Flow) → i < length flows → seen ≡ assets_of (take i flows) → new ≡ insert_key nat_cmp seen (get_or flows i d).asset → new ≡ assets_of (take (i + 1) flows)
+assets_of_more flows i seen new d h before after =
+    after ∙ ap (λ s. insert_key nat_cmp s (get_or flows i d).asset) before ∙ sym (fold_more (λ (s : List ℕ) (f : Flow). insert_key nat_cmp s f.asset) [] flows i d h)
+
+pub receivers_of_more : (flows : List Flow) (i : ℕ) (seen new : List Pair) (d : Flow) → i < length flows → seen ≡ receivers_of (take i flows) → new ≡ add_receiver seen (get_or flows i d).asset (get_or flows i d).to → new ≡ receivers_of (take (i + 1) flows)
+receivers_of_more flows i seen new d h before after =
+    after ∙ ap (λ s. add_receiver s (get_or flows i d).asset (get_or flows i d).to) before ∙ sym (fold_more (λ (s : List Pair) (f : Flow). add_receiver s f.asset f.to) [] flows i d h)
+
+-- the newest entry comes first
+pub newest_first-push : (h : List Entry) (e : Entry) → newest_first (h ++ e ∷ []) ≡ e ∷ newest_first h
+newest_first-push h e = reverse-append h (e ∷ [])
+
+newest_first_more : (h : List Entry) (i : ℕ) (d : Entry) → i < length h → newest_first (take (i + 1) h) ≡ get_or h i d ∷ newest_first (take i h)
+newest_first_more h i d l = ap reverse (take_more h i d l) ∙ newest_first-push (take i h) (get_or h i d)
+
+pub now_of_more : (h : List Entry) (i : ℕ) (before after : ℕ) (d : Entry) → i < length h → before ≡ now_of (newest_first (take i h))
+    → after ≡ or_before (time_set (get_or h i d).op (get_or h i d).reply) before → after ≡ now_of (newest_first (take (i + 1) h))
+now_of_more h i before after d l old new =
+    new ∙ ap (or_before (time_set (get_or h i d).op (get_or h i d).reply)) old ∙ sym (ap now_of (newest_first_more h i d l))
+
+pub flows_of_more : (h : List Entry) (i : ℕ) (d : Entry) → i < length h → flows_of (take (i + 1) h) ≡ flows_of (take i h) ++ flow_of (get_or h i d).op (get_or h i d).reply
+flows_of_more h i d l = ap flows_of (take_more h i d l) ∙ flows_of-push (take i h) (get_or h i d)
