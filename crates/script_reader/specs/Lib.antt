@@ -1,0 +1,7 @@
+pub mod Conditions
+pub mod Forms
+pub mod Kinds
+pub mod Outside
+pub mod Reading
+pub mod Rules
+pub mod Script

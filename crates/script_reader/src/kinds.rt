@@ -1,0 +1,126 @@
+//! Reads the values of a step's keys by their kinds.
+
+ghost use Rattle.std.specs.Prelude.{◌≡◌, option_map};
+ghost use Rattle.std.specs.List.{list_all};
+ghost use Rattle.serde_json.specs.View.{view, items_view};
+ghost use Rattle.script_reader.specs.Rules.{Gives};
+ghost use Rattle.script_reader.specs.Kinds.{has_keys, keys, text_in, word_at, number_at, is_lower_digit, is_hex, is_letter, is_name_byte, is_name, place_at, array_at};
+
+use crate::step::{Rule, StepFault};
+use nitro_bytes::Label;
+use serde_json::Value;
+use std::alloc::Global;
+
+#[tactic(auto, using(crate::proofs::Counts::member_count_view))]
+fn has_keys(value: &Value, count: usize) -> bool
+    ensures { result ≡ has_keys (view value.now) count }
+{
+    match value.as_object() {
+        Some(members) => members.len() == count,
+        None => false,
+    }
+}
+
+/// Tests that the value is an object of so many keys.
+pub(crate) fn keys(value: &Value, count: usize) -> Result<(), StepFault>
+    ensures { Gives (λ _. 0) result (keys count (view value.now)) }
+{
+    if !has_keys(value, count) {
+        return Err(StepFault::Broken(Rule::Shape));
+    }
+    Ok(())
+}
+
+fn text_in<'v>(value: &'v Value, key: &str) -> Option<&'v str>
+    ensures { option_map (λ s. s.now) result ≡ text_in key.now (view value.now) }
+{
+    value.get(key).and_then(Value::as_str)
+}
+
+/// The text at `do`.
+pub(crate) fn word_at(value: &Value) -> Result<&str, StepFault>
+    ensures { Gives (λ s. s.now) result (word_at (view value.now)) }
+{
+    match text_in(value, "do") {
+        Some(word) => Ok(word),
+        None => Err(StepFault::Broken(Rule::Shape)),
+    }
+}
+
+/// The number from 0 to 2^64-1 at the key.
+pub(crate) fn number_at(value: &Value, key: &str) -> Result<u64, StepFault>
+    ensures { Gives (λ n. n) result (number_at key.now (view value.now)) }
+{
+    match value.get(key).and_then(Value::as_u64) {
+        Some(number) => Ok(number),
+        None => Err(StepFault::Broken(Rule::Shape)),
+    }
+}
+
+/// The items of the array at the key.
+pub(crate) fn array_at<'v>(value: &'v Value, key: &str) -> Result<&'v [Value], StepFault>
+    ensures { Gives (λ v. items_view v.now) result (array_at key.now (view value.now)) }
+{
+    match value.get(key).and_then(Value::as_array) {
+        Some(values) => Ok(values.as_slice()),
+        None => Err(StepFault::Broken(Rule::Shape)),
+    }
+}
+
+fn is_lower_digit(b: u8) -> bool
+    ensures { result ≡ is_lower_digit b }
+{
+    matches!(b, b'0'..=b'9' | b'a'..=b'f')
+}
+
+fn are_lower_digits(bytes: &[u8]) -> bool
+    ensures { result ≡ list_all is_lower_digit bytes.now }
+{
+    bytes.iter().all(|b| is_lower_digit(*b))
+}
+
+/// Whether the text is 64 digits 0-9 a-f.
+pub(crate) fn is_hex(text: &str) -> bool
+    ensures { result ≡ is_hex text.now }
+{
+    text.len() == 64 && are_lower_digits(text.as_bytes())
+}
+
+fn is_letter(b: u8) -> bool
+    ensures { result ≡ is_letter b }
+{
+    matches!(b, b'A'..=b'Z' | b'a'..=b'z')
+}
+
+fn is_name_byte(b: u8) -> bool
+    ensures { result ≡ is_name_byte b }
+{
+    is_letter(b) || matches!(b, b'0'..=b'9') || b == b'_'
+}
+
+fn are_name_bytes(bytes: &[u8]) -> bool
+    ensures { result ≡ list_all is_name_byte bytes.now }
+{
+    bytes.iter().all(|b| is_name_byte(*b))
+}
+
+fn is_name(text: &str) -> bool
+    ensures { result ≡ is_name text.now }
+{
+    match text.as_bytes() {
+        [] => false,
+        [first, rest @ ..] => is_letter(*first) && rest.len() <= 15 && are_name_bytes(rest),
+    }
+}
+
+/// The name, or the 64 digits, at the key.
+pub(crate) fn place_at(alloc: Global, value: &Value, key: &str) -> Result<Label, StepFault>
+    ensures { Gives (λ l. l) result (place_at key.now (view value.now)) }
+{
+    match text_in(value, key) {
+        Some(text) if is_name(text) || is_hex(text) => {
+            Ok(Label::make(String::from_str(alloc, text)?))
+        }
+        _ => Err(StepFault::Broken(Rule::Shape)),
+    }
+}

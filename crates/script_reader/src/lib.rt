@@ -1,0 +1,21 @@
+//! Reads scripts: the bytes of a source, and the steps that they are or the first rule that they break.
+#![tactic(auto)]
+
+mod conditions;
+mod context;
+mod forms;
+mod kinds;
+mod memory;
+mod reading;
+mod script;
+mod source;
+mod standard;
+mod step;
+#[cfg(test)]
+mod tests;
+
+pub use memory::{CalmSource, ListSource};
+pub use script::{STEP_LIMIT, Script, ScriptFault, read_script};
+pub use source::{READ_LIMIT, ReadEnd, Source, Took, read_all};
+pub use standard::StdSource;
+pub use step::{Rule, Step};

@@ -1,0 +1,29 @@
+//! The source that reads from the system.
+
+ghost use Rattle.std.specs.Prelude.{None};
+
+use crate::source::{Source, Took};
+use std::io::Read;
+
+/// A reader of the system, with a count of its faults. It tells nothing of its bytes.
+#[derive(Drop)]
+pub struct StdSource<R: Read + Drop> {
+    pub reader: R,
+    pub faults: u64,
+}
+
+impl<R: Read + Drop> Source for StdSource<R> {
+    ghost left = { λ s. None };
+
+    ghost faults = { λ s. s.faults };
+
+    fn take(&mut self, into: &mut [u8]) -> Took {
+        match self.reader.read(into) {
+            Ok(count) => Took::Got(count),
+            Err(_) => {
+                self.faults = self.faults.saturating_add(1);
+                Took::Failed
+            }
+        }
+    }
+}
