@@ -1,5 +1,5 @@
 -- The steps of a script keep the rules, and what keeps the rules keeps each of them.
-use Rattle.std.proofs.Common.{◌≡◌, ℕ, ◌+◌, List, [], ◌∷◌, ◌++◌, length, refl, sym, ◌∙◌, Result, Ok, Err, append_assoc, append-nil, true, false}
+use Rattle.std.proofs.Common.{◌≡◌, ℕ, zero, suc, ◌+◌, ◌<◌, List, [], ◌∷◌, ◌++◌, length, get_or, refl, sym, ◌∙◌, Result, Ok, Err, append_assoc, append-nil, true, false, arith}
 use Rattle.std.specs.Prelude.{Bool, not, ◌||◌}
 use Rattle.serde_json.specs.Data.{Data, Items, no_items, item}
 use Rattle.script_reader.specs.Rules.{◌>>=◌, holds}
@@ -8,7 +8,7 @@ use Rattle.script_reader.specs.Forms.{step_by}
 use Rattle.script_reader.specs.Conditions.{after, is_named, fits, runs_in_race}
 use Rattle.script_reader.specs.Reading.{checked, step_of}
 use Rattle.script_reader.specs.Script as script
-use Rattle.script_reader.specs.Script.{start, at_step, steps_from, AreChecked}
+use Rattle.script_reader.specs.Script.{start, at_step, steps_from, AreChecked, IsChecked}
 use Rattle.script_reader.specs.declared.context.Context.{Context}
 use Rattle.script_reader.specs.declared.step.Rule.{Rule}
 use Rattle.script_reader.specs.declared.step.Rule.TheVariants as rules
@@ -69,3 +69,9 @@ rest_checked c seen all (item d ds) h = next_checked c seen all ds (length seen 
 
 pub all_checked : (race : Bool) (all : List Step) (ds : Items) → steps_from (start race) [] ds ≡ Ok all → AreChecked (start race) all
 all_checked race all ds h = let t = rest_checked (start race) [] all ds h in let same : all ≡ t.0 = t.1 in rw same t.2
+
+-- each of checked steps keeps the rules
+pub each_checked : (c : Context) (steps : List Step) → AreChecked c steps → (i : ℕ) (d : Step) → i < length steps → IsChecked (get_or steps i d)
+each_checked c [] h i d l = absurd (omega (arith, l))
+each_checked c (step ∷ steps) h zero d l = (c, h.0)
+each_checked c (step ∷ steps) h (suc i) d l = each_checked (after c step) steps h.1 i d (omega (arith, l))

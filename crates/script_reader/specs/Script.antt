@@ -100,3 +100,7 @@ IsReading race bytes (Err (Broken step rule)) = Breaks race step rule bytes
 abbrev pub AreChecked : Context → List Step → Type 0
 AreChecked c [] = ⊤
 AreChecked c (s ∷ ss) = (checked c s ≡ Ok s) × AreChecked (after c s) ss
+
+-- the step keeps the rules, whatever was declared before it
+abbrev pub IsChecked : Step → Type 0
+IsChecked step = (c : Context) × (checked c step ≡ Ok step)

@@ -1,1 +1,3 @@
+pub mod Completes
+pub mod Plays
 pub mod Texts

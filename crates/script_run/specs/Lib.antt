@@ -1,1 +1,4 @@
+pub mod Outside
+pub mod Play
+pub mod Run
 pub mod Text

@@ -2,6 +2,16 @@
 #![tactic(auto)]
 
 mod entry_text;
+mod memory;
+mod replay;
+mod run;
+mod sink;
+mod standard;
 mod text;
 
+pub use memory::{CalmSink, ListSink};
+pub use replay::play;
+pub use run::{Ended, Report, Status, run_words};
+pub use sink::{Gave, Sink, SinkFailed, put_all};
+pub use standard::StdSink;
 pub use text::text_of;

@@ -1,0 +1,104 @@
+-- What a run of the program comes to.
+use Rattle.std.specs.Prelude.{◌≡◌, ◌≤◌, ◌<◌, ℕ, List, [], ◌∷◌, length, false, Option, Some, None, codes}
+use Rattle.std.specs.Fmt.{decimal}
+use Rattle.std.specs.Io.KnownBytes.{Consumes, IsAtEnd}
+use Rattle.channel_calls.specs.History.{newest_first}
+use Rattle.channel_calls.specs.declared.entry.Entry.{Entry}
+use Rattle.script_reader.specs.Outside.{Rose}
+use Rattle.script_reader.specs.Script.{IsScript, Breaks}
+use Rattle.script_reader.specs.declared.step.Rule.{Rule}
+use Rattle.script_reader.specs.declared.step.Rule.TheVariants as rules
+use Rattle.script_reader.specs.declared.step.Step.{Step}
+use Rattle.script_run.specs.Play.{play}
+use Rattle.script_run.specs.Text.{text_of, ◌&◌, ended}
+use Rattle.script_run.specs.declared.run.Status.{Status}
+use Rattle.script_run.specs.declared.run.Status.TheVariants.{Done, NoMemory, Usage, Script, ReadFault, WriteFault, TooLong}
+use Rattle.script_run.specs.declared.run.Report.{Report}
+
+-- the words and the source that a run was handed: what was left of it and its count of faults, before and after
+pub record Given : Type 0 where
+  pub words : List (List ℕ)
+  pub before : Option (List ℕ)
+  pub after : Option (List ℕ)
+  pub faults_before : ℕ
+  pub faults_after : ℕ
+
+-- what a run was handed, by what its source tells
+abbrev pub given : {S : Type 0} → (S → Option (List ℕ)) → (S → ℕ) → List (List ℕ) → S → S → Given
+given left faults words old new = record { words = words; before = left old; after = left new; faults_before = faults old; faults_after = faults new }
+
+-- the number of a status
+abbrev pub code_of : Status → ℕ
+code_of Done = 0
+code_of NoMemory = 1
+code_of Usage = 2
+code_of (Script step rule) = 3
+code_of ReadFault = 4
+code_of WriteFault = 5
+code_of TooLong = 6
+
+-- the words are `run` alone
+abbrev pub IsRun : List (List ℕ) → Type 0
+IsRun words = words ≡ codes "run" ∷ []
+
+-- some bytes were taken
+abbrev pub Takes : Given → (List ℕ → Type 0) → Type 0
+Takes g P = (bytes : List ℕ) × Consumes g.before g.after bytes × P bytes
+
+-- the source was read to its end, within the limit
+abbrev pub Reads : Given → (List ℕ → Type 0) → Type 0
+Reads g P = (bytes : List ℕ) × Consumes g.before g.after bytes × IsAtEnd g.after × (length bytes ≤ 4194304) × P bytes
+
+-- the bytes are a script, whose play is this history in the order of time
+abbrev pub IsPlayed : List Entry → List ℕ → Type 0
+IsPlayed history bytes = (steps : List Step) × IsScript false bytes steps × (newest_first history ≡ play steps)
+
+-- Why a run comes to each end, before its text is put.
+abbrev pub EndsAs : Given → Status → Option Report → Type 0
+EndsAs g Done (Some report) = IsRun g.words × Reads g (IsPlayed report.history)
+EndsAs g Usage None = ¬ (IsRun g.words)
+EndsAs g (Script step rule) None = IsRun g.words × Reads g (Breaks false step rule)
+EndsAs g ReadFault None = IsRun g.words × Takes g (λ bytes. length bytes ≤ 4194304) × Rose g.faults_before g.faults_after
+EndsAs g TooLong None = IsRun g.words × Takes g (λ bytes. 4194304 < length bytes)
+-- no other end, and no other report
+EndsAs g Done None = ⊥
+EndsAs g NoMemory report = ⊥
+EndsAs g Usage (Some report) = ⊥
+EndsAs g (Script step rule) (Some report) = ⊥
+EndsAs g ReadFault (Some report) = ⊥
+EndsAs g WriteFault report = ⊥
+EndsAs g TooLong (Some report) = ⊥
+
+-- the number and the name of a rule
+abbrev pub rule_text : Rule → List ℕ
+rule_text rules.NotJson = codes "1 NotJson"
+rule_text rules.Shape = codes "2 Shape"
+rule_text rules.Name = codes "3 Name"
+rule_text rules.Limit = codes "4 Limit"
+rule_text rules.NotBuilt = codes "5 NotBuilt"
+rule_text rules.NotInRace = codes "6 NotInRace"
+
+-- the history of a report, or none
+abbrev pub history_of : Option Report → List Entry
+history_of None = []
+history_of (Some report) = report.history
+
+-- the bytes that an end owes
+abbrev pub owed : Status → Option Report → List ℕ
+owed Done report = text_of (history_of report)
+owed NoMemory report = []
+owed Usage report = ended (codes "usage")
+owed (Script step rule) report = codes "script" & decimal step & ended (rule_text rule)
+owed ReadFault report = ended (codes "read fault")
+owed WriteFault report = []
+owed TooLong report = ended (codes "too long")
+
+-- the words are `run`, and the source tells a script that is short enough, and doesn't fail
+pub record IsSound (g : Given) : Type 0 where
+  pub words : IsRun g.words
+  pub bytes : List ℕ
+  pub told : g.before ≡ Some bytes
+  pub short : length bytes ≤ 4194304
+  pub steps : List Step
+  pub script : IsScript false bytes steps
+  pub faultless : ¬ (Rose g.faults_before g.faults_after)

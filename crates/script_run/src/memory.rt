@@ -1,0 +1,78 @@
+//! Sinks in memory, for tests and for programs that keep the text.
+
+ghost use Rattle.std.specs.Prelude.{◌≡◌, Some, None, [], IfOk};
+
+use crate::sink::{Gave, Sink};
+use nitro_bytes::NoMemory;
+use std::alloc::Global;
+
+/// Takes all bytes, keeps none and tells none.
+#[derive(Drop)]
+pub struct CalmSink;
+
+impl Sink for CalmSink {
+    ghost held = { λ s. None };
+
+    ghost faults = { λ s. 0 };
+
+    fn put(&mut self, piece: &[u8]) -> Gave {
+        Gave::Took(piece.len())
+    }
+}
+
+/// Keeps the bytes. It fails at the calls of a list, and where no room is left.
+#[derive(Drop)]
+pub struct ListSink<'a> {
+    pub bytes: Vec<u8>,
+    /// The calls that fail, numbered from 0.
+    pub failing: &'a [u64],
+    /// At most so many bytes of a piece are taken.
+    pub most: usize,
+    pub calls: u64,
+    pub faults: u64,
+}
+
+impl<'a> ListSink<'a> {
+    /// Takes room for `room` bytes, and of each piece at most `most` bytes, which is at least 1.
+    pub fn make(
+        alloc: Global,
+        room: usize,
+        most: usize,
+        failing: &'a [u64],
+    ) -> Result<ListSink<'a>, NoMemory>
+        ensures empty { IfOk result (λ sink. sink.bytes.items ≡ []) }
+        ensures failing { IfOk result (λ sink. sink.failing.now ≡ failing.now) }
+        ensures most { IfOk result (λ sink. sink.most ≡ most) }
+        ensures calls { IfOk result (λ sink. sink.calls ≡ 0) }
+        ensures faults { IfOk result (λ sink. sink.faults ≡ 0) }
+    {
+        let bytes = Vec::with_capacity(alloc, room)?;
+        Ok(ListSink {
+            bytes,
+            failing,
+            most,
+            calls: 0,
+            faults: 0,
+        })
+    }
+}
+
+impl Sink for ListSink<'_> {
+    ghost held = { λ s. Some s.bytes.items };
+
+    ghost faults = { λ s. s.faults };
+
+    fn put(&mut self, piece: &[u8]) -> Gave {
+        let call = self.calls;
+        self.calls = self.calls.saturating_add(1);
+        let count = piece.len().min(self.most.max(1));
+        let room = self.bytes.capacity() - self.bytes.len();
+        if self.failing.contains(&call) || room < count {
+            self.faults = self.faults.saturating_add(1);
+            return Gave::Failed;
+        }
+        let (first, _) = piece.split_at(count);
+        self.bytes.extend_from_slice(first).unwrap();
+        Gave::Took(count)
+    }
+}

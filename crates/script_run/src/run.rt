@@ -1,0 +1,196 @@
+//! The top call: from words and a source to a status and the text that was put.
+
+ghost use Rattle.std.specs.Prelude.{◌≡◌, ◌≢◌, ◌≤◌, ◌↔◌, ◌⊎◌, ℕ, List, false, length, IsTrue, IfOk, IfSome, IsNone, string_bytes};
+ghost use Rattle.std.specs.Io.KnownBytes.{Keeps, Consumes, Appends, IsAtEnd};
+ghost use Rattle.channel_calls.specs.History.{Legal, newest_first, IsConserved};
+ghost use Rattle.script_reader.specs.Outside.{Rose};
+ghost use Rattle.script_run.specs.Outside.{AppendsPart};
+ghost use Rattle.script_run.specs.declared.run.Status.{Status};
+ghost use Rattle.script_run.specs.Run.{Given, IsRun, IsSound, given, code_of, EndsAs, rule_text, owed};
+
+use crate::replay::play;
+use crate::sink::{Sink, put_all};
+use crate::text::text_of;
+use channel_calls::Entry;
+use nitro_bytes::{Label, Listed, NoMemory};
+use script_reader::{ReadEnd, Rule, ScriptFault, Source, read_all, read_script};
+use std::alloc::{AllocError, Global};
+
+/// How a run ended. A script that is refused has the step, counted from 1, and the rule that it breaks
+/// first; step 0 is the whole script.
+#[derive(Clone, Copy, Debug, PartialEq, Eq)]
+pub enum Status {
+    Done,
+    NoMemory,
+    Usage,
+    Script(u32, Rule),
+    ReadFault,
+    WriteFault,
+    TooLong,
+}
+
+impl Status {
+    /// The status number that the program ends with.
+    pub fn code(self) -> u8
+        ensures { result ≡ code_of self }
+    {
+        match self {
+            Status::Done => 0,
+            Status::NoMemory => 1,
+            Status::Usage => 2,
+            Status::Script(_, _) => 3,
+            Status::ReadFault => 4,
+            Status::WriteFault => 5,
+            Status::TooLong => 6,
+        }
+    }
+}
+
+/// What a run made: its history, in the order of time.
+#[derive(Drop)]
+pub struct Report {
+    pub history: Listed<Entry>,
+}
+
+/// What a run answers. The report is there where the script was played.
+#[derive(Drop)]
+pub struct Ended {
+    pub status: Status,
+    pub report: Option<Report>,
+}
+
+fn is_run(words: &[Label]) -> bool
+    ensures { IsTrue result ↔ IsRun words.now }
+{
+    match words {
+        [word] => word.as_str() == "run",
+        _ => false,
+    }
+}
+
+fn without_report(status: Status) -> Ended
+    ensures { result ≡ record { status = status; report = None } }
+{
+    Ended {
+        status,
+        report: None,
+    }
+}
+
+/// What a script comes to that was read whole.
+fn run_script(alloc: Global, bytes: &[u8]) -> Result<Ended, NoMemory>
+    ensures ends { (given : Given) → IsRun given.words → Consumes given.before given.after bytes.now
+        → IsAtEnd given.after → length bytes.now ≤ 4194304
+        → IfOk result (λ ended. EndsAs given ended.status ended.report) }
+    ensures legal { IfOk result (λ ended. IfSome ended.report (λ report. Legal (newest_first report.history))) }
+{
+    match read_script(alloc, bytes, false) {
+        Err(ScriptFault::NoMemory) => Err(NoMemory),
+        Err(ScriptFault::Broken { step, rule }) => Ok(without_report(Status::Script(step, rule))),
+        Ok(script) => {
+            let history = Listed::make(play(alloc, script.steps.as_slice())?);
+            Ok(Ended {
+                status: Status::Done,
+                report: Some(Report { history }),
+            })
+        }
+    }
+}
+
+/// What the words and the source come to.
+fn work<S: Source>(alloc: Global, words: &[Label], source: &mut S) -> Result<Ended, NoMemory>
+    ensures ends { IfOk result (λ ended. EndsAs (given S.left S.faults words.now source.old source.new) ended.status ended.report) }
+    ensures legal { IfOk result (λ ended. IfSome ended.report (λ report. Legal (newest_first report.history))) }
+{
+    if !is_run(words) {
+        return Ok(without_report(Status::Usage));
+    }
+    match read_all(alloc, source) {
+        Ok(bytes) => run_script(alloc, &bytes),
+        Err(ReadEnd::NoMemory) => Err(NoMemory),
+        Err(ReadEnd::Failed) => Ok(without_report(Status::ReadFault)),
+        Err(ReadEnd::TooLong) => Ok(without_report(Status::TooLong)),
+    }
+}
+
+fn rule_text(rule: Rule) -> &'static str
+    ensures { result.now ≡ rule_text rule }
+{
+    match rule {
+        Rule::NotJson => "1 NotJson",
+        Rule::Shape => "2 Shape",
+        Rule::Name => "3 Name",
+        Rule::Limit => "4 Limit",
+        Rule::NotBuilt => "5 NotBuilt",
+        Rule::NotInRace => "6 NotInRace",
+    }
+}
+
+/// The text that an end owes.
+fn owed(alloc: Global, ended: &Ended) -> Result<String, AllocError>
+    requires { IfSome ended.now.report (λ report. Legal (newest_first report.history)) }
+    ensures { IfOk result (λ text. string_bytes text ≡ owed ended.now.status ended.now.report) }
+{
+    match ended.status {
+        Status::Done => match &ended.report {
+            Some(report) => text_of(alloc, report.history.as_slice()),
+            None => text_of(alloc, &[]),
+        },
+        Status::Usage => String::from_str(alloc, "usage\n"),
+        Status::Script(step, rule) => {
+            let rule = rule_text(rule);
+            format!(in alloc; "script {step} {rule}\n")
+        }
+        Status::ReadFault => String::from_str(alloc, "read fault\n"),
+        Status::TooLong => String::from_str(alloc, "too long\n"),
+        Status::NoMemory | Status::WriteFault => Ok(String::new(alloc)),
+    }
+}
+
+/// Does all that the program does: reads the script, replays it and puts the text of the history.
+#[tactic(auto, using(channel_calls::proofs::Conservation::conserved, crate::proofs::Completes::completes))]
+pub fn run_words<S: Source, K: Sink>(
+    alloc: Global,
+    words: &[Label],
+    source: &mut S,
+    sink: &mut K,
+) -> Ended
+    // Every status but want of memory and a fault of the sink has its cause, and its text was put whole.
+    ensures ended { result.status ≢ Status.NoMemory → result.status ≢ Status.WriteFault
+        → EndsAs (given S.left S.faults words.now source.old source.new) result.status result.report
+        × Appends (K.held sink.old) (K.held sink.new) (owed result.status result.report) }
+
+    // At a fault of the sink a part was put of what another end owes, and the report is that end's.
+    ensures write_fault { result.status ≡ Status.WriteFault → Rose (K.faults sink.old) (K.faults sink.new)
+        × ((other : Status) × EndsAs (given S.left S.faults words.now source.old source.new) other result.report
+        × AppendsPart (K.held sink.old) (K.held sink.new) (owed other result.report)) }
+
+    // For want of memory nothing was put.
+    ensures no_memory { result.status ≡ Status.NoMemory → IsNone result.report
+        × Keeps (K.held sink.old) (K.held sink.new) }
+
+    // Each reply of the history is the sequential adjudicator's at its place.
+    ensures legal { IfSome result.report (λ report. Legal (newest_first report.history)) }
+
+    // Of each asset, what was deposited is what the channels hold.
+    ensures conserved { IfSome result.report (λ report. IsConserved (newest_first report.history)) }
+
+    // A sound script runs to its end, unless memory runs out.
+    ensures complete { IsSound (given S.left S.faults words.now source.old source.new)
+        → ¬ (Rose (K.faults sink.old) (K.faults sink.new))
+        → (result.status ≡ Status.Done) ⊎ (result.status ≡ Status.NoMemory) }
+{
+    let Ok(ended) = work(alloc, words, source) else {
+        return without_report(Status::NoMemory);
+    };
+    let Ok(text) = owed(alloc, &ended) else {
+        return without_report(Status::NoMemory);
+    };
+    match put_all(sink, text.as_bytes()) {
+        Ok(()) => ended,
+        Err(_) => Ended {
+            status: Status::WriteFault,
+            report: ended.report,
+        },
+    }
+}

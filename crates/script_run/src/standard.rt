@@ -1,0 +1,29 @@
+//! The edge to the system's writers, which is trusted.
+
+ghost use Rattle.std.specs.Prelude.{None};
+
+use crate::sink::{Gave, Sink};
+use std::io::Write;
+
+/// A writer of the system, with a count of its faults. It tells nothing of its bytes.
+#[derive(Drop)]
+pub struct StdSink<W: Write + Drop> {
+    pub writer: W,
+    pub faults: u64,
+}
+
+impl<W: Write + Drop> Sink for StdSink<W> {
+    ghost held = { λ s. None };
+
+    ghost faults = { λ s. s.faults };
+
+    fn put(&mut self, piece: &[u8]) -> Gave {
+        match self.writer.write(piece) {
+            Ok(count) if count > 0 || piece.is_empty() => Gave::Took(count),
+            _ => {
+                self.faults = self.faults.saturating_add(1);
+                Gave::Failed
+            }
+        }
+    }
+}
