@@ -1,0 +1,39 @@
+//! The program: `nitro_cli run` reads a script from standard input, plays it and prints the history.
+#![tactic(auto)]
+
+use nitro_bytes::{Label, NoMemory};
+use script_reader::StdSource;
+use script_run::{StdSink, run_words};
+use std::process::ExitCode;
+use std::rt::Env;
+use std::{env, io};
+
+/// The words after the program's name. Words that aren't text count as none.
+fn words<R: Env + AllocGlobal>(rt: &R) -> Result<Vec<Label>, NoMemory> {
+    let mut words = Vec::new(rt.alloc());
+    let args = match env::args(rt) {
+        Ok(args) => args,
+        Err(e) if e.kind() == io::ErrorKind::OutOfMemory => return Err(NoMemory),
+        Err(_) => return Ok(words),
+    };
+    for word in args.skip(1) {
+        words.push(Label::make(word))?;
+    }
+    Ok(words)
+}
+
+fn main(rt: HostRuntime) -> ExitCode {
+    let Ok(words) = words(&rt) else {
+        return ExitCode::from(1);
+    };
+    let mut source = StdSource {
+        reader: rt.stdin(),
+        faults: 0,
+    };
+    let mut sink = StdSink {
+        writer: rt.stdout(),
+        faults: 0,
+    };
+    let ended = run_words(rt.alloc(), &words, &mut source, &mut sink);
+    ExitCode::from(ended.status.code())
+}
