@@ -4,4 +4,3 @@
 mod adjudicator;
 
 pub use adjudicator::{Adjudicator, LAST_TIME};
-

@@ -7,6 +7,8 @@ mod replay;
 mod run;
 mod sink;
 mod standard;
+#[cfg(test)]
+mod tests;
 mod text;
 
 pub use memory::{CalmSink, ListSink};

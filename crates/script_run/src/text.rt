@@ -31,12 +31,7 @@ fn asset_line(alloc: Global, flows: &[Flow], asset: u32) -> Result<String, Alloc
 }
 
 #[tactic(auto, unfolding(crate::specs::Text::held_line))]
-fn held_line(
-    alloc: Global,
-    channel: &Name,
-    asset: u32,
-    held: u64,
-) -> Result<String, AllocError>
+fn held_line(alloc: Global, channel: &Name, asset: u32, held: u64) -> Result<String, AllocError>
     ensures { IfOk result (λ text. string_bytes text ≡ held_line channel.now asset held) }
 {
     if held == 0 {
@@ -63,12 +58,14 @@ fn add_flow(flows: &mut Vec<Flow>, entry: &Entry) -> Result<(), AllocError>
     ensures { OnOk result (flows.new.items ≡ flows.old.items ++ flow_of entry.now.op entry.now.reply) }
 {
     if let (
-        Op::Call(Call::Deposit {
-            channel,
-            asset,
-            amount,
-            ..
-        }),
+        Op::Call(
+            Call::Deposit {
+                channel,
+                asset,
+                amount,
+                ..
+            },
+        ),
         Reply::Held(_),
     ) = (&entry.op, &entry.reply)
     {
