@@ -1,0 +1,4 @@
+pub mod Digests
+pub mod Messages
+pub mod Collisions
+pub mod Laws

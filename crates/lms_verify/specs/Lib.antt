@@ -1,0 +1,7 @@
+pub mod Types
+pub mod Ots
+pub mod Tree
+pub mod Parts
+pub mod Verifies
+pub mod IsSigned
+pub mod Laws

@@ -1,0 +1,7 @@
+pub mod Trees
+pub mod Chains
+pub mod Climbs
+pub mod Reading
+pub mod Signatures
+pub mod Signers
+pub mod Runs

@@ -1,0 +1,6 @@
+pub mod Secret
+pub mod Made
+pub mod Signing
+pub mod IsSigner
+pub mod Calls
+pub mod Laws
