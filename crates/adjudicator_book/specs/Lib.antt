@@ -1,0 +1,5 @@
+pub mod History
+pub mod Caller
+pub mod Turns
+pub mod Turn
+pub mod Desk
