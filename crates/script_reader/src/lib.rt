@@ -14,6 +14,7 @@ mod step;
 #[cfg(test)]
 mod tests;
 
+pub use context::Context;
 pub use memory::{CalmSource, ListSource};
 pub use script::{STEP_LIMIT, Script, ScriptFault, read_script};
 pub use source::{READ_LIMIT, ReadEnd, Source, Took, read_all};

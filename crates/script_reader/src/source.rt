@@ -1,3 +1,5 @@
+//! Where the bytes of a script come from, and reading them to their end.
+
 ghost use Rattle.std.specs.Prelude.{◌≡◌, ◌≤◌, ◌<◌, ℕ, List, Option, length, IfOk, IsErrOf};
 ghost use Rattle.std.specs.Io.KnownBytes.{Consumes, IsAtEnd};
 ghost use Rattle.script_reader.specs.declared.source.ReadEnd.TheVariants.{NoMemory};
@@ -58,8 +60,13 @@ pub fn read_all<S: Source>(alloc: Global, source: &mut S) -> Result<Vec<u8>, Rea
     ensures failed_early { IsErrOf result ReadEnd.Failed → (taken : List ℕ)
         × Consumes (S.left source.old) (S.left source.new) taken × (length taken ≤ READ_LIMIT) }
 
+    // Else more was taken: of a source that doesn't tell its bytes, some list of that many.
     ensures too_long { IsErrOf result ReadEnd.TooLong → (taken : List ℕ)
         × Consumes (S.left source.old) (S.left source.new) taken × (READ_LIMIT < length taken) }
+
+    // For want of memory the source is somewhere behind its start.
+    ensures no_memory { IsErrOf result ReadEnd.NoMemory → (taken : List ℕ)
+        × Consumes (S.left source.old) (S.left source.new) taken }
 {
     let mut bytes = Vec::new(alloc);
     let mut buffer = [0u8; 4096];

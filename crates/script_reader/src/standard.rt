@@ -1,11 +1,10 @@
 //! The source that reads from the system.
 
-ghost use Rattle.std.specs.Prelude.{None};
-
 use crate::source::{Source, Took};
 use std::io::Read;
 
-/// A reader of the system, with a count of its faults. It tells nothing of its bytes.
+/// A reader of the system, with a count of its faults. It tells the bytes that its reader tells:
+/// standard input tells none.
 #[derive(Drop)]
 pub struct StdSource<R: Read + Drop> {
     pub reader: R,
@@ -13,7 +12,7 @@ pub struct StdSource<R: Read + Drop> {
 }
 
 impl<R: Read + Drop> Source for StdSource<R> {
-    ghost left = { λ s. None };
+    ghost left = { λ s. R.Read.remaining s.reader };
 
     ghost faults = { λ s. s.faults };
 

@@ -1,1 +1,5 @@
-use super::*;
+//! Tests of whole scripts and of sources.
+
+mod broken;
+mod scripts;
+mod sources;
