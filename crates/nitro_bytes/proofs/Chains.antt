@@ -1,5 +1,6 @@
 -- Signed states and chains: what is read is spelled so, and keeps the limits; and what is spelled is read.
 use Rattle.std.proofs.Common.{◌≡◌, ℕ, ◌<◌, ◌≤◌, List, [], ◌∷◌, ◌++◌, length, Result, Ok, refl, sym, ap, subst, ◌∙◌, append_assoc, arith, lit<, inl}
+use Rattle.std.specs.Prelude.{IfOk, Err}
 use Rattle.std.specs.List.{AllByRecursion, flat_map}
 use Rattle.nitro_bytes.specs.declared.fault.ByteFault.{ByteFault}
 use Rattle.nitro_bytes.specs.declared.chain.Signed.{Signed}
@@ -7,7 +8,7 @@ use Rattle.nitro_bytes.specs.declared.chain.Mark.{Mark}
 use Rattle.nitro_bytes.specs.declared.chain.Chain.{Chain}
 use Rattle.nitro_bytes.specs.Outcomes.{AreBytes}
 use Rattle.nitro_bytes.specs.Parts.{StateParts, IsState}
-use Rattle.nitro_bytes.specs.Chains.{IsSigned, IsMark, IsChain}
+use Rattle.nitro_bytes.specs.Chains.{IsSigned, IsMark, IsChain, KeepsMark, KeepsLimits}
 use Rattle.nitro_bytes.specs.Spelling.{count, sized, fixed, state, signed, mark, chain}
 use Rattle.nitro_bytes.specs.Reading.{◌>>=◌, byte_at, count_at, sized_at, many_at, fixed_at, state_at, next_state_at, mark_at, states_at, marks_at, signed_at, chain_at}
 use Rattle.nitro_bytes.proofs.Apart.{Each-push, Each-front}
@@ -133,3 +134,16 @@ chain_valid_again whole c rest valid =
     (bind_again _ _ (c.fixed, after_fixed) _ (fixed_valid_again whole c.fixed after_fixed valid.fixed)
     (bind_again _ _ (c.states, after_states) _ (states_again whole c.states after_states valid.few_states valid.states)
     (bind_again _ _ (c.marks, rest) _ (marks_again whole c.marks rest valid.few_marks valid.marks) refl)))
+
+-- ---- what the types leave open
+
+marks_kept : (ms : List Mark) → AllByRecursion IsMark ms → AllByRecursion KeepsMark ms
+marks_kept [] h = tt
+marks_kept (m ∷ ms) h = (h.0.1.0, marks_kept ms h.1)
+
+pub limits_kept : (c : Chain) → IsChain c → KeepsLimits c
+limits_kept c h = record { states = h.few_states; marks = h.few_marks; signatures = marks_kept c.marks h.marks }
+
+pub is_kept : (bytes : List ℕ) (r : Result Chain ByteFault) → IfOk r (λ c. IsChain c × (bytes ≡ chain c)) → IfOk r KeepsLimits
+is_kept bytes (Ok c) found = limits_kept c found.0
+is_kept bytes (Err e) found = tt

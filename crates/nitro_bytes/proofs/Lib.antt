@@ -1,3 +1,4 @@
+pub mod Texts
 pub mod Loop
 pub mod Fields
 pub mod Apart

@@ -256,6 +256,8 @@ fn chain_from(alloc: Global, bytes: &[u8]) -> Result<Chain, ByteFault>
 pub fn read_chain(alloc: Global, bytes: &[u8]) -> Result<Chain, ByteFault>
     // What is read keeps the limits, and the input is its spelling.
     ensures found { IfOk result (λ c. IsChain c × (bytes.now ≡ chain c)) }
+    // So it may be written.
+    ensures keeps { IfOk result KeepsLimits }
     // A spelling is read, unless memory runs out.
     ensures only { (c : ChainParts) → IsChain c → bytes.now ≡ chain c → Gives (λ x. x) result (Ok c) }
     // Which fault it is.

@@ -22,10 +22,15 @@ pub use cursor::{
 };
 pub use fault::{ByteFault, NoMemory, StepFault, SupportFault};
 pub use fixed::{Fixed, read_fixed, take_fixed, write_fixed};
-pub use laws::outcomes_differ_in_bytes;
+pub use laws::{
+    laws_of_chains, laws_of_fixed_parts, laws_of_outcomes, laws_of_signed_states, laws_of_states,
+};
 pub use listed::{Label, Listed};
 pub use outcome::{
     Outcome, is_outcome, item_in, outcome_is, read_outcome, take_outcome, write_outcome,
 };
 pub use state::{State, read_state, take_state, write_state};
 pub use value::{AssetOutcome, Dest, Item, Key, Name, Shape};
+
+#[cfg(test)]
+mod tests;
