@@ -1,10 +1,36 @@
-//! The values of a channel network, which every layer above speaks of.
+//! The values of a channel network, and their canonical bytes.
 #![tactic(auto)]
 
+mod chain;
+mod cursor;
 mod fault;
+mod fixed;
+mod flat;
+mod laws;
 mod listed;
+mod outcome;
+mod state;
 mod value;
+mod writing;
 
-pub use fault::NoMemory;
+pub use chain::{
+    Chain, Mark, Signed, read_chain, read_signed, take_chain, take_signature, take_signed,
+    write_chain, write_signed,
+};
+pub use cursor::{
+    place_of, take_byte, take_count, take_name, take_sized, take_u16, take_u32, take_u64,
+};
+pub use fault::{ByteFault, NoMemory, StepFault, SupportFault};
+pub use fixed::{Fixed, read_fixed, take_fixed, write_fixed};
+pub use laws::{
+    laws_of_chains, laws_of_fixed_parts, laws_of_outcomes, laws_of_signed_states, laws_of_states,
+};
 pub use listed::{Label, Listed};
-pub use value::{Dest, Key, Name};
+pub use outcome::{
+    Outcome, is_outcome, item_in, outcome_is, read_outcome, take_outcome, write_outcome,
+};
+pub use state::{State, read_state, take_state, write_state};
+pub use value::{AssetOutcome, Dest, Item, Key, Name, Shape};
+
+#[cfg(test)]
+mod tests;

@@ -1,0 +1,11 @@
+pub mod Texts
+pub mod Loop
+pub mod Fields
+pub mod Apart
+pub mod Takes
+pub mod Again
+pub mod States
+pub mod Fixeds
+pub mod Chains
+pub mod Format
+pub mod Formats

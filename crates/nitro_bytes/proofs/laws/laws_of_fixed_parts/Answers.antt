@@ -1,0 +1,12 @@
+use Rattle.nitro_bytes.proofs.Format.{spelled_once, all_takes, valid_again}
+use Rattle.nitro_bytes.proofs.Formats.{fixed_format}
+use Rattle.nitro_bytes.proofs.laws.laws_of_fixed_parts.Goals as goal
+
+pub returns-clause-once : goal.returns-clause-once
+returns-clause-once c = spelled_once fixed_format
+
+pub returns-clause-back : goal.returns-clause-back
+returns-clause-back c bytes v fits read = (all_takes fixed_format bytes v fits read).1
+
+pub returns-clause-again : goal.returns-clause-again
+returns-clause-again c = valid_again fixed_format

@@ -1,0 +1,12 @@
+use Rattle.nitro_bytes.proofs.Format.{spelled_once, all_takes, valid_again}
+use Rattle.nitro_bytes.proofs.Formats.{signed_format}
+use Rattle.nitro_bytes.proofs.laws.laws_of_signed_states.Goals as goal
+
+pub returns-clause-once : goal.returns-clause-once
+returns-clause-once c = spelled_once signed_format
+
+pub returns-clause-back : goal.returns-clause-back
+returns-clause-back c bytes v fits read = (all_takes signed_format bytes v fits read).1
+
+pub returns-clause-again : goal.returns-clause-again
+returns-clause-again c = valid_again signed_format

@@ -1,0 +1,20 @@
+-- What a state and a fixed part keep: their parts, and the bytes that spell them.
+use Rattle.std.specs.Prelude.{◌≡◌}
+use Rattle.nitro_bytes.specs.declared.state.State.TheInside as states
+use Rattle.nitro_bytes.specs.declared.fixed.Fixed.TheInside as fixeds
+use Rattle.nitro_bytes.specs.Parts.{FixedParts, StateParts, IsFixed, IsState, fixed_with, state_with}
+use Rattle.nitro_bytes.specs.Spelling.{fixed, state}
+
+abbrev pub state_parts : states.Inside → StateParts
+state_parts s = state_with s.turn s.is_final s.outcome s.app_bytes.items
+
+-- the parts are those of a state, and the bytes are its spelling
+abbrev pub KeepsState : states.Inside → Type 0
+KeepsState s = IsState (state_parts s) × (s.bytes.items ≡ state (state_parts s))
+
+abbrev pub fixed_parts : fixeds.Inside → FixedParts
+fixed_parts f = fixed_with f.keys.items f.nonce f.app f.duration
+
+-- the parts are those of a fixed part, and the bytes are its spelling
+abbrev pub KeepsFixed : fixeds.Inside → Type 0
+KeepsFixed f = IsFixed (fixed_parts f) × (f.bytes.items ≡ fixed (fixed_parts f))

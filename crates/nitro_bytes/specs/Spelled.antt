@@ -1,0 +1,17 @@
+-- What holds of a format as a whole: read gives the value that bytes spell, spell its bytes, and Is says which values there are.
+use Rattle.std.specs.Prelude.{◌≡◌, ℕ, ◌<◌, List, length, take, Result, Ok, Err}
+use Rattle.nitro_bytes.specs.declared.fault.ByteFault.{ByteFault}
+use Rattle.nitro_bytes.specs.declared.fault.ByteFault.TheVariants as faults
+use Rattle.nitro_bytes.specs.Outcomes.{AreBytes}
+
+-- two values never share a spelling
+abbrev pub SpelledOnce : {A : Type 0} → (A → List ℕ) → (A → Type 0) → Type 0
+SpelledOnce {A} spell Is = (a b : A) → Is a → Is b → spell a ≡ spell b → a ≡ b
+
+-- what is read is written back to the same bytes
+abbrev pub WrittenBack : {A : Type 0} → (List ℕ → Result A ByteFault) → (A → List ℕ) → Type 0
+WrittenBack {A} read spell = (bytes : List ℕ) (v : A) → AreBytes bytes → read bytes ≡ Ok v → bytes ≡ spell v
+
+-- what is written is read as the same value
+abbrev pub ReadAgain : {A : Type 0} → (List ℕ → Result A ByteFault) → (A → List ℕ) → (A → Type 0) → Type 0
+ReadAgain {A} read spell Is = (v : A) → Is v → read (spell v) ≡ Ok v
