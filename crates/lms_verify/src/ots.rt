@@ -1,14 +1,15 @@
 //! LM-OTS (RFC 8554, section 4): the hash of a message, the digits that are signed, and the chains.
 
-ghost use Rattle.std.specs.Prelude.{List, ◌≡◌, ◌≤◌, ◌<◌, ℕ, ◌+◌, ◌-◌, ◌*◌, ◌/◌, ◌^◌, length};
+ghost use Rattle.std.specs.Prelude.{List, ◌≡◌, ◌≤◌, ◌<◌, ℕ, ◌+◌, ◌-◌, ◌*◌, ◌/◌, length};
 ghost use Rattle.sha2.specs.Hashers.{Holds256};
 ghost use Rattle.lms_verify.specs.Types.{width, chain_count};
-ghost use Rattle.lms_verify.specs.Ots.{opening, coef, coef_gap, checksum, message_hash, with_checksum, digit, chain_step, chain, string_at, ots_candidate, ends_hash, chain_end};
+ghost use Rattle.lms_verify.specs.Ots.{opening, coef, coef_gap, checksum, message_hash, with_checksum, chain_step, chain, string_at, ends_hash, chain_end};
 
 use crate::types::OtsType;
 use sha2::{Digest, Sha256};
 
-const D_PBLC: u16 = 0x8080;
+/// The tag of the hash that ends in a one-time public key.
+pub const D_PBLC: u16 = 0x8080;
 
 const D_MESG: u16 = 0x8181;
 

@@ -1,7 +1,7 @@
 //! The parts of a public key and of a signature, as bytes lay them out (RFC 8554, sections 5.3 and 5.4).
 
-ghost use Rattle.std.specs.Prelude.{◌≡◌, ◌≤◌, ◌<◌, ◌+◌, ◌*◌, ◌^◌, length, IfOk};
-ghost use Rattle.lms_verify.specs.Types.{ots_code, lms_code, chain_count, height};
+ghost use Rattle.std.specs.Prelude.{◌≡◌, ◌≤◌, ◌<◌, ◌+◌, ◌*◌, length, IfOk};
+ghost use Rattle.lms_verify.specs.Types.{ots_code, lms_code};
 ghost use Rattle.lms_verify.specs.Parts.{KeyParts, SignatureParts, IsUnder, number_at, key_of, signature_of};
 
 use crate::types::{LmsFault, LmsType, OtsType};

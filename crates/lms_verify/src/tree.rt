@@ -1,6 +1,6 @@
 //! The tree of LMS (RFC 8554, section 5).
 
-ghost use Rattle.std.specs.Prelude.{◌≡◌, ◌≤◌, ◌<◌, ◌+◌, ◌*◌, ◌^◌, length};
+ghost use Rattle.std.specs.Prelude.{◌≡◌, ◌≤◌, ◌<◌, ◌+◌, ◌*◌, length};
 ghost use Rattle.lms_verify.specs.Parts.{IsUnder};
 ghost use Rattle.lms_verify.specs.Tree.{leaf, interior, parent, climb};
 ghost use Rattle.lms_verify.specs.Verifies.{root_candidate};

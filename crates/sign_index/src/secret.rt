@@ -1,21 +1,16 @@
 //! What a seed makes.
 
-ghost use Rattle.std.specs.Prelude.{List, ◌≡◌, ◌≤◌, ◌<◌, ◌^◌, ◌-◌, ◌+◌, ◌*◌, [], ◌++◌, length, IfOk, OnErr};
+ghost use Rattle.std.specs.Prelude.{◌≡◌, ◌≤◌, ◌<◌, ◌^◌, ◌-◌, ◌+◌, ◌++◌, IfOk};
 ghost use Rattle.lms_verify.specs.declared.types.OtsType.TheVariants.{W4};
-ghost use Rattle.lms_verify.specs.Types.{chain_count};
-ghost use Rattle.lms_verify.specs.Ots.{with_checksum, digit};
-ghost use Rattle.lms_verify.specs.Tree.{leaf};
+ghost use Rattle.lms_verify.specs.Ots.{with_checksum};
 ghost use Rattle.sign_index.specs.Secret.{Secret, private_element, randomizer, along, ots_public, leaf_count};
 ghost use Rattle.sign_index.specs.Made.{signed_chains};
-ghost use Rattle.sign_index.specs.IsSigner.{IsTree};
 
-use lms_verify::ots::{chain, coef, opening, with_checksum};
+use lms_verify::ots::{D_PBLC, chain, coef, opening, with_checksum};
 use lms_verify::types::{LmsType, OtsType};
 use sha2::{Digest, Sha256};
 use std::alloc::{AllocError, Global};
 use std::marker::Model;
-
-const D_PBLC: u16 = 0x8080;
 
 /// What the keys of a tree are made of, for LM-OTS type 3.
 #[derive(Drop)]

@@ -1,7 +1,7 @@
 //! The signature of a message at an index, from the tree.
 
-ghost use Rattle.std.specs.Prelude.{List, ℕ, ◌≡◌, ◌≤◌, ◌<◌, ◌^◌, ◌-◌, ◌+◌, ◌*◌, ◌++◌, length, IfOk};
-ghost use Rattle.sign_index.specs.Secret.{Secret, leaf_count};
+ghost use Rattle.std.specs.Prelude.{◌≡◌, ◌<◌, ◌^◌, ◌-◌, ◌+◌, ◌*◌, ◌++◌, IfOk};
+ghost use Rattle.sign_index.specs.Secret.{leaf_count};
 ghost use Rattle.sign_index.specs.Made.{sibling, path_of, made, signature_bytes};
 ghost use Rattle.sign_index.specs.IsSigner.{IsTree};
 

@@ -1,9 +1,9 @@
 //! The tree over the one-time keys of a seed.
 
-ghost use Rattle.std.specs.Prelude.{List, ℕ, ◌≡◌, ◌≤◌, ◌<◌, ◌^◌, ◌-◌, ◌+◌, ◌*◌, [], length, IfOk};
+ghost use Rattle.std.specs.Prelude.{ℕ, ◌≡◌, ◌≤◌, ◌<◌, ◌-◌, ◌+◌, ◌*◌, [], length, IfOk};
 ghost use Rattle.std.specs.List.{slice_index_or};
 ghost use Rattle.lms_verify.specs.Tree.{leaf, interior};
-ghost use Rattle.sign_index.specs.Secret.{Secret, ots_public, leaf_count};
+ghost use Rattle.sign_index.specs.Secret.{ots_public, leaf_count};
 ghost use Rattle.sign_index.specs.IsSigner.{IsTree};
 
 use crate::secret::Seed;
