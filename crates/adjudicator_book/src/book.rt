@@ -1,5 +1,5 @@
 //! The book that threads share.
-ghost use Rattle.std.specs.Prelude.{◌≡◌, ℕ, ◌+◌, ◌%◌, ◌<◌, ◌≤◌, [], ◌∷◌, length, drop, IfOk, IfErr, OnErr, IsOk, ◌↔◌};
+ghost use Rattle.std.specs.Prelude.{◌≡◌, ℕ, ◌%◌, ◌<◌, ◌≤◌, [], ◌∷◌, length, drop, IfOk, IfErr, OnErr, IsOk, ◌↔◌};
 ghost use Rattle.adjudicator_book.specs.Caller.{IsSound, IsLater, Enters, HasEntry, Looks, Ends, opening, halved, fresh_half, joined, whole, most_entries};
 ghost use Rattle.adjudicator_book.specs.History.{StartsWith};
 

@@ -1,5 +1,5 @@
 //! An object beside its history, and one call on it.
-ghost use Rattle.std.specs.Prelude.{◌≡◌, ℕ, ◌+◌, ◌≤◌, OnErr, IfOk, length};
+ghost use Rattle.std.specs.Prelude.{◌≡◌, ℕ, ◌≤◌, OnErr, IfOk, length};
 ghost use Rattle.adjudicator_book.specs.Caller.{most_entries};
 ghost use Rattle.adjudicator_book.specs.Desk.{Adds};
 

@@ -1,5 +1,4 @@
 //! The rule of the table under a book, and what each step tells. These types are for the proofs alone.
-ghost use Rattle.std.specs.Prelude.{◌≡◌};
 
 use crate::desk::Desk;
 use crate::one_thread::OneThread;

@@ -1,5 +1,5 @@
 //! One turn at the slot, in ticket order.
-ghost use Rattle.std.specs.Prelude.{◌≡◌, true, false, ◌+◌, ◌^◌, ◌<◌, ◌≤◌, ◌++◌, [], ◌∷◌, length};
+ghost use Rattle.std.specs.Prelude.{◌≡◌, true, false, ◌<◌, ◌≤◌, ◌++◌, [], ◌∷◌, length};
 ghost use Rattle.adjudicator_book.specs.Turn.{HasTurn, Waits};
 ghost use Rattle.adjudicator_book.specs.Caller.{most_entries};
 ghost use Rattle.adjudicator_book.specs.Desk.{IsMore};

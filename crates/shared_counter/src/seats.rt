@@ -1,6 +1,5 @@
 //! One seat, dealt to many callers and gathered again.
 ghost use Rattle.std.specs.Prelude.{◌≡◌, ℕ, ◌+◌, ◌<◌, IfOk, OnOk, vec_len, slice_index_or};
-ghost use Rattle.adjudicator_book.specs.Caller.{IsSound};
 ghost use Rattle.adjudicator_book.specs.History.{StartsWith};
 ghost use Rattle.shared_counter.specs.Seats.{AreOf, Deals, parts};
 
