@@ -1,4 +1,4 @@
--- The forms of steps: their words, and their keys in order with the kinds of their values.
+-- The forms of steps: their words, and their keys in order with the kinds of their values. `do` is one of the keys that are counted.
 use Rattle.std.specs.Prelude.{ℕ, List, [], ◌∷◌, Bool, Result, Ok, Err, codes, if◌then◌else◌}
 use Rattle.std.specs.List.{list_any}
 use Rattle.std.specs.Str.{bytes_eq}

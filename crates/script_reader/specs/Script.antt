@@ -1,9 +1,8 @@
 -- The steps that a script's bytes are, or their first fault.
-use Rattle.std.specs.Prelude.{◌≡◌, ◌⊎◌, ◌+◌, ◌++◌, ◌∷◌, [], ℕ, suc, List, length, Bool, nat_le, IsUtf8, Some, None, Result, Ok, Err, codes, ⊤}
+use Rattle.std.specs.Prelude.{◌≡◌, ◌⊎◌, ◌+◌, ◌++◌, ◌∷◌, [], ℕ, List, length, Bool, IsUtf8, Some, None, Result, Ok, Err, ⊤}
 use Rattle.serde_json.specs.Data.{Data, Items, no_items, item}
 use Rattle.serde_json.specs.Read.{read}
-use Rattle.script_reader.specs.Rules as rule
-use Rattle.script_reader.specs.Kinds.{keys, array_at}
+use Rattle.script_reader.specs.Listed.{listed}
 use Rattle.script_reader.specs.Conditions.{after}
 use Rattle.script_reader.specs.Reading.{checked, step_of}
 use Rattle.script_reader.specs.declared.context.Context.{Context}
@@ -38,21 +37,6 @@ start race = record { race = race }
 abbrev pub steps_from : Context → List Step → Items → Result (List Step) ScriptFault
 steps_from c seen no_items = Ok seen
 steps_from c seen (item d ds) = at_step (length seen + 1) (step_of c d) >>= λ s. steps_from (after c s) (seen ++ s ∷ []) ds
-
-abbrev pub item_count : Items → ℕ
-item_count no_items = 0
-item_count (item d ds) = suc (item_count ds)
-
-abbrev pub few_items : Items → Bool
-few_items items = nat_le (item_count items) 4096
-
--- an object with the one key `steps`, and at most 4,096 of them
-abbrev pub listed : Data → Result Items Rule
-listed d =
-    rule.◌>>=◌ (keys 1 d) λ no_more.
-    rule.◌>>=◌ (array_at (codes "steps") d) λ items.
-    rule.◌>>=◌ (rule.holds rules.Limit (few_items items)) λ few.
-    Ok items
 
 -- the steps of a JSON value, or its first fault
 abbrev pub script_of : Bool → Data → Result (List Step) ScriptFault

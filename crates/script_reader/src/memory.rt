@@ -1,6 +1,6 @@
 //! Sources in memory, for tests and for programs that have their bytes.
 
-ghost use Rattle.std.specs.Prelude.{◌≡◌, ◌↔◌, ◌≤◌, ◌<◌, [], ◌++◌, Contains, Some, length, take};
+ghost use Rattle.std.specs.Prelude.{◌≡◌, ◌↔◌, ◌≤◌, ◌<◌, ◌+◌, ◌-◌, ◌^◌, [], ◌++◌, Contains, Some, length, min, take};
 ghost use Rattle.script_reader.specs.Outside.{Rose, TakeGives};
 
 use crate::source::{Source, Took};
@@ -57,6 +57,8 @@ impl Source for ListSource<'_> {
         ensures later { self.old.faults ≤ self.new.faults }
         ensures failed { result ≡ Took.Failed → Rose self.old.faults self.new.faults }
         ensures listed { (result ≡ Took.Failed) ↔ Contains self.old.failing.now self.old.calls }
+        ensures counted { self.new.calls ≡ min (self.old.calls + 1) (2 ^ 64 - 1) }
+        ensures kept { self.new.failing.now ≡ self.old.failing.now }
     {
         let call = self.calls;
         self.calls = self.calls.saturating_add(1);

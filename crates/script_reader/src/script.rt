@@ -3,8 +3,9 @@
 ghost use Rattle.std.specs.Prelude.{◌≡◌, ◌≤◌, [], length, nat_le, IfOk};
 ghost use Rattle.serde_json.specs.View.{view, items_view};
 ghost use Rattle.script_reader.specs.Rules.{Gives};
+ghost use Rattle.script_reader.specs.Listed.{few_items, listed};
 ghost use Rattle.script_reader.specs.Reading.{step_of};
-ghost use Rattle.script_reader.specs.Script.{Ends, fault_at, at_step, start, steps_from, few_items, listed, script_of, IsReading, AreChecked};
+ghost use Rattle.script_reader.specs.Script.{Ends, fault_at, at_step, start, steps_from, script_of, IsReading, AreChecked};
 ghost use Rattle.script_reader.specs.declared.script.ScriptFault.TheVariants.{NoMemory as NoMemoryLeft};
 
 use crate::context::Context;

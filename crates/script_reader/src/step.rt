@@ -3,7 +3,7 @@
 ghost use Rattle.std.specs.Prelude.{◌≡◌};
 ghost use Rattle.script_reader.specs.declared.step.StepFault.TheVariants.{NoMemory as NoMemoryLeft};
 
-use nitro_bytes::{Label, NoMemory};
+use nitro_bytes::Label;
 use std::alloc::AllocError;
 
 /// The rules of a script, in the order of their numbers in the text.
@@ -43,14 +43,6 @@ impl From<AllocError> for StepFault {
     ghost from_gives = { λ _ e. e ≡ NoMemoryLeft };
 
     fn from(_: AllocError) -> StepFault {
-        StepFault::NoMemory
-    }
-}
-
-impl From<NoMemory> for StepFault {
-    ghost from_gives = { λ _ e. e ≡ NoMemoryLeft };
-
-    fn from(_: NoMemory) -> StepFault {
         StepFault::NoMemory
     }
 }
