@@ -1,5 +1,5 @@
 -- What holds of a format as a whole: read gives the value that bytes spell, spell its bytes, and Is says which values there are.
-use Rattle.std.specs.Prelude.{◌≡◌, ℕ, ◌<◌, List, ◌∷◌, ◌++◌, length, take, Result, Ok, Err, Bool, false, is_ok}
+use Rattle.std.specs.Prelude.{◌≡◌, ℕ, ◌<◌, List, ◌∷◌, ◌++◌, length, take, Result, Ok, Err, false, is_ok}
 use Rattle.nitro_bytes.specs.declared.fault.ByteFault.{ByteFault}
 use Rattle.nitro_bytes.specs.declared.fault.ByteFault.TheVariants as faults
 use Rattle.nitro_bytes.specs.Outcomes.{AreBytes}
