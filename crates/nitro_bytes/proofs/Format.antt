@@ -1,12 +1,13 @@
 -- Formats: what is read is valid and spelled so, and what is valid is read from its spelling.
-use Rattle.std.proofs.Common.{◌≡◌, ℕ, Bool, true, eqb, List, [], ◌++◌, length, Result, Ok, Err, refl, sym, ap, subst, ◌∙◌, inl, inr}
+use Rattle.std.proofs.Common.{◌≡◌, ℕ, ◌-◌, ◌<◌, take, drop, false, ◌∷◌, arith, Bool, true, eqb, List, [], ◌++◌, length, Result, Ok, Err, refl, sym, ap, subst, ◌∙◌, inl, inr}
 use Rattle.std.specs.Prelude.{IfOk, IsTrue, is_ok}
-use Rattle.std.proofs.lemmas.Bool.{eqb-true}
-use Rattle.std.proofs.lemmas.List.{append-nil, nil_from_length}
+use Rattle.std.proofs.lemmas.Bool.{eqb-true, ne_eqb}
+use Rattle.std.proofs.lemmas.List.{append-nil, nil_from_length, take-append-drop, length-drop, length-append}
 use Rattle.nitro_bytes.specs.declared.fault.ByteFault.{ByteFault}
+use Rattle.nitro_bytes.specs.declared.fault.ByteFault.TheVariants as faults
 use Rattle.nitro_bytes.specs.Outcomes.{AreBytes}
 use Rattle.nitro_bytes.specs.Reading.{Gives, all_of}
-use Rattle.nitro_bytes.proofs.Fields.{bind_ok, guard_ended, Takes}
+use Rattle.nitro_bytes.proofs.Fields.{bind_ok, guard_ended, Takes, AreBytes-take}
 use Rattle.nitro_bytes.proofs.Again.{Again}
 
 pub record IsFormat {A : Type 0} (at : ℕ → List ℕ → Result (A × List ℕ) ByteFault) (spell : A → List ℕ) (Valid : A → Type 0) : Type 0 where
@@ -94,3 +95,32 @@ read_fails {A} {at} format bytes f v read valid e =
   where
     result : Result A ByteFault → Result A ByteFault
     result r = r
+
+-- no front of what is read is read
+front_fails : {A : Type 0} {at : ℕ → List ℕ → Result (A × List ℕ) ByteFault} {spell : A → List ℕ} {Valid : A → Type 0} → IsFormat at spell Valid → (bytes : List ℕ) (v : A) (n : ℕ) (r : Result A ByteFault) → AreBytes bytes → all_of at bytes ≡ Ok v → n < length bytes → all_of at (take n bytes) ≡ r → is_ok r ≡ false
+front_fails {A} {at} {spell} {Valid} format bytes v n (Ok x) fits read lt front =
+    let whole = all_takes format bytes v fits read in
+    let part = all_takes format (take n bytes) x (AreBytes-take n bytes fits) front in
+    let split : bytes ≡ spell x ++ drop n bytes = sym (take-append-drop n bytes) ∙ ap (λ (w : List ℕ). w ++ drop n bytes) part.1 in
+    let once : at 0 bytes ≡ Ok (x, drop n bytes) = ap (at 0) split ∙ format.again 0 x (drop n bytes) part.0 in
+    let twice : at 0 bytes ≡ Ok (v, []) = ap (at 0) (whole.1 ∙ sym (append-nil (spell v))) ∙ format.again 0 v [] whole.0 in
+    let same : rest_of (Ok (x, drop n bytes)) ≡ rest_of (Ok (v, [])) = ap rest_of (sym once ∙ twice) in
+    absurd (omega (arith, lt, ap length same, length-drop n bytes))
+  where
+    rest_of : Result (A × List ℕ) ByteFault → List ℕ
+    rest_of (Ok y) = y.1
+    rest_of (Err e) = []
+front_fails format bytes v n (Err e) fits read lt front = refl
+
+pub fronts_fail : {A : Type 0} {at : ℕ → List ℕ → Result (A × List ℕ) ByteFault} {spell : A → List ℕ} {Valid : A → Type 0} → IsFormat at spell Valid → (bytes : List ℕ) (v : A) (n : ℕ) → AreBytes bytes → all_of at bytes ≡ Ok v → n < length bytes → is_ok (all_of at (take n bytes)) ≡ false
+fronts_fail {A} {at} format bytes v n fits read lt = front_fails format bytes v n (all_of at (take n bytes)) fits read lt refl
+
+-- what stands behind a spelling is the fault
+pub trailing_fails : {A : Type 0} {at : ℕ → List ℕ → Result (A × List ℕ) ByteFault} {spell : A → List ℕ} {Valid : A → Type 0} → IsFormat at spell Valid → (v : A) (b : ℕ) (more : List ℕ) → Valid v → all_of at (spell v ++ b ∷ more) ≡ Err (faults.Trailing (length (spell v)))
+unfolding all_of
+trailing_fails {A} {at} {spell} format v b more valid =
+    let text : List ℕ = spell v ++ b ∷ more in
+    let read : at (length text) text ≡ Ok (v, b ∷ more) = format.again (length text) v (b ∷ more) valid in
+    let some : eqb (length (b ∷ more)) 0 ≡ false = ne_eqb (length (b ∷ more)) 0 (λ none. absurd (omega (arith, none))) in
+    let place : length text - length (b ∷ more) ≡ length (spell v) = omega (arith, length-append (spell v) (b ∷ more)) in
+    rw (read, some, place) refl

@@ -1,5 +1,5 @@
 -- What holds of a format as a whole: read gives the value that bytes spell, spell its bytes, and Is says which values there are.
-use Rattle.std.specs.Prelude.{◌≡◌, ℕ, ◌<◌, List, length, take, Result, Ok, Err}
+use Rattle.std.specs.Prelude.{◌≡◌, ℕ, ◌<◌, List, ◌∷◌, ◌++◌, length, take, Result, Ok, Err, false, is_ok}
 use Rattle.nitro_bytes.specs.declared.fault.ByteFault.{ByteFault}
 use Rattle.nitro_bytes.specs.declared.fault.ByteFault.TheVariants as faults
 use Rattle.nitro_bytes.specs.Outcomes.{AreBytes}
@@ -15,3 +15,11 @@ WrittenBack {A} read spell = (bytes : List ℕ) (v : A) → AreBytes bytes → r
 -- what is written is read as the same value
 abbrev pub ReadAgain : {A : Type 0} → (List ℕ → Result A ByteFault) → (A → List ℕ) → (A → Type 0) → Type 0
 ReadAgain {A} read spell Is = (v : A) → Is v → read (spell v) ≡ Ok v
+
+-- no proper front of what is read is read
+abbrev pub FrontsFail : {A : Type 0} → (List ℕ → Result A ByteFault) → Type 0
+FrontsFail {A} read = (bytes : List ℕ) (v : A) (n : ℕ) → AreBytes bytes → read bytes ≡ Ok v → n < length bytes → is_ok (read (take n bytes)) ≡ false
+
+-- what stands behind a spelling is the fault, at its place
+abbrev pub TrailingFails : {A : Type 0} → (List ℕ → Result A ByteFault) → (A → List ℕ) → (A → Type 0) → Type 0
+TrailingFails {A} read spell Is = (v : A) (b : ℕ) (more : List ℕ) → Is v → read (spell v ++ b ∷ more) ≡ Err (faults.Trailing (length (spell v)))

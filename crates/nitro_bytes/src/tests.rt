@@ -61,14 +61,12 @@ fn pair(alloc: Global, n: u8, second: u8, app: u8, duration: u8) -> Result<Vec<u
     )
 }
 
-/// The state of turn 5 that pays 5 of asset 7 to a person and 3 to a channel, and asset 9 as a guarantee, with two
-/// bytes of data: 173 bytes.
-fn paying_state(alloc: Global) -> Result<Vec<u8>, Fail> {
+/// An outcome that pays 5 of asset 7 to a person and 3 to a channel, and asset 9 as a guarantee: 160 bytes.
+fn paying_outcome(alloc: Global) -> Result<Vec<u8>, Fail> {
     joined(
         alloc,
         &[
-            &[0, 0, 0, 0, 0, 0, 0, 5, 1, 2],
-            &[0, 0, 0, 7, 1, 2, 1],
+            &[2, 0, 0, 0, 7, 1, 2, 1],
             &[21; 32],
             &[0, 0, 0, 0, 0, 0, 0, 5, 2],
             &[22; 32],
@@ -76,8 +74,16 @@ fn paying_state(alloc: Global) -> Result<Vec<u8>, Fail> {
             &[23; 32],
             &[1, 2],
             &[24; 32],
-            &[0, 2, 254, 255],
         ],
+    )
+}
+
+/// The final state of turn 5 with that outcome and two bytes of data: 173 bytes.
+fn paying_state(alloc: Global) -> Result<Vec<u8>, Fail> {
+    let outcome = paying_outcome(alloc)?;
+    joined(
+        alloc,
+        &[&[0, 0, 0, 0, 0, 0, 0, 5, 1], &outcome, &[0, 2, 254, 255]],
     )
 }
 
@@ -194,24 +200,34 @@ fn signed_state_faults(rt: HostRuntime) -> Result<(), Fail> {
     Ok(())
 }
 
+/// The fault of a chain with the fixed part of 126 bytes.
+fn fault_behind(alloc: Global, rest: &[u8]) -> Result<Option<ByteFault>, Fail> {
+    let fixed = pair(alloc, 2, 2, 1, 10)?;
+    let bytes = joined(alloc, &[&fixed, rest])?;
+    Ok(chain_fault(alloc, &bytes))
+}
+
 #[test]
 fn chain_faults(rt: HostRuntime) -> Result<(), Fail> {
     let alloc = rt.alloc();
-    let state = [0, 0, 0, 0, 0, 0, 0, 4, 0, 0, 0, 0];
-    let rows: [(&[u8], Option<ByteFault>); 5] = [
-        (&[0, 0], None),
-        (&[5], Some(ByteFault::OverLimit(126))),
-        (&[0, 5], Some(ByteFault::OverLimit(127))),
-        (&[0, 1, 255, 35, 45], Some(ByteFault::OverLimit(129))),
-        (&[0, 1, 255, 0, 1, 9, 9], Some(ByteFault::Trailing(132))),
-    ];
-    let fixed = pair(alloc, 2, 2, 1, 10)?;
-    for (rest, fault) in rows {
-        let bytes = joined(alloc, &[&fixed, rest])?;
-        assert_eq!(rt; chain_fault(alloc, &bytes), fault);
-    }
-    let bytes = joined(alloc, &[&fixed, &[2], &state, &[0, 1]])?;
-    assert_eq!(rt; chain_fault(alloc, &bytes), Some(ByteFault::Cut(141)));
+    assert_eq!(rt; fault_behind(alloc, &[0, 0])?, None);
+    assert_eq!(rt; fault_behind(alloc, &[5])?, Some(ByteFault::OverLimit(126)));
+    assert_eq!(rt;
+        fault_behind(alloc, &[0, 5])?,
+        Some(ByteFault::OverLimit(127))
+    );
+    let long = [0, 1, 255, 35, 45];
+    assert_eq!(rt;
+        fault_behind(alloc, &long)?,
+        Some(ByteFault::OverLimit(129))
+    );
+    let trailing = [0, 1, 255, 0, 1, 9, 9];
+    assert_eq!(rt;
+        fault_behind(alloc, &trailing)?,
+        Some(ByteFault::Trailing(132))
+    );
+    let cut = [2, 0, 0, 0, 0, 0, 0, 0, 4, 0, 0, 0, 0, 0, 1];
+    assert_eq!(rt; fault_behind(alloc, &cut)?, Some(ByteFault::Cut(141)));
     Ok(())
 }
 
@@ -324,20 +340,20 @@ fn sixteen_items_and_no_more(rt: HostRuntime) -> Result<(), Fail> {
     assert_eq!(rt; out.len(), 663);
     assert!(rt; outcome_is(&outcome, &out));
     assert!(rt; is_outcome(&out));
-    assert!(rt; !is_outcome(&out[..662]));
+    out.push(0)?;
+    assert!(rt; !is_outcome(&out));
     Ok(())
 }
 
 #[test]
 fn one_item_of_bytes(rt: HostRuntime) -> Result<(), Fail> {
     let alloc = rt.alloc();
-    let state = paying_state(alloc)?;
-    let outcome = &state[9..169];
+    let bytes = paying_outcome(alloc)?;
     let to = Dest::Channel([22; 32]);
-    assert_eq!(rt; item_in(outcome, 7, 1), Some(Item { to, amount: 3 }));
-    assert_eq!(rt; item_in(outcome, 7, 2), None);
-    assert_eq!(rt; item_in(outcome, 8, 0), None);
-    assert_eq!(rt; item_in(outcome, 9, 0), None);
+    assert_eq!(rt; item_in(&bytes, 7, 1), Some(Item { to, amount: 3 }));
+    assert_eq!(rt; item_in(&bytes, 7, 2), None);
+    assert_eq!(rt; item_in(&bytes, 8, 0), None);
+    assert_eq!(rt; item_in(&bytes, 9, 0), None);
     Ok(())
 }
 

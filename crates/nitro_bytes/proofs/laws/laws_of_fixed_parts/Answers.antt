@@ -1,4 +1,4 @@
-use Rattle.nitro_bytes.proofs.Format.{spelled_once, all_takes, valid_again}
+use Rattle.nitro_bytes.proofs.Format.{spelled_once, all_takes, valid_again, fronts_fail, trailing_fails}
 use Rattle.nitro_bytes.proofs.Formats.{fixed_format}
 use Rattle.nitro_bytes.proofs.laws.laws_of_fixed_parts.Goals as goal
 
@@ -10,3 +10,9 @@ returns-clause-back c bytes v fits read = (all_takes fixed_format bytes v fits r
 
 pub returns-clause-again : goal.returns-clause-again
 returns-clause-again c = valid_again fixed_format
+
+pub returns-clause-fronts : goal.returns-clause-fronts
+returns-clause-fronts c bytes v n fits read lt = fronts_fail fixed_format bytes v n fits read lt
+
+pub returns-clause-trailing : goal.returns-clause-trailing
+returns-clause-trailing c v b more valid = trailing_fails fixed_format v b more valid

@@ -1,4 +1,4 @@
-use Rattle.nitro_bytes.proofs.Format.{spelled_once, all_takes, valid_again}
+use Rattle.nitro_bytes.proofs.Format.{spelled_once, all_takes, valid_again, fronts_fail, trailing_fails}
 use Rattle.nitro_bytes.proofs.Formats.{outcome_format}
 use Rattle.nitro_bytes.proofs.laws.laws_of_outcomes.Goals as goal
 
@@ -10,3 +10,9 @@ returns-clause-back c bytes v fits read = (all_takes outcome_format bytes v fits
 
 pub returns-clause-again : goal.returns-clause-again
 returns-clause-again c = valid_again outcome_format
+
+pub returns-clause-fronts : goal.returns-clause-fronts
+returns-clause-fronts c bytes v n fits read lt = fronts_fail outcome_format bytes v n fits read lt
+
+pub returns-clause-trailing : goal.returns-clause-trailing
+returns-clause-trailing c v b more valid = trailing_fails outcome_format v b more valid
