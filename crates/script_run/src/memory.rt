@@ -1,6 +1,8 @@
 //! Sinks in memory, for tests and for programs that keep the text.
 
-ghost use Rattle.std.specs.Prelude.{◌≡◌, Some, None, [], IfOk};
+ghost use Rattle.std.specs.Prelude.{◌≡◌, ◌≤◌, ◌+◌, ◌-◌, ◌^◌, Some, None, [], IfOk, Contains, min, vec_capacity};
+ghost use Rattle.script_reader.specs.Outside.{Rose};
+ghost use Rattle.script_run.specs.Outside.{PutGives};
 
 use crate::sink::{Gave, Sink};
 use nitro_bytes::NoMemory;
@@ -40,6 +42,7 @@ impl<'a> ListSink<'a> {
         most: usize,
         failing: &'a [u64],
     ) -> Result<ListSink<'a>, NoMemory>
+        ensures room { IfOk result (λ sink. room ≤ vec_capacity sink.bytes) }
         ensures empty { IfOk result (λ sink. sink.bytes.items ≡ []) }
         ensures failing { IfOk result (λ sink. sink.failing.now ≡ failing.now) }
         ensures most { IfOk result (λ sink. sink.most ≡ most) }
@@ -62,7 +65,15 @@ impl Sink for ListSink<'_> {
 
     ghost faults = { λ s. s.faults };
 
-    fn put(&mut self, piece: &[u8]) -> Gave {
+    fn put(&mut self, piece: &[u8]) -> Gave
+        ensures gives { PutGives (Some self.old.bytes.items) (Some self.new.bytes.items) piece.now result }
+        ensures later { self.old.faults ≤ self.new.faults }
+        ensures failed { result ≡ Gave.Failed → Rose self.old.faults self.new.faults }
+        ensures listed { Contains self.old.failing.now self.old.calls → result ≡ Gave.Failed }
+        ensures counted { self.new.calls ≡ min (self.old.calls + 1) (2 ^ 64 - 1) }
+        ensures failing { self.new.failing.now ≡ self.old.failing.now }
+        ensures most { self.new.most ≡ self.old.most }
+    {
         let call = self.calls;
         self.calls = self.calls.saturating_add(1);
         let count = piece.len().min(self.most.max(1));

@@ -1,11 +1,10 @@
-//! The edge to the system's writers, which is trusted.
-
-ghost use Rattle.std.specs.Prelude.{None};
+//! The sink that writes to the system.
 
 use crate::sink::{Gave, Sink};
 use std::io::Write;
 
-/// A writer of the system, with a count of its faults. It tells nothing of its bytes.
+/// A writer of the system, with a count of its faults. It tells the bytes that its writer tells:
+/// standard output tells none.
 #[derive(Drop)]
 pub struct StdSink<W: Write + Drop> {
     pub writer: W,
@@ -13,7 +12,7 @@ pub struct StdSink<W: Write + Drop> {
 }
 
 impl<W: Write + Drop> Sink for StdSink<W> {
-    ghost held = { λ s. None };
+    ghost held = { λ s. W.Write.contents s.writer };
 
     ghost faults = { λ s. s.faults };
 
