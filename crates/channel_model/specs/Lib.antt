@@ -4,3 +4,4 @@ pub mod Chains
 pub mod LastTurn
 pub mod Rules
 pub mod Support
+pub mod Supported
