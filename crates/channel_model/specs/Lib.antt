@@ -1,0 +1,7 @@
+pub mod Words
+pub mod Amounts
+pub mod Chains
+pub mod LastTurn
+pub mod Rules
+pub mod Support
+pub mod Supported

@@ -1,0 +1,19 @@
+//! Laws over the definitions alone. Each function is empty: its contract is the law.
+
+ghost use Rattle.channel_model.specs.LastTurn.{LastTurnIsGreatest};
+ghost use Rattle.channel_model.specs.Supported.{SupportTells, SupportIsByMarks};
+
+/// The last turn of a participant is the greatest that is its own.
+pub fn last_turn_is_greatest()
+    ensures { LastTurnIsGreatest }
+{}
+
+/// A chain that supports a turn meets each condition, and has every step after each participant's last turn.
+pub fn support_tells()
+    ensures { SupportTells }
+{}
+
+/// What a chain supports is what it supports with the truth values of its marks.
+pub fn support_is_by_marks()
+    ensures { SupportIsByMarks }
+{}

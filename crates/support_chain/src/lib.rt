@@ -1,0 +1,10 @@
+//! Steps of a channel, and chains of states that support a turn.
+#![tactic(auto)]
+
+mod signature;
+mod steps;
+mod support;
+
+pub use nitro_bytes::{Chain, Mark, StepFault, SupportFault};
+pub use steps::step;
+pub use support::{supports, supports_with};

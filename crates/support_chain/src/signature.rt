@@ -1,0 +1,34 @@
+//! Which marks are signatures of their states.
+
+ghost use Rattle.std.specs.Prelude.{◌≡◌};
+ghost use Rattle.std.specs.List.{slice_get};
+ghost use Rattle.nitro_bytes.specs.Spelling.{fixed as spelling, state as body};
+ghost use Rattle.channel_name.specs.Digests.{name_of_channel, digest_of_state};
+ghost use Rattle.channel_name.specs.Messages.{message_of_state};
+ghost use Rattle.channel_model.specs.Support.{is_marked_well};
+ghost use Rattle.support_chain.specs.Real.{real};
+
+use channel_name::{channel_name, state_digest, state_message};
+use lms_verify::verifies;
+use nitro_bytes::{Fixed, Key, Mark, State};
+
+/// What is signed for a state of the channel.
+fn message_of(fixed: &Fixed, state: &State) -> [u8; 33]
+    ensures { result ≡ message_of_state (digest_of_state (name_of_channel (spelling fixed.now)) (body state.now)) }
+{
+    let channel = channel_name(fixed.bytes());
+    state_message(&state_digest(&channel, state.bytes()))
+}
+
+/// Whether key `j` verifies the state that the mark stands on.
+pub(crate) fn mark_verifies(fixed: &Fixed, states: &[State], j: usize, mark: &Mark) -> bool
+    ensures { result ≡ is_marked_well real fixed.now j mark.now.signature (slice_get states.now mark.now.place) }
+{
+    let Some(state) = states.get(mark.place as usize) else {
+        return false;
+    };
+    let Some(key) = fixed.keys().get(j) else {
+        return false;
+    };
+    verifies(key, &message_of(fixed, state), mark.signature.as_slice())
+}

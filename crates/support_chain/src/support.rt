@@ -1,0 +1,188 @@
+//! When a chain supports the turn of its last state.
+
+ghost use Rattle.std.specs.Prelude.{◌≡◌, ◌+◌, ◌<◌, ◌^◌, length};
+ghost use Rattle.std.specs.List.{slice_get};
+ghost use Rattle.std.specs.Result.{result_err};
+ghost use Rattle.channel_model.specs.Chains as rows;
+ghost use Rattle.channel_model.specs.Support as model;
+ghost use Rattle.support_chain.specs.Steps.{persons};
+ghost use Rattle.support_chain.specs.Real.{real};
+
+use crate::signature::mark_verifies;
+use crate::steps::step;
+use arrayvec::ArrayVec;
+use channel_name::person_name;
+use nitro_bytes::{Chain, Fixed, Mark, Name, State, SupportFault};
+
+/// Whether each state of a row has the turn after its predecessor's. The first of the rest has place `i`.
+fn turns_rise(i: usize, before: &State, rest: &[State]) -> Result<(), SupportFault>
+    requires { i + length rest.now < 2 ^ 64 }
+    ensures { result_err result ≡ rows.first_between rows.turn_fault i before.now rest.now }
+{
+    let [next, rest @ ..] = rest else {
+        return Ok(());
+    };
+    if next.turn() != before.turn() + 1 {
+        return Err(SupportFault::Turn(i));
+    }
+    turns_rise(i + 1, next, rest)
+}
+
+/// Whether each state of a row follows from its predecessor.
+fn states_follow(
+    fixed: &Fixed,
+    people: &[Name],
+    i: usize,
+    before: &State,
+    rest: &[State],
+) -> Result<(), SupportFault>
+    requires people { people.now ≡ persons fixed.now }
+    requires places { i + length rest.now < 2 ^ 64 }
+    ensures { result_err result ≡ rows.first_between (model.link_fault real fixed.now) i before.now rest.now }
+{
+    let [next, rest @ ..] = rest else {
+        return Ok(());
+    };
+    if let Err(fault) = step(fixed, people, before, next) {
+        return Err(SupportFault::Step(i, fault));
+    }
+    states_follow(fixed, people, i + 1, next, rest)
+}
+
+/// The turn of the last state of a row.
+fn turn_of_last(first: &State, rest: &[State]) -> u64
+    ensures value { result ≡ (rows.last_of first.now rest.now).turn }
+    ensures small { result < 2 ^ 48 }
+{
+    match rest {
+        [] => first.turn(),
+        [next, rest @ ..] => turn_of_last(next, rest),
+    }
+}
+
+/// The greatest turn of at most `turn` whose mover is `j`, of `n`.
+#[tactic(auto, using(channel_model::proofs::Turns::turn_down, channel_model::proofs::Turns::turn_zero))]
+fn last_turn(n: u64, j: u64, turn: u64) -> u64
+    requires { 0 < n }
+    ensures { result ≡ rows.last_turn n j turn }
+{
+    let mut last = turn;
+    while last > 0 && last % n != j {
+        last -= 1;
+    }
+    last
+}
+
+/// Whether the place is one of a state whose turn is at least the last one of participant `j`.
+fn is_late(n: u64, turn: u64, j: u64, states: &[State], place: u8) -> bool
+    requires { 0 < n }
+    ensures { result ≡ rows.is_late n turn j (slice_get states.now place) }
+{
+    match states.get(place as usize) {
+        None => false,
+        Some(state) => last_turn(n, j, turn) <= state.turn(),
+    }
+}
+
+/// The persons of the keys.
+fn people_of(fixed: &Fixed) -> ArrayVec<Name, 4>
+    ensures { result.items ≡ persons fixed.now }
+{
+    let mut people = ArrayVec::new();
+    for key in fixed.keys() {
+        people.push(person_name(key));
+    }
+    people
+}
+
+/// The turn of the last state of a row of states.
+fn row_turn(fixed: &Fixed, states: &[State], marks: usize) -> Result<u64, SupportFault>
+    ensures { result ≡ model.row_of real fixed.now states.now marks }
+{
+    let n = fixed.keys().len();
+    let [first, rest @ ..] = states else {
+        return Err(SupportFault::Length);
+    };
+    if states.len() > n || marks != n {
+        return Err(SupportFault::Length);
+    }
+    if let Err(fault) = turns_rise(1, first, rest) {
+        return Err(fault);
+    }
+    let turn = turn_of_last(first, rest);
+    if turn < n as u64 - 1 {
+        return Err(SupportFault::Length);
+    }
+    let people = people_of(fixed);
+    if let Err(fault) = states_follow(fixed, people.as_slice(), 1, first, rest) {
+        return Err(fault);
+    }
+    Ok(turn)
+}
+
+/// Whether each participant's mark does, where `verified` says which marks verify.
+fn marks_hold(
+    n: u64,
+    turn: u64,
+    states: &[State],
+    marks: &[Mark],
+    verified: &[bool],
+) -> Result<(), SupportFault>
+    requires several { 0 < n }
+    requires each { length verified.now ≡ length marks.now }
+    ensures { result_err result ≡ rows.marks_fault n turn states.now 0 marks.now verified.now }
+{
+    for (j, mark) in marks.iter().enumerate() {
+        if !verified[j] || !is_late(n, turn, j as u64, states, mark.place) {
+            return Err(SupportFault::Signature(j));
+        }
+    }
+    Ok(())
+}
+
+/// Whether each participant's mark does.
+fn signed_marks_hold(
+    fixed: &Fixed,
+    turn: u64,
+    states: &[State],
+    marks: &[Mark],
+) -> Result<(), SupportFault>
+    ensures { result_err result ≡ rows.marks_fault (length fixed.now.keys) turn states.now 0 marks.now (model.verified_from real fixed.now states.now 0 marks.now) }
+{
+    let n = fixed.keys().len() as u64;
+    for (j, mark) in marks.iter().enumerate() {
+        if !mark_verifies(fixed, states, j, mark) || !is_late(n, turn, j as u64, states, mark.place) {
+            return Err(SupportFault::Signature(j));
+        }
+    }
+    Ok(())
+}
+
+/// The turn that the chain supports, or its first fault, where `verified` says which marks verify.
+pub fn supports_with(chain: &Chain, verified: &[bool]) -> Result<u64, SupportFault>
+    requires { length verified.now ≡ length chain.now.marks }
+    ensures { result ≡ model.support_of real chain.now verified.now }
+{
+    let states = chain.states.as_slice();
+    let marks = chain.marks.as_slice();
+    let turn = row_turn(&chain.fixed, states, marks.len())?;
+    let n = chain.fixed.keys().len() as u64;
+    if let Err(fault) = marks_hold(n, turn, states, marks, verified) {
+        return Err(fault);
+    }
+    Ok(turn)
+}
+
+/// The turn that the chain supports, or its first fault.
+#[tactic(auto, unfolding(channel_model::specs::Support::supports))]
+pub fn supports(chain: &Chain) -> Result<u64, SupportFault>
+    ensures { result ≡ model.supports real chain.now }
+{
+    let states = chain.states.as_slice();
+    let marks = chain.marks.as_slice();
+    let turn = row_turn(&chain.fixed, states, marks.len())?;
+    if let Err(fault) = signed_marks_hold(&chain.fixed, turn, states, marks) {
+        return Err(fault);
+    }
+    Ok(turn)
+}

@@ -1,0 +1,2 @@
+pub mod NoWorse
+pub mod May
