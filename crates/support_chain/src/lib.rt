@@ -8,3 +8,6 @@ mod support;
 pub use nitro_bytes::{Chain, Mark, StepFault, SupportFault};
 pub use steps::step;
 pub use support::{supports, supports_with};
+
+#[cfg(test)]
+mod tests;
