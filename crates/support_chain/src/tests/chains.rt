@@ -140,64 +140,64 @@ fn chains_of_two(rt: HostRuntime) -> Result<(), Fail> {
 }
 
 // States of a channel of three whose outcome is fixed.
-const T1: Parts = (1, false, 0, 5, 3);
+const U1: Parts = (1, false, 0, 5, 3);
 
-const T2: Parts = (2, false, 0, 5, 3);
+const U2: Parts = (2, false, 0, 5, 3);
 
-const T3: Parts = (3, false, 0, 5, 3);
+const U3: Parts = (3, false, 0, 5, 3);
 
-const T7: Parts = (7, false, 0, 5, 3);
+const U7: Parts = (7, false, 0, 5, 3);
 
-const T8: Parts = (8, false, 0, 5, 3);
+const U8: Parts = (8, false, 0, 5, 3);
 
-const X8: Parts = (8, false, 0, 6, 3);
+const V8: Parts = (8, false, 0, 6, 3);
 
-const T9: Parts = (9, false, 0, 5, 3);
+const U9: Parts = (9, false, 0, 5, 3);
 
-const X9: Parts = (9, false, 0, 6, 3);
+const V9: Parts = (9, false, 0, 6, 3);
 
-const T10: Parts = (10, false, 0, 5, 3);
+const U10: Parts = (10, false, 0, 5, 3);
 
 const TRIPLES: [(&[Parts], &[u8], usize, Answer); 12] = [
-    (&[T7, T8, T9], &[2, 0, 1], ALL, Ok(9)),
-    (&[T8, T9], &[1, 0, 0], ALL, Ok(9)),
-    (&[T2], &[0, 0, 0], ALL, Ok(2)),
-    (&[T1], &[0, 0, 0], ALL, Err(SupportFault::Length)),
-    (&[T1, T2, T3], &[2, 0, 1], ALL, Ok(3)),
+    (&[U7, U8, U9], &[2, 0, 1], ALL, Ok(9)),
+    (&[U8, U9], &[1, 0, 0], ALL, Ok(9)),
+    (&[U2], &[0, 0, 0], ALL, Ok(2)),
+    (&[U1], &[0, 0, 0], ALL, Err(SupportFault::Length)),
+    (&[U1, U2, U3], &[2, 0, 1], ALL, Ok(3)),
     (
-        &[T7, T8, T9, T10],
+        &[U7, U8, U9, U10],
         &[2, 3, 1],
         ALL,
         Err(SupportFault::Length),
     ),
-    (&[T7, T8, T10], &[2, 2, 1], ALL, Err(SupportFault::Turn(2))),
+    (&[U7, U8, U10], &[2, 2, 1], ALL, Err(SupportFault::Turn(2))),
     (
-        &[T7, X8, X9],
+        &[U7, V8, V9],
         &[2, 0, 1],
         ALL,
         Err(SupportFault::Step(1, StepFault::Outcome)),
     ),
     (
-        &[T7, T8, X9],
+        &[U7, U8, V9],
         &[2, 0, 1],
         ALL,
         Err(SupportFault::Step(2, StepFault::Outcome)),
     ),
     // The third's last turn is 8.
     (
-        &[T7, T8, T9],
+        &[U7, U8, U9],
         &[2, 0, 0],
         ALL,
         Err(SupportFault::Signature(2)),
     ),
     (
-        &[T7, T8, T9],
+        &[U7, U8, U9],
         &[2, 0, 1],
         1,
         Err(SupportFault::Signature(1)),
     ),
     (
-        &[T7, T8, T9],
+        &[U7, U8, U9],
         &[1, 0, 0],
         1,
         Err(SupportFault::Signature(0)),
