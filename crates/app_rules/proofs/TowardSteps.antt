@@ -1,5 +1,5 @@
 -- What is wanted toward an outcome is a step.
-use Rattle.std.proofs.Common.{◌≡◌, ◌≢◌, ℕ, zero, suc, ◌+◌, ◌-◌, ◌<◌, ◌≤◌, ◌^◌, Bool, true, false, not, ◌&&◌, ◌||◌, cond, eqb, leb, ltb, List, [], ◌∷◌, length, Result, Ok, Err, refl, sym, ap, subst, ◌∙◌, inl, inr, arith}
+use Rattle.std.proofs.Common.{◌≡◌, ◌≢◌, ℕ, suc, ◌-◌, ◌<◌, ◌≤◌, ◌^◌, Bool, true, false, not, ◌&&◌, ◌||◌, cond, eqb, leb, ltb, List, [], ◌∷◌, Result, refl, sym, ap, subst, inl, inr, arith}
 use Rattle.std.specs.Prelude.{Option, Some, None, ◌⊎◌, is_ok}
 use Rattle.std.specs.Option.{option_map}
 use Rattle.std.specs.Str.{bytes_eq}
@@ -7,18 +7,17 @@ use Rattle.std.proofs.lemmas.Bool.Decides.{nat_tests, eqb_tells}
 use Rattle.std.proofs.lemmas.Slice.Eq.{bytes_eq-Decides}
 use Rattle.nitro_bytes.specs.declared.fault.ByteFault.{ByteFault}
 use Rattle.nitro_bytes.specs.declared.value.AssetOutcome.{AssetOutcome}
-use Rattle.nitro_bytes.specs.Parts.{StateParts, IsState}
+use Rattle.nitro_bytes.specs.Parts.{StateParts}
 use Rattle.nitro_bytes.specs.Outcomes.{IsOutcome}
 use Rattle.nitro_bytes.specs.Spelling.{outcome}
 use Rattle.nitro_bytes.specs.Reading.{outcome_of}
 use Rattle.nitro_bytes.proofs.Format.{valid_again}
 use Rattle.nitro_bytes.proofs.Formats.{outcome_format}
-use Rattle.nitro_bytes.specs.declared.fault.StepFault.{StepFault}
 use Rattle.nitro_bytes.specs.declared.fault.StepFault.TheVariants as faults
 use Rattle.channel_model.specs.Words.{fault_if, ◌⊳◌}
 use Rattle.app_rules.specs.Ballots.{Ballot, ballot_of, data_of}
-use Rattle.app_rules.specs.Rules.{is_same_outcome, is_move, is_vote, is_final_vote, move_fault, ballots_fault, consensus_fault}
-use Rattle.app_rules.specs.Toward.{Move, no_votes, voted, wanted_move, moved, wanted_on, wanted_toward, is_settled, WantedIsStep}
+use Rattle.app_rules.specs.Rules.{is_same_outcome, is_move, is_vote, is_final_vote, move_fault, ballots_fault}
+use Rattle.app_rules.specs.Toward.{Move, no_votes, wanted_move, moved, wanted_on, wanted_toward, is_settled, WantedIsStep}
 
 same_ballot : (x y : Ballot) → ◌≡◌ {A = Option Ballot} (Some x) (Some y) → x ≡ y
 same_ballot x y e = cc
@@ -54,13 +53,16 @@ ballot_back n b h k e = some_votes (eqb b.votes 0) (other b.votes 0 (λ z. absur
   where
     other : (x y : ℕ) → x ≢ y → eqb x y ≡ false
     other x y z = grind (arith, nat_tests)
+
     all_three : (x y z : Bool) → x ≡ true → y ≡ true → z ≡ true → cond (x && y && z) (Some b) None ≡ Some b
     all_three true true true p q r = refl
     all_three true true false p q r = absurd cc
     all_three true false z p q r = absurd cc
     all_three false y z p q r = absurd cc
+
     at_least : (x y : ℕ) → x ≤ y → leb x y ≡ true
     at_least x y z = grind (arith, nat_tests)
+
     some_votes : (t : Bool) → t ≡ false → ballot_of n (cond t [] (b.votes ∷ b.proposal)) ≡ Some b
     some_votes true z = absurd cc
     some_votes false z = all_three (leb 1 b.votes) (ltb b.votes n) (is_ok (outcome_of b.proposal)) (at_least 1 b.votes h) (at_least (suc b.votes) n k) e
@@ -78,6 +80,7 @@ ballot_fits n (k ∷ bytes) b e = tested (leb 1 k) (ltb k n) (is_ok (outcome_of 
   where
     below : (x y : ℕ) → ltb x y ≡ true → x < y
     below x y z = grind (arith, nat_tests)
+
     tested : (x y z : Bool) → ltb k n ≡ y → cond (x && y && z) (Some (record { votes = k; proposal = bytes })) None ≡ Some b → b.votes ≡ 0 ⊎ b.votes < n
     tested true true true q e = inr (subst (λ (x : ℕ). x < n) (ap (λ (x : Ballot). x.votes) (same_ballot (record { votes = k; proposal = bytes }) b e)) (below k n q))
     tested true true false q e = absurd cc
@@ -114,6 +117,7 @@ module _ (n : ℕ) (several : 2 ≤ n) (target : List AssetOutcome) (valid : IsO
     where
       one : (x : ℕ) → x ≡ 1 → eqb x 1 ≡ true
       one x e = grind (arith, nat_tests)
+
       final : (x y : Bool) → x ≡ true → y ≡ true → (x && true && y) ≡ true
       final true true e f = refl
       final true false e f = absurd cc
@@ -130,6 +134,7 @@ module _ (n : ℕ) (several : 2 ≤ n) (target : List AssetOutcome) (valid : IsO
     where
       rests : (m : Move) → m ≡ record { outcome = o; ballot = no_votes } → ballots_fault n (Some b) (ballot_of n (data_of m.ballot)) o m.outcome ≡ None
       rests m e = subst (λ (x : Move). ballots_fault n (Some b) (ballot_of n (data_of x.ballot)) o x.outcome ≡ None) (sym e) (calm n b o)
+
       by_votes : (none : Bool) → ((none ≡ true) × (b.votes ≡ 0)) ⊎ ((none ≡ false) × (b.votes ≢ 0)) → (same : Bool) → bytes_eq b.proposal (outcome target) ≡ same → (one : Bool) → ((one ≡ true) × (b.votes ≡ 1)) ⊎ ((one ≡ false) × (b.votes ≢ 1)) → (there settled : Bool) (m : Move) →
           cond (not none) (cond same (Some (cond one (record { outcome = target; ballot = no_votes }) (record { outcome = o; ballot = record { votes = b.votes - 1; proposal = outcome target } }))) (Some (record { outcome = o; ballot = no_votes }))) (cond (not there) (Some (record { outcome = o; ballot = record { votes = n - 1; proposal = outcome target } })) (cond settled None (Some (record { outcome = o; ballot = no_votes })))) ≡ Some m →
           ballots_fault n (Some b) (ballot_of n (data_of m.ballot)) o m.outcome ≡ None
@@ -142,7 +147,7 @@ module _ (n : ℕ) (several : 2 ≤ n) (target : List AssetOutcome) (valid : IsO
       by_votes false z true q true (inr w) there settled m e = absurd (let f = w.0 in cc)
       by_votes false (inl z) true q false w there settled m e = absurd (let f = z.0 in cc)
       by_votes false (inr z) true q false (inl w) there settled m e = absurd (let f = w.0 in cc)
-      by_votes false (inr z) true q false (inr w) there settled m e = moves_as m (record { outcome = o; ballot = record { votes = b.votes - 1; proposal = outcome target } }) (cc) (votes_on (let a = z.1 in let c = w.1 in omega arith) (elim few [ | inl x ↦ absurd (z.1 x) | inr x ↦ x ]) q)
+      by_votes false (inr z) true q false (inr w) there settled m e = moves_as m (record { outcome = o; ballot = record { votes = b.votes - 1; proposal = outcome target } }) (cc) (votes_on (let a = z.1 in let c = w.1 in omega arith) (elim few [ inl x ↦ absurd (z.1 x) | inr x ↦ x ]) q)
 
 mapped : {A B : Type 0} (f : A → B) (o : Option A) (y : B) → option_map f o ≡ Some y → (x : A) × (o ≡ Some x) × (f x ≡ y)
 mapped f None y h = absurd cc

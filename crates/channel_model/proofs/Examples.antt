@@ -1,18 +1,16 @@
 -- The words on examples worked out by hand.
 use Rattle.std.proofs.Common.{◌≡◌, ℕ, zero, suc, List, [], ◌∷◌, true, false, refl}
-use Rattle.std.specs.Prelude.{Option, Some, None, Result, Ok, Err}
+use Rattle.std.specs.Prelude.{None, Ok, Err}
 use Rattle.nitro_bytes.specs.declared.value.Dest.{Dest}
 use Rattle.nitro_bytes.specs.declared.value.Dest.TheVariants.{Person, Channel}
 use Rattle.nitro_bytes.specs.declared.value.Item.{Item}
 use Rattle.nitro_bytes.specs.declared.chain.Mark.{Mark}
-use Rattle.nitro_bytes.specs.declared.fault.SupportFault.{SupportFault}
 use Rattle.nitro_bytes.specs.declared.fault.SupportFault.TheVariants as faults
 use Rattle.nitro_bytes.specs.Parts.{FixedParts, StateParts, fixed_with, state_with}
-use Rattle.channel_model.specs.Words.{fault_if, ◌⊳◌, all_along, first_along}
 use Rattle.channel_model.specs.Amounts.{amt, has, aff, before, due}
-use Rattle.channel_model.specs.Chains.{mover, first_between, last_of, last_turn, is_late, marks_fault}
+use Rattle.channel_model.specs.Chains.{mover, last_turn}
 use Rattle.channel_model.specs.Rules.{Rules, top_turn, signs}
-use Rattle.channel_model.specs.Support.{row_of, support_of, supports}
+use Rattle.channel_model.specs.Support.{support_of}
 
 -- ---- amounts: 5 for A, 3 for B, 9 for a channel
 

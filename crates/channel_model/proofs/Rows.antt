@@ -1,5 +1,5 @@
 -- What a supported chain tells of its states and marks.
-use Rattle.std.proofs.Common.{◌≡◌, ◌≢◌, ℕ, zero, suc, ◌+◌, ◌-◌, ◌<◌, ◌≤◌, Bool, true, false, not, ◌&&◌, ◌||◌, eqb, ltb, leb, List, [], ◌∷◌, length, drop, Result, Ok, Err, refl, sym, ap, subst, ◌∙◌, arith}
+use Rattle.std.proofs.Common.{◌≡◌, ◌≢◌, ℕ, zero, suc, ◌+◌, ◌-◌, ◌≤◌, Bool, true, false, not, ◌&&◌, ◌||◌, eqb, ltb, leb, List, [], ◌∷◌, length, drop, Result, Ok, Err, refl, sym, ap, subst, ◌∙◌, arith}
 use Rattle.std.specs.Prelude.{Option, Some, None}
 use Rattle.std.specs.List.{AllByRecursion, slice_get}
 use Rattle.std.specs.Option.{option_map}
@@ -7,14 +7,13 @@ use Rattle.std.proofs.lemmas.Bool.Decides.{Decides-eqb, nat_tests}
 use Rattle.nitro_bytes.specs.Parts.{FixedParts, StateParts}
 use Rattle.nitro_bytes.specs.declared.fault.StepFault.{StepFault}
 use Rattle.nitro_bytes.specs.declared.chain.Mark.{Mark}
-use Rattle.nitro_bytes.specs.declared.chain.Chain.{Chain}
 use Rattle.nitro_bytes.specs.declared.fault.SupportFault.{SupportFault}
 use Rattle.nitro_bytes.specs.declared.fault.SupportFault.TheVariants as faults
 use Rattle.channel_model.specs.Words.{fault_if, ◌⊳◌}
 use Rattle.channel_model.specs.Chains.{mover, first_between, last_of, turn_fault, last_turn, is_late, marks_fault, turn_unless, marked_row}
-use Rattle.channel_model.specs.Rules.{Rules, people, newest, top_turn}
-use Rattle.channel_model.specs.Support.{link_fault, row_fault, row_of, support_of, verified_from, verified_marks, supports}
-use Rattle.channel_model.specs.Supported.{Rises, AreSteps, IsRow, FromMark, IsSupported, SupportTells, SupportIsByMarks}
+use Rattle.channel_model.specs.Rules.{Rules}
+use Rattle.channel_model.specs.Support.{link_fault, row_fault, row_of, verified_from, supports}
+use Rattle.channel_model.specs.Supported.{Rises, AreSteps, FromMark, IsSupported, SupportTells, SupportIsByMarks}
 use Rattle.channel_model.proofs.Lines.{both_none, unbroken, not_not, and_true, or_false}
 use Rattle.channel_model.proofs.Turns.{last_turn_greatest}
 
@@ -128,6 +127,7 @@ row_means r f x xs marks turn h =
   where
     not_above : (a b : ℕ) → ltb a b ≡ false → b ≤ a
     not_above a b h = grind (arith, nat_tests)
+
     reached : (n t u : ℕ) → t ≡ u → ltb t (n - 1) ≡ false → n ≤ u + 1
     reached n t u e h = let k = not_above t (n - 1) h in omega arith
 
@@ -161,10 +161,10 @@ module _ (r : Rules) (f : FixedParts) (marks : List Mark) (verified : List Bool)
         top = row.top;
         all_had_a_turn = row.enough;
         each = λ j mark there. (
-          let d = mark_does (length f.keys) turn (x ∷ xs) 0 marks verified m.1 j mark there in
-          let z : 0 + j ≡ j = omega arith in
-          (d.0, from_mark x xs row j mark (subst (λ (k : ℕ). is_late (length f.keys) turn k (slice_get (x ∷ xs) mark.place) ≡ true) z d.1))
-        );
+            let d = mark_does (length f.keys) turn (x ∷ xs) 0 marks verified m.1 j mark there in
+            let z : 0 + j ≡ j = omega arith in
+            (d.0, from_mark x xs row j mark (subst (λ (k : ℕ). is_late (length f.keys) turn k (slice_get (x ∷ xs) mark.place) ≡ true) z d.1))
+            );
       }
 
 pub support_tells : SupportTells

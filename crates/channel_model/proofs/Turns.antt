@@ -1,5 +1,5 @@
 -- The greatest turn of a mover, one turn down.
-use Rattle.std.proofs.Common.{◌≡◌, ◌≢◌, ◌∙◌, inl, inr, ℕ, zero, suc, ◌-◌, ◌%◌, ◌<◌, ◌≤◌, Bool, true, false, eq-eqb, cond, eqb, refl, sym, ap, arith, sub-one}
+use Rattle.std.proofs.Common.{◌≡◌, ◌≢◌, ◌∙◌, inl, inr, ℕ, zero, suc, ◌-◌, ◌%◌, ◌<◌, ◌≤◌, Bool, true, false, eq-eqb, cond, eqb, refl, sym, ap, arith}
 use Rattle.std.specs.Prelude.{◌⊎◌}
 use Rattle.std.proofs.Math.Nat.{zero-mod, mod-eq_of_lt}
 use Rattle.std.proofs.lemmas.Bool.Decides.{eqb_tells}
@@ -42,31 +42,31 @@ by_test n j t = split (eqb (suc t % n) j) (eqb_tells (suc t % n) j)
 pub last_turn_at_most : (n j t : ℕ) → last_turn n j t ≤ t
 last_turn_at_most n j zero = let e = turn_zero n j in omega arith
 last_turn_at_most n j (suc t) = elim (by_test n j t) [
-    | inl p ↦ (let e = p.0 in omega arith)
-    | inr p ↦ (let e = p.0 in let h = last_turn_at_most n j t in omega arith)
-  ]
+  | inl p ↦ (let e = p.0 in omega arith)
+  | inr p ↦ (let e = p.0 in let h = last_turn_at_most n j t in omega arith)
+]
 
 pub last_turn_greatest : (n j t v : ℕ) → v ≤ t → v % n ≡ j → v ≤ last_turn n j t
 last_turn_greatest n j zero v h e = omega arith
 last_turn_greatest n j (suc t) v h e = elim (by_test n j t) [
-    | inl p ↦ (let q = p.0 in omega arith)
-    | inr p ↦ (
+  | inl p ↦ (let q = p.0 in omega arith)
+  | inr p ↦ (
       let q = p.0 in
       let different : v ≢ suc t = λ same. p.1 (ap (λ x. x % n) (sym same) ∙ e) in
       let k = last_turn_greatest n j t v (omega arith) e in
       omega arith
-    )
-  ]
+      )
+]
 
 pub last_turn_mine : (n j t : ℕ) → j < n → j ≤ t → last_turn n j t % n ≡ j
 last_turn_mine n j zero h k = let e : j ≡ 0 = omega arith in ap (λ x. x % n) (turn_zero n j) ∙ zero-mod n ∙ sym e
 last_turn_mine n j (suc t) h k = elim (by_test n j t) [
-    | inl p ↦ ap (λ x. x % n) p.0 ∙ p.1
-    | inr p ↦ (
+  | inl p ↦ ap (λ x. x % n) p.0 ∙ p.1
+  | inr p ↦ (
       let different : j ≢ suc t = λ same. p.1 (ap (λ x. x % n) (sym same) ∙ mod-eq_of_lt h) in
       ap (λ x. x % n) p.0 ∙ last_turn_mine n j t h (omega arith)
-    )
-  ]
+      )
+]
 
 pub is_last_turn : LastTurnIsGreatest
 is_last_turn n j t h k = record {

@@ -1,10 +1,9 @@
 -- What a chain that supports a turn has, condition by condition, over any rules.
-use Rattle.std.specs.Prelude.{◌≡◌, ◌≤◌, ◌<◌, ℕ, suc, ◌+◌, Bool, true, List, [], ◌∷◌, length, drop, Option, Some, None, Result, Ok}
+use Rattle.std.specs.Prelude.{◌≡◌, ◌≤◌, ◌<◌, ℕ, suc, ◌+◌, Bool, true, List, [], ◌∷◌, length, drop, Some, None, Ok}
 use Rattle.std.specs.List.{slice_get}
 use Rattle.nitro_bytes.specs.Parts.{FixedParts, StateParts}
 use Rattle.nitro_bytes.specs.declared.chain.Mark.{Mark}
 use Rattle.nitro_bytes.specs.declared.chain.Chain.{Chain}
-use Rattle.nitro_bytes.specs.declared.fault.SupportFault.{SupportFault}
 use Rattle.channel_model.specs.Chains.{mover, last_of, last_turn}
 use Rattle.channel_model.specs.Rules.{Rules, people, newest, top_turn}
 use Rattle.channel_model.specs.Support.{support_of, verified_marks, supports}

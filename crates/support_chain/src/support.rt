@@ -151,7 +151,9 @@ fn signed_marks_hold(
 {
     let n = fixed.keys().len() as u64;
     for (j, mark) in marks.iter().enumerate() {
-        if !mark_verifies(fixed, states, j, mark) || !is_late(n, turn, j as u64, states, mark.place) {
+        if !mark_verifies(fixed, states, j, mark)
+            || !is_late(n, turn, j as u64, states, mark.place)
+        {
             return Err(SupportFault::Signature(j));
         }
     }

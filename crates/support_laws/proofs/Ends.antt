@@ -1,11 +1,10 @@
 -- What a supported chain ends with, for one whose mark stands on a state of its own turn.
-use Rattle.std.proofs.Common.{◌≡◌, ◌≢◌, ℕ, zero, suc, ◌%◌, ◌<◌, Bool, List, [], ◌∷◌, length, drop, Ok, Option, Some, refl, sym, ap, subst, ◌∙◌, arith}
+use Rattle.std.proofs.Common.{◌≡◌, ℕ, zero, suc, List, [], ◌∷◌, drop, Some, sym, ap, subst, ◌∙◌, arith}
 use Rattle.std.specs.List.{AllByRecursion, slice_get}
 use Rattle.nitro_bytes.specs.declared.value.AssetOutcome.{AssetOutcome}
-use Rattle.nitro_bytes.specs.declared.chain.Mark.{Mark}
-use Rattle.nitro_bytes.specs.Parts.{FixedParts, StateParts, IsState}
+use Rattle.nitro_bytes.specs.Parts.{StateParts, IsState}
 use Rattle.channel_model.specs.Chains.{mover, last_of, last_turn}
-use Rattle.channel_model.specs.Rules.{people, newest, turn_of, outcome_of, top_outcome}
+use Rattle.channel_model.specs.Rules.{people, turn_of, outcome_of, top_outcome}
 use Rattle.channel_model.proofs.Rows.{others_move, support_tells}
 use Rattle.support_chain.specs.Real.{real}
 use Rattle.support_laws.specs.May.{OneOf, Ends, may, SupportKeepsMay}

@@ -78,7 +78,11 @@ const MOVES: [(u8, Ballot, Ballot, Option<StepFault>); 33] = [
 #[test]
 fn moves(rt: HostRuntime) -> Result<(), Fail> {
     for (n, from, to, fault) in MOVES {
-        assert_eq!(rt; move_fault(rt.alloc(), n, from, to)?, fault, "{from:?} to {to:?} of {n}");
+        assert_eq!(rt;
+            move_fault(rt.alloc(), n, from, to)?,
+            fault,
+            "{from:?} to {to:?} of {n}"
+        );
     }
     Ok(())
 }

@@ -126,34 +126,123 @@ const PAYMENTS: [(bool, [Pay; 3], [Pay; 3], Option<StepFault>); 23] = [
     (false, BEFORE, [(A, 6), (B, 2), (S, 2)], None),
     (false, TURNED, [(B, 0), (A, 8), (S, 2)], None),
     // The mover's item rises and the other's falls: which stands first.
-    (true, BEFORE, [(A, 6), (B, 2), (S, 2)], Some(StepFault::Raised)),
-    (true, TURNED, [(B, 2), (A, 6), (S, 2)], Some(StepFault::Lowered)),
-    (false, BEFORE, [(A, 4), (B, 4), (S, 2)], Some(StepFault::Lowered)),
-    (false, TURNED, [(B, 4), (A, 4), (S, 2)], Some(StepFault::Raised)),
+    (
+        true,
+        BEFORE,
+        [(A, 6), (B, 2), (S, 2)],
+        Some(StepFault::Raised),
+    ),
+    (
+        true,
+        TURNED,
+        [(B, 2), (A, 6), (S, 2)],
+        Some(StepFault::Lowered),
+    ),
+    (
+        false,
+        BEFORE,
+        [(A, 4), (B, 4), (S, 2)],
+        Some(StepFault::Lowered),
+    ),
+    (
+        false,
+        TURNED,
+        [(B, 4), (A, 4), (S, 2)],
+        Some(StepFault::Raised),
+    ),
     // One of the two changes alone.
-    (true, BEFORE, [(A, 6), (B, 3), (S, 2)], Some(StepFault::Raised)),
-    (true, BEFORE, [(A, 5), (B, 2), (S, 2)], Some(StepFault::Lowered)),
-    (true, BEFORE, [(A, 4), (B, 3), (S, 2)], Some(StepFault::Outcome)),
-    (true, BEFORE, [(A, 5), (B, 4), (S, 2)], Some(StepFault::Outcome)),
+    (
+        true,
+        BEFORE,
+        [(A, 6), (B, 3), (S, 2)],
+        Some(StepFault::Raised),
+    ),
+    (
+        true,
+        BEFORE,
+        [(A, 5), (B, 2), (S, 2)],
+        Some(StepFault::Lowered),
+    ),
+    (
+        true,
+        BEFORE,
+        [(A, 4), (B, 3), (S, 2)],
+        Some(StepFault::Outcome),
+    ),
+    (
+        true,
+        BEFORE,
+        [(A, 5), (B, 4), (S, 2)],
+        Some(StepFault::Outcome),
+    ),
     // Both rise, and both fall.
-    (true, BEFORE, [(A, 6), (B, 4), (S, 2)], Some(StepFault::Raised)),
-    (true, BEFORE, [(A, 4), (B, 2), (S, 2)], Some(StepFault::Lowered)),
+    (
+        true,
+        BEFORE,
+        [(A, 6), (B, 4), (S, 2)],
+        Some(StepFault::Raised),
+    ),
+    (
+        true,
+        BEFORE,
+        [(A, 4), (B, 2), (S, 2)],
+        Some(StepFault::Lowered),
+    ),
     // Somebody else's item changes.
-    (true, BEFORE, [(A, 4), (B, 3), (S, 3)], Some(StepFault::Outcome)),
-    (true, BEFORE, [(A, 6), (B, 2), (S, 1)], Some(StepFault::Outcome)),
+    (
+        true,
+        BEFORE,
+        [(A, 4), (B, 3), (S, 3)],
+        Some(StepFault::Outcome),
+    ),
+    (
+        true,
+        BEFORE,
+        [(A, 6), (B, 2), (S, 1)],
+        Some(StepFault::Outcome),
+    ),
     // Another order, an item less or more, and other destinations.
     (true, BEFORE, TURNED, Some(StepFault::Outcome)),
-    (true, BEFORE, [(A, 5), (B, 3), (Who::None, 0)], Some(StepFault::Outcome)),
-    (true, [(A, 5), (B, 3), (Who::None, 0)], BEFORE, Some(StepFault::Outcome)),
-    (true, BEFORE, [(A, 5), (S, 3), (B, 2)], Some(StepFault::Outcome)),
-    (true, BEFORE, [(Who::Channel, 5), (B, 3), (S, 2)], Some(StepFault::Outcome)),
-    (true, [(A, 5), (Who::None, 0), (S, 2)], [(A, 4), (Who::None, 0), (S, 2)], Some(StepFault::Outcome)),
+    (
+        true,
+        BEFORE,
+        [(A, 5), (B, 3), (Who::None, 0)],
+        Some(StepFault::Outcome),
+    ),
+    (
+        true,
+        [(A, 5), (B, 3), (Who::None, 0)],
+        BEFORE,
+        Some(StepFault::Outcome),
+    ),
+    (
+        true,
+        BEFORE,
+        [(A, 5), (S, 3), (B, 2)],
+        Some(StepFault::Outcome),
+    ),
+    (
+        true,
+        BEFORE,
+        [(Who::Channel, 5), (B, 3), (S, 2)],
+        Some(StepFault::Outcome),
+    ),
+    (
+        true,
+        [(A, 5), (Who::None, 0), (S, 2)],
+        [(A, 4), (Who::None, 0), (S, 2)],
+        Some(StepFault::Outcome),
+    ),
 ];
 
 #[test]
 fn payments(rt: HostRuntime) -> Result<(), Fail> {
     for (by_first, from, to, fault) in PAYMENTS {
-        assert_eq!(rt; pay_fault(rt.alloc(), by_first, &from, &to)?, fault, "{from:?} to {to:?}");
+        assert_eq!(rt;
+            pay_fault(rt.alloc(), by_first, &from, &to)?,
+            fault,
+            "{from:?} to {to:?}"
+        );
     }
     Ok(())
 }
@@ -177,22 +266,82 @@ const BESIDES: [(bool, Beside, Beside, Option<StepFault>); 19] = [
     (false, Beside::Data, Beside::Nothing, Some(StepFault::Data)),
     (false, Beside::Nothing, Beside::Data, Some(StepFault::Data)),
     (false, Beside::Data, Beside::Moved, Some(StepFault::Data)),
-    (false, Beside::Nothing, Beside::Moved, Some(StepFault::Outcome)),
-    (false, Beside::Nothing, Beside::Given(1, 1), Some(StepFault::Outcome)),
-    (false, Beside::Given(1, 1), Beside::Nothing, Some(StepFault::Outcome)),
+    (
+        false,
+        Beside::Nothing,
+        Beside::Moved,
+        Some(StepFault::Outcome),
+    ),
+    (
+        false,
+        Beside::Nothing,
+        Beside::Given(1, 1),
+        Some(StepFault::Outcome),
+    ),
+    (
+        false,
+        Beside::Given(1, 1),
+        Beside::Nothing,
+        Some(StepFault::Outcome),
+    ),
     (false, Beside::Given(2, 1), Beside::Given(1, 2), None),
-    (false, Beside::Given(1, 2), Beside::Given(2, 1), Some(StepFault::Raised)),
-    (false, Beside::Given(1, 2), Beside::Given(1, 1), Some(StepFault::Lowered)),
-    (false, Beside::Given(2, 1), Beside::Given(1, 1), Some(StepFault::Outcome)),
+    (
+        false,
+        Beside::Given(1, 2),
+        Beside::Given(2, 1),
+        Some(StepFault::Raised),
+    ),
+    (
+        false,
+        Beside::Given(1, 2),
+        Beside::Given(1, 1),
+        Some(StepFault::Lowered),
+    ),
+    (
+        false,
+        Beside::Given(2, 1),
+        Beside::Given(1, 1),
+        Some(StepFault::Outcome),
+    ),
     // Guarantees stay as they are.
-    (false, Beside::Listed(7, A, B), Beside::Listed(7, A, B), None),
-    (false, Beside::Listed(7, A, B), Beside::Listed(8, A, B), Some(StepFault::Outcome)),
-    (false, Beside::Listed(7, A, B), Beside::Listed(7, B, A), Some(StepFault::Outcome)),
-    (false, Beside::Listed(7, A, B), Beside::Listed(7, A, Who::None), Some(StepFault::Outcome)),
-    (false, Beside::Listed(7, A, B), Beside::Given(1, 1), Some(StepFault::Outcome)),
+    (
+        false,
+        Beside::Listed(7, A, B),
+        Beside::Listed(7, A, B),
+        None,
+    ),
+    (
+        false,
+        Beside::Listed(7, A, B),
+        Beside::Listed(8, A, B),
+        Some(StepFault::Outcome),
+    ),
+    (
+        false,
+        Beside::Listed(7, A, B),
+        Beside::Listed(7, B, A),
+        Some(StepFault::Outcome),
+    ),
+    (
+        false,
+        Beside::Listed(7, A, B),
+        Beside::Listed(7, A, Who::None),
+        Some(StepFault::Outcome),
+    ),
+    (
+        false,
+        Beside::Listed(7, A, B),
+        Beside::Given(1, 1),
+        Some(StepFault::Outcome),
+    ),
     // Where the outcome is fixed nothing changes.
     (true, Beside::Given(2, 1), Beside::Given(2, 1), None),
-    (true, Beside::Given(2, 1), Beside::Given(1, 2), Some(StepFault::Outcome)),
+    (
+        true,
+        Beside::Given(2, 1),
+        Beside::Given(1, 2),
+        Some(StepFault::Outcome),
+    ),
     (true, Beside::Nothing, Beside::Data, Some(StepFault::Data)),
     (true, Beside::Data, Beside::Moved, Some(StepFault::Data)),
 ];
@@ -200,7 +349,11 @@ const BESIDES: [(bool, Beside, Beside, Option<StepFault>); 19] = [
 #[test]
 fn beside_the_items(rt: HostRuntime) -> Result<(), Fail> {
     for (is_fixed, from, to, fault) in BESIDES {
-        assert_eq!(rt; beside_fault(rt.alloc(), is_fixed, from, to)?, fault, "{from:?} to {to:?}");
+        assert_eq!(rt;
+            beside_fault(rt.alloc(), is_fixed, from, to)?,
+            fault,
+            "{from:?} to {to:?}"
+        );
     }
     Ok(())
 }

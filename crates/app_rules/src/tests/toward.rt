@@ -65,7 +65,10 @@ fn moves(rt: HostRuntime) -> Result<(), Fail> {
     let alloc = rt.alloc();
     for (latest, own, wanted) in MOVES {
         let state = voting(alloc, latest, false)?;
-        assert!(rt; is_wanted(alloc, &state, own, wanted)?, "{latest:?} {own:?}");
+        assert!(rt;
+            is_wanted(alloc, &state, own, wanted)?,
+            "{latest:?} {own:?}"
+        );
     }
     let last = voting(alloc, (8, 0, 0, 5), true)?;
     assert!(rt; is_wanted(alloc, &last, None, None)?);

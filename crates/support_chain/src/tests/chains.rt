@@ -7,13 +7,7 @@ use std::alloc::Global;
 use std::test::Fail;
 
 /// A chain whose marks have these places, and no signatures.
-fn chain_of(
-    alloc: Global,
-    n: u8,
-    app: u8,
-    states: &[Parts],
-    places: &[u8],
-) -> Result<Chain, Fail> {
+fn chain_of(alloc: Global, n: u8, app: u8, states: &[Parts], places: &[u8]) -> Result<Chain, Fail> {
     let fixed = fixed_of(alloc, n, app)?;
     let mut rows = Vec::new(alloc);
     for parts in states {
@@ -101,9 +95,24 @@ const PAIRS: [(&[Parts], &[u8], usize, Answer); 34] = [
     // The second hasn't had a turn yet.
     (&[S0], &[0, 0], ALL, Err(SupportFault::Length)),
     // A state that doesn't follow, before marks.
-    (&[S0, (1, false, 0, 6, 2)], &[0, 1], ALL, Err(SupportFault::Step(1, StepFault::Outcome))),
-    (&[S3, (4, false, 0, 6, 2)], &[1, 0], ALL, Err(SupportFault::Step(1, StepFault::Raised))),
-    (&[F6, (7, false, 0, 4, 4)], &[NOWHERE, 1], 0, Err(SupportFault::Step(1, StepFault::AfterFinal))),
+    (
+        &[S0, (1, false, 0, 6, 2)],
+        &[0, 1],
+        ALL,
+        Err(SupportFault::Step(1, StepFault::Outcome)),
+    ),
+    (
+        &[S3, (4, false, 0, 6, 2)],
+        &[1, 0],
+        ALL,
+        Err(SupportFault::Step(1, StepFault::Raised)),
+    ),
+    (
+        &[F6, (7, false, 0, 4, 4)],
+        &[NOWHERE, 1],
+        0,
+        Err(SupportFault::Step(1, StepFault::AfterFinal)),
+    ),
     // A mark that verifies nothing: the least participant's.
     (&[S4], &[0, 0], 0, Err(SupportFault::Signature(0))),
     (&[S4], &[0, 0], 1, Err(SupportFault::Signature(1))),
@@ -121,44 +130,78 @@ fn chains_of_two(rt: HostRuntime) -> Result<(), Fail> {
     let alloc = rt.alloc();
     for (states, places, unverified, answer) in PAIRS {
         let chain = chain_of(alloc, 2, 1, states, places)?;
-        assert_eq!(rt; answer_of(alloc, &chain, unverified)?, answer, "{states:?} {places:?}");
+        assert_eq!(rt;
+            answer_of(alloc, &chain, unverified)?,
+            answer,
+            "{states:?} {places:?}"
+        );
     }
     Ok(())
 }
 
 // States of a channel of three whose outcome is fixed.
-const T1: Parts = (1, false, 0, 5, 3);
+const U1: Parts = (1, false, 0, 5, 3);
 
-const T2: Parts = (2, false, 0, 5, 3);
+const U2: Parts = (2, false, 0, 5, 3);
 
-const T3: Parts = (3, false, 0, 5, 3);
+const U3: Parts = (3, false, 0, 5, 3);
 
-const T7: Parts = (7, false, 0, 5, 3);
+const U7: Parts = (7, false, 0, 5, 3);
 
-const T8: Parts = (8, false, 0, 5, 3);
+const U8: Parts = (8, false, 0, 5, 3);
 
-const X8: Parts = (8, false, 0, 6, 3);
+const V8: Parts = (8, false, 0, 6, 3);
 
-const T9: Parts = (9, false, 0, 5, 3);
+const U9: Parts = (9, false, 0, 5, 3);
 
-const X9: Parts = (9, false, 0, 6, 3);
+const V9: Parts = (9, false, 0, 6, 3);
 
-const T10: Parts = (10, false, 0, 5, 3);
+const U10: Parts = (10, false, 0, 5, 3);
 
 const TRIPLES: [(&[Parts], &[u8], usize, Answer); 12] = [
-    (&[T7, T8, T9], &[2, 0, 1], ALL, Ok(9)),
-    (&[T8, T9], &[1, 0, 0], ALL, Ok(9)),
-    (&[T2], &[0, 0, 0], ALL, Ok(2)),
-    (&[T1], &[0, 0, 0], ALL, Err(SupportFault::Length)),
-    (&[T1, T2, T3], &[2, 0, 1], ALL, Ok(3)),
-    (&[T7, T8, T9, T10], &[2, 3, 1], ALL, Err(SupportFault::Length)),
-    (&[T7, T8, T10], &[2, 2, 1], ALL, Err(SupportFault::Turn(2))),
-    (&[T7, X8, X9], &[2, 0, 1], ALL, Err(SupportFault::Step(1, StepFault::Outcome))),
-    (&[T7, T8, X9], &[2, 0, 1], ALL, Err(SupportFault::Step(2, StepFault::Outcome))),
+    (&[U7, U8, U9], &[2, 0, 1], ALL, Ok(9)),
+    (&[U8, U9], &[1, 0, 0], ALL, Ok(9)),
+    (&[U2], &[0, 0, 0], ALL, Ok(2)),
+    (&[U1], &[0, 0, 0], ALL, Err(SupportFault::Length)),
+    (&[U1, U2, U3], &[2, 0, 1], ALL, Ok(3)),
+    (
+        &[U7, U8, U9, U10],
+        &[2, 3, 1],
+        ALL,
+        Err(SupportFault::Length),
+    ),
+    (&[U7, U8, U10], &[2, 2, 1], ALL, Err(SupportFault::Turn(2))),
+    (
+        &[U7, V8, V9],
+        &[2, 0, 1],
+        ALL,
+        Err(SupportFault::Step(1, StepFault::Outcome)),
+    ),
+    (
+        &[U7, U8, V9],
+        &[2, 0, 1],
+        ALL,
+        Err(SupportFault::Step(2, StepFault::Outcome)),
+    ),
     // The third's last turn is 8.
-    (&[T7, T8, T9], &[2, 0, 0], ALL, Err(SupportFault::Signature(2))),
-    (&[T7, T8, T9], &[2, 0, 1], 1, Err(SupportFault::Signature(1))),
-    (&[T7, T8, T9], &[1, 0, 0], 1, Err(SupportFault::Signature(0))),
+    (
+        &[U7, U8, U9],
+        &[2, 0, 0],
+        ALL,
+        Err(SupportFault::Signature(2)),
+    ),
+    (
+        &[U7, U8, U9],
+        &[2, 0, 1],
+        1,
+        Err(SupportFault::Signature(1)),
+    ),
+    (
+        &[U7, U8, U9],
+        &[1, 0, 0],
+        1,
+        Err(SupportFault::Signature(0)),
+    ),
 ];
 
 #[test]
@@ -166,7 +209,11 @@ fn chains_of_three(rt: HostRuntime) -> Result<(), Fail> {
     let alloc = rt.alloc();
     for (states, places, unverified, answer) in TRIPLES {
         let chain = chain_of(alloc, 3, 2, states, places)?;
-        assert_eq!(rt; answer_of(alloc, &chain, unverified)?, answer, "{states:?} {places:?}");
+        assert_eq!(rt;
+            answer_of(alloc, &chain, unverified)?,
+            answer,
+            "{states:?} {places:?}"
+        );
     }
     Ok(())
 }

@@ -36,35 +36,131 @@ fn step_fault(
 /// The number of people, the application (0 consensus, 1 payment, 2 fixed), the states before and after, and the fault.
 const STEPS: [(u8, u8, Parts, Parts, Option<StepFault>); 26] = [
     // A final state is followed by final states alone, whatever else is broken.
-    (2, 1, (6, true, 0, 5, 3), (7, false, 0, 5, 3), Some(StepFault::AfterFinal)),
-    (2, 1, (6, true, 0, 5, 3), (3, false, 9, 9, 9), Some(StepFault::AfterFinal)),
+    (
+        2,
+        1,
+        (6, true, 0, 5, 3),
+        (7, false, 0, 5, 3),
+        Some(StepFault::AfterFinal),
+    ),
+    (
+        2,
+        1,
+        (6, true, 0, 5, 3),
+        (3, false, 9, 9, 9),
+        Some(StepFault::AfterFinal),
+    ),
     (2, 1, (6, true, 0, 5, 3), (7, true, 0, 5, 3), None),
     // No state below turn 2n is final.
-    (2, 1, (2, false, 0, 5, 3), (3, true, 0, 5, 3), Some(StepFault::EarlyFinal)),
-    (3, 2, (4, false, 0, 5, 3), (5, true, 9, 6, 3), Some(StepFault::EarlyFinal)),
-    (2, 1, (2, true, 0, 5, 3), (3, true, 0, 5, 3), Some(StepFault::EarlyFinal)),
+    (
+        2,
+        1,
+        (2, false, 0, 5, 3),
+        (3, true, 0, 5, 3),
+        Some(StepFault::EarlyFinal),
+    ),
+    (
+        3,
+        2,
+        (4, false, 0, 5, 3),
+        (5, true, 9, 6, 3),
+        Some(StepFault::EarlyFinal),
+    ),
+    (
+        2,
+        1,
+        (2, true, 0, 5, 3),
+        (3, true, 0, 5, 3),
+        Some(StepFault::EarlyFinal),
+    ),
     (2, 1, (3, false, 0, 5, 3), (4, true, 0, 5, 3), None),
     (3, 2, (5, false, 0, 5, 3), (6, true, 0, 5, 3), None),
     // The states below turn 2n repeat the first.
     (2, 1, (0, false, 0, 5, 3), (1, false, 0, 5, 3), None),
     (2, 1, (2, false, 0, 5, 3), (3, false, 0, 5, 3), None),
-    (2, 1, (0, false, 0, 5, 3), (1, false, 0, 6, 2), Some(StepFault::Outcome)),
-    (2, 1, (2, false, 0, 5, 3), (3, false, 0, 6, 2), Some(StepFault::Outcome)),
-    (2, 1, (2, false, 0, 5, 3), (3, false, 9, 5, 3), Some(StepFault::Data)),
-    (2, 1, (2, false, 0, 5, 3), (3, false, 9, 6, 2), Some(StepFault::Data)),
+    (
+        2,
+        1,
+        (0, false, 0, 5, 3),
+        (1, false, 0, 6, 2),
+        Some(StepFault::Outcome),
+    ),
+    (
+        2,
+        1,
+        (2, false, 0, 5, 3),
+        (3, false, 0, 6, 2),
+        Some(StepFault::Outcome),
+    ),
+    (
+        2,
+        1,
+        (2, false, 0, 5, 3),
+        (3, false, 9, 5, 3),
+        Some(StepFault::Data),
+    ),
+    (
+        2,
+        1,
+        (2, false, 0, 5, 3),
+        (3, false, 9, 6, 2),
+        Some(StepFault::Data),
+    ),
     (2, 1, (2, false, 9, 5, 3), (3, false, 9, 5, 3), None),
     // So does a final state.
-    (2, 1, (6, false, 0, 5, 3), (7, true, 0, 6, 2), Some(StepFault::Outcome)),
-    (2, 1, (6, false, 0, 5, 3), (7, true, 9, 6, 2), Some(StepFault::Data)),
+    (
+        2,
+        1,
+        (6, false, 0, 5, 3),
+        (7, true, 0, 6, 2),
+        Some(StepFault::Outcome),
+    ),
+    (
+        2,
+        1,
+        (6, false, 0, 5, 3),
+        (7, true, 9, 6, 2),
+        Some(StepFault::Data),
+    ),
     (2, 1, (6, false, 9, 5, 3), (7, true, 9, 5, 3), None),
     // From turn 2n on the application decides. The mover has the turn of the state after.
     (2, 1, (3, false, 0, 5, 3), (4, false, 0, 4, 4), None),
-    (2, 1, (4, false, 0, 5, 3), (5, false, 0, 4, 4), Some(StepFault::Lowered)),
+    (
+        2,
+        1,
+        (4, false, 0, 5, 3),
+        (5, false, 0, 4, 4),
+        Some(StepFault::Lowered),
+    ),
     (2, 1, (4, false, 0, 5, 3), (5, false, 0, 6, 2), None),
-    (2, 1, (5, false, 0, 5, 3), (6, false, 0, 6, 2), Some(StepFault::Raised)),
-    (2, 0, (5, false, 0, 5, 3), (6, false, 0, 6, 2), Some(StepFault::Outcome)),
-    (3, 2, (6, false, 0, 5, 3), (7, false, 0, 6, 2), Some(StepFault::Outcome)),
-    (3, 2, (6, false, 0, 5, 3), (7, false, 9, 6, 2), Some(StepFault::Data)),
+    (
+        2,
+        1,
+        (5, false, 0, 5, 3),
+        (6, false, 0, 6, 2),
+        Some(StepFault::Raised),
+    ),
+    (
+        2,
+        0,
+        (5, false, 0, 5, 3),
+        (6, false, 0, 6, 2),
+        Some(StepFault::Outcome),
+    ),
+    (
+        3,
+        2,
+        (6, false, 0, 5, 3),
+        (7, false, 0, 6, 2),
+        Some(StepFault::Outcome),
+    ),
+    (
+        3,
+        2,
+        (6, false, 0, 5, 3),
+        (7, false, 9, 6, 2),
+        Some(StepFault::Data),
+    ),
     // The turn of the state before isn't looked at.
     (2, 1, (40, false, 0, 5, 3), (8, false, 0, 4, 4), None),
 ];
@@ -72,7 +168,11 @@ const STEPS: [(u8, u8, Parts, Parts, Option<StepFault>); 26] = [
 #[test]
 fn steps(rt: HostRuntime) -> Result<(), Fail> {
     for (n, app, from, to, fault) in STEPS {
-        assert_eq!(rt; step_fault(rt.alloc(), n, app, &from, &to)?, fault, "{from:?} to {to:?}");
+        assert_eq!(rt;
+            step_fault(rt.alloc(), n, app, &from, &to)?,
+            fault,
+            "{from:?} to {to:?}"
+        );
     }
     Ok(())
 }

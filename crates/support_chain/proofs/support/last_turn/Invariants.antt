@@ -1,4 +1,4 @@
-use Rattle.std.proofs.Common.{◌≡◌, ◌≤◌}
+use Rattle.std.proofs.Common.{◌≡◌}
 use Rattle.channel_model.specs.Chains as rows
 use Rattle.support_chain.proofs.support.last_turn.Given as goal
 
