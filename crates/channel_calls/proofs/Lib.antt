@@ -1,3 +1,4 @@
 pub mod Names
 pub mod Legality
 pub mod Conservation
+pub mod Rowing

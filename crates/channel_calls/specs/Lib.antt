@@ -1,4 +1,5 @@
 pub mod Refusing
+pub mod Rows
 pub mod Flows
 pub mod Replies
 pub mod History
