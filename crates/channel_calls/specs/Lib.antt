@@ -3,3 +3,6 @@ pub mod Rows
 pub mod Flows
 pub mod Replies
 pub mod History
+pub mod Spelling
+pub mod Limits
+pub mod Reading
