@@ -1,6 +1,6 @@
 //! What answers a challenge: a respond and a refute.
 
-ghost use Rattle.std.specs.Prelude.{◌≡◌, ◌<◌, ◌^◌};
+ghost use Rattle.std.specs.Prelude.{◌≡◌, ◌<◌, ◌^◌, IfOk};
 ghost use Rattle.std.specs.Option.{option_map};
 ghost use Rattle.std.specs.Result.{result_err};
 ghost use Rattle.channel_model.specs.Chains.{mover};
@@ -48,7 +48,8 @@ pub fn respond(
     next: &Signed,
 ) -> Result<Row, Refusal>
     requires { (row_or_blank (option_map (λ m. m.now) row)).turn < 2 ^ 48 }
-    ensures { result ≡ replies.respond real (row_or_blank (option_map (λ m. m.now) row.entry)) now fixed.now from.now next.now }
+    ensures answer { result ≡ replies.respond real (row_or_blank (option_map (λ m. m.now) row.entry)) now fixed.now from.now next.now }
+    ensures small { IfOk result (λ new. new.turn < 2 ^ 48) }
 {
     respond_with(row, now, fixed, from, next, is_signed_well(fixed, next))
 }
@@ -63,7 +64,8 @@ pub fn respond_with(
     signed: bool,
 ) -> Result<Row, Refusal>
     requires { (row_or_blank (option_map (λ m. m.now) row)).turn < 2 ^ 48 }
-    ensures { result ≡ replies.respond_with real (row_or_blank (option_map (λ m. m.now) row.entry)) now fixed.now from.now next.now signed }
+    ensures answer { result ≡ replies.respond_with real (row_or_blank (option_map (λ m. m.now) row.entry)) now fixed.now from.now next.now signed }
+    ensures small { IfOk result (λ new. new.turn < 2 ^ 48) }
 {
     let row = found(row);
     if mode(row.deadline, now) != Standing::Challenged {
@@ -92,7 +94,8 @@ pub fn respond_with(
 /// Answers a challenge with a newer state that the challenger itself signed: the recorded turn stays, and the channel
 /// stands open.
 pub fn refute(row: Option<&Row>, now: u64, fixed: &Fixed, next: &Signed) -> Result<Row, Refusal>
-    ensures { result ≡ replies.refute real (row_or_blank (option_map (λ m. m.now) row.entry)) now fixed.now next.now }
+    ensures answer { result ≡ replies.refute real (row_or_blank (option_map (λ m. m.now) row.entry)) now fixed.now next.now }
+    ensures kept { IfOk result (λ new. new.turn ≡ (row_or_blank (option_map (λ m. m.now) row.entry)).turn) }
 {
     refute_with(row, now, fixed, next, is_signed_well(fixed, next))
 }
@@ -105,7 +108,8 @@ pub fn refute_with(
     next: &Signed,
     signed: bool,
 ) -> Result<Row, Refusal>
-    ensures { result ≡ replies.refute_with (row_or_blank (option_map (λ m. m.now) row.entry)) now fixed.now next.now signed }
+    ensures answer { result ≡ replies.refute_with (row_or_blank (option_map (λ m. m.now) row.entry)) now fixed.now next.now signed }
+    ensures kept { IfOk result (λ new. new.turn ≡ (row_or_blank (option_map (λ m. m.now) row.entry)).turn) }
 {
     let row = found(row);
     if mode(row.deadline, now) != Standing::Challenged {

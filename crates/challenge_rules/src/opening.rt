@@ -1,6 +1,6 @@
 //! Challenges.
 
-ghost use Rattle.std.specs.Prelude.{◌≡◌, ◌≤◌, ◌^◌, Bool, List, Some, length};
+ghost use Rattle.std.specs.Prelude.{◌≡◌, ◌≤◌, ◌<◌, ◌^◌, Bool, List, Some, length, IfOk};
 ghost use Rattle.std.specs.Option.{option_map};
 ghost use Rattle.channel_model.specs.Rules.{newest};
 ghost use Rattle.channel_model.specs.Support.{support_of};
@@ -28,7 +28,8 @@ fn is_stale(standing: Standing, recorded: u64, turn: u64) -> bool
 fn after_challenge(now: u64, chain: &Chain, last: &State, challenger: u8) -> Row
     requires soon { now ≤ 2 ^ 62 }
     requires last { newest chain.now.states ≡ Some last.now }
-    ensures { result ≡ after_challenge real now chain.now challenger }
+    ensures row { result ≡ after_challenge real now chain.now challenger }
+    ensures small { result.turn < 2 ^ 48 }
 {
     Row {
         turn: last.turn(),
@@ -49,7 +50,8 @@ fn challenged(
     signed: bool,
 ) -> Result<Row, Refusal>
     requires { now ≤ 2 ^ 62 }
-    ensures { (verified : List Bool) → support ≡ support_of real chain.now verified → result ≡ replies.challenge_with real row now chain.now challenger verified signed }
+    ensures answer { (verified : List Bool) → support ≡ support_of real chain.now verified → result ≡ replies.challenge_with real row now chain.now challenger verified signed }
+    ensures small { IfOk result (λ new. new.turn < 2 ^ 48) }
 {
     let standing = mode(row.deadline, now);
     if standing == Standing::Final {
@@ -81,7 +83,8 @@ pub fn challenge(
     signature: &[u8],
 ) -> Result<Row, Refusal>
     requires { now ≤ 2 ^ 62 }
-    ensures { result ≡ replies.challenge real (row_or_blank (option_map (λ m. m.now) row.entry)) now chain.now challenger signature.now }
+    ensures answer { result ≡ replies.challenge real (row_or_blank (option_map (λ m. m.now) row.entry)) now chain.now challenger signature.now }
+    ensures small { IfOk result (λ new. new.turn < 2 ^ 48) }
 {
     let signed = is_challenge_signed(chain, challenger, signature);
     challenged(found(row), now, chain, challenger, supports(chain), signed)
@@ -98,7 +101,8 @@ pub fn challenge_with(
 ) -> Result<Row, Refusal>
     requires soon { now ≤ 2 ^ 62 }
     requires each { length verified.now ≡ length chain.now.marks }
-    ensures { result ≡ replies.challenge_with real (row_or_blank (option_map (λ m. m.now) row.entry)) now chain.now challenger verified.now signed }
+    ensures answer { result ≡ replies.challenge_with real (row_or_blank (option_map (λ m. m.now) row.entry)) now chain.now challenger verified.now signed }
+    ensures small { IfOk result (λ new. new.turn < 2 ^ 48) }
 {
     let support = supports_with(chain, verified);
     challenged(found(row), now, chain, challenger, support, signed)

@@ -1,6 +1,6 @@
 //! What a supported chain alone brings about: a checkpoint and a conclude.
 
-ghost use Rattle.std.specs.Prelude.{◌≡◌, ◌+◌, ◌<◌, ◌^◌, Bool, List, Some, length};
+ghost use Rattle.std.specs.Prelude.{◌≡◌, ◌+◌, ◌<◌, ◌^◌, Bool, List, Some, length, IfOk};
 ghost use Rattle.std.specs.Option.{option_map};
 ghost use Rattle.channel_model.specs.Rules.{newest};
 ghost use Rattle.channel_model.specs.Support.{support_of};
@@ -31,7 +31,8 @@ fn first_unfinished(i: usize, states: &[State]) -> Option<usize>
 /// The row that a conclude with a chain of this last state makes.
 fn after_conclude(row: &Row, now: u64, chain: &Chain, last: &State) -> Row
     requires { newest chain.now.states ≡ Some last.now }
-    ensures { result ≡ after_conclude real now chain.now row.now }
+    ensures row { result ≡ after_conclude real now chain.now row.now }
+    ensures small { result.turn < 2 ^ 48 }
 {
     Row {
         turn: last.turn(),
@@ -49,7 +50,8 @@ fn checkpointed(
     chain: &Chain,
     support: Result<u64, SupportFault>,
 ) -> Result<Row, Refusal>
-    ensures { (verified : List Bool) → support ≡ support_of real chain.now verified → result ≡ replies.checkpoint_with real row now chain.now verified }
+    ensures answer { (verified : List Bool) → support ≡ support_of real chain.now verified → result ≡ replies.checkpoint_with real row now chain.now verified }
+    ensures small { IfOk result (λ new. new.turn < 2 ^ 48) }
 {
     if mode(row.deadline, now) == Standing::Final {
         return Err(Refusal::IsFinal);
@@ -73,7 +75,8 @@ fn checkpointed(
 /// Records a newer supported turn: the channel stands open.
 #[tactic(auto, unfolding(channel_model::specs::Support::supports))]
 pub fn checkpoint(row: Option<&Row>, now: u64, chain: &Chain) -> Result<Row, Refusal>
-    ensures { result ≡ replies.checkpoint real (row_or_blank (option_map (λ m. m.now) row.entry)) now chain.now }
+    ensures answer { result ≡ replies.checkpoint real (row_or_blank (option_map (λ m. m.now) row.entry)) now chain.now }
+    ensures small { IfOk result (λ new. new.turn < 2 ^ 48) }
 {
     checkpointed(found(row), now, chain, supports(chain))
 }
@@ -86,7 +89,8 @@ pub fn checkpoint_with(
     verified: &[bool],
 ) -> Result<Row, Refusal>
     requires { length verified.now ≡ length chain.now.marks }
-    ensures { result ≡ replies.checkpoint_with real (row_or_blank (option_map (λ m. m.now) row.entry)) now chain.now verified.now }
+    ensures answer { result ≡ replies.checkpoint_with real (row_or_blank (option_map (λ m. m.now) row.entry)) now chain.now verified.now }
+    ensures small { IfOk result (λ new. new.turn < 2 ^ 48) }
 {
     checkpointed(found(row), now, chain, supports_with(chain, verified))
 }
@@ -98,7 +102,8 @@ fn concluded(
     chain: &Chain,
     support: Result<u64, SupportFault>,
 ) -> Result<Row, Refusal>
-    ensures { (verified : List Bool) → support ≡ support_of real chain.now verified → result ≡ replies.conclude_with real row now chain.now verified }
+    ensures answer { (verified : List Bool) → support ≡ support_of real chain.now verified → result ≡ replies.conclude_with real row now chain.now verified }
+    ensures small { IfOk result (λ new. new.turn < 2 ^ 48) }
 {
     if mode(row.deadline, now) == Standing::Final {
         return Err(Refusal::IsFinal);
@@ -119,7 +124,8 @@ fn concluded(
 /// Ends the channel at once with a supported chain of final states.
 #[tactic(auto, unfolding(channel_model::specs::Support::supports))]
 pub fn conclude(row: Option<&Row>, now: u64, chain: &Chain) -> Result<Row, Refusal>
-    ensures { result ≡ replies.conclude real (row_or_blank (option_map (λ m. m.now) row.entry)) now chain.now }
+    ensures answer { result ≡ replies.conclude real (row_or_blank (option_map (λ m. m.now) row.entry)) now chain.now }
+    ensures small { IfOk result (λ new. new.turn < 2 ^ 48) }
 {
     concluded(found(row), now, chain, supports(chain))
 }
@@ -132,7 +138,8 @@ pub fn conclude_with(
     verified: &[bool],
 ) -> Result<Row, Refusal>
     requires { length verified.now ≡ length chain.now.marks }
-    ensures { result ≡ replies.conclude_with real (row_or_blank (option_map (λ m. m.now) row.entry)) now chain.now verified.now }
+    ensures answer { result ≡ replies.conclude_with real (row_or_blank (option_map (λ m. m.now) row.entry)) now chain.now verified.now }
+    ensures small { IfOk result (λ new. new.turn < 2 ^ 48) }
 {
     concluded(found(row), now, chain, supports_with(chain, verified))
 }
