@@ -8,8 +8,8 @@ ghost use Rattle.channel_calls.specs.Rows.{row_or_blank, after_conclude};
 ghost use Rattle.channel_calls.specs.Replies as replies;
 ghost use Rattle.support_chain.specs.Real.{real};
 
-use crate::top::{digest_of, digest_of_outcome, found, newest};
-use channel_calls::{Refusal, Row};
+use crate::top::{digest_of, digest_of_outcome, found};
+use channel_calls::{Refusal, Row, newest};
 use deadline_clock::{Standing, mode};
 use nitro_bytes::{Chain, State, SupportFault};
 use support_chain::{supports, supports_with};

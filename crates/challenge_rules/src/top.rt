@@ -1,14 +1,13 @@
-//! The row that there is, and the last state of a chain.
+//! The row that there is, and what is signed of a chain's last state.
 
 ghost use Rattle.std.specs.Prelude.{◌≡◌, Some};
 ghost use Rattle.std.specs.Option.{option_map};
 ghost use Rattle.nitro_bytes.specs.Parts.{StateParts};
-ghost use Rattle.channel_model.specs.Chains as rows;
 ghost use Rattle.channel_model.specs.Rules.{newest, signs_challenge};
 ghost use Rattle.channel_calls.specs.Rows.{row_or_blank};
 ghost use Rattle.support_chain.specs.Real.{real};
 
-use channel_calls::Row;
+use channel_calls::{Row, newest};
 use channel_name::{challenge_message, channel_name, outcome_digest, state_digest};
 use lms_verify::verifies;
 use nitro_bytes::{Chain, Fixed, Name, Outcome, State};
@@ -26,25 +25,6 @@ pub(crate) fn found(row: Option<&Row>) -> Row
             outcome_digest: [0; 32],
             challenger: 0,
         },
-    }
-}
-
-fn last_of<'a>(first: &'a State, rest: &'a [State]) -> &'a State
-    ensures { result.now ≡ rows.last_of first.now rest.now }
-{
-    match rest {
-        [] => first,
-        [next, rest @ ..] => last_of(next, rest),
-    }
-}
-
-/// The last state of a row of states, if there is one.
-pub(crate) fn newest(states: &[State]) -> Option<&State>
-    ensures { option_map (λ m. m.now) result ≡ newest states.now }
-{
-    match states {
-        [] => None,
-        [first, rest @ ..] => Some(last_of(first, rest)),
     }
 }
 

@@ -10,6 +10,7 @@ mod laws;
 mod reading;
 mod refusal;
 mod row;
+mod states;
 mod writing;
 
 pub use balances::{deposited, held, held_by_all, paid, paid_to_all};
@@ -24,4 +25,5 @@ pub use laws::{
 pub use reading::{read_call, read_message};
 pub use refusal::{Refusal, Reply};
 pub use row::Row;
+pub use states::newest;
 pub use writing::{write_call, write_message};
