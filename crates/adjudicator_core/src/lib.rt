@@ -2,5 +2,6 @@
 #![tactic(auto)]
 
 mod adjudicator;
+mod rows;
 
 pub use adjudicator::{Adjudicator, LAST_TIME};

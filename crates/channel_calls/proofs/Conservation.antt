@@ -1,5 +1,5 @@
 -- Nothing is lost or made.
-use Rattle.std.proofs.Common.{◌≡◌, ℕ, ◌+◌, ◌≤◌, ◌<◌, ◌^◌, List, [], ◌∷◌, ◌++◌, Bool, true, false, cond, Option, Some, None, refl, sym, ◌∙◌, ap, arith, append_assoc, append-nil}
+use Rattle.std.proofs.Common.{◌≡◌, ℕ, ◌+◌, ◌≤◌, ◌<◌, ◌^◌, List, [], ◌∷◌, ◌++◌, true, cond, Option, Some, None, refl, sym, ◌∙◌, ap, arith, append_assoc, append-nil}
 use Rattle.std.proofs.lemmas.List.{reverse-append}
 use Rattle.std.proofs.lemmas.List.Sums.{sum_by-cons, sum_by-append}
 use Rattle.std.specs.Prelude.{◌-◌, sum_by, reverse}
@@ -7,6 +7,7 @@ use Rattle.nitro_bytes.specs.Outcomes.{is_same}
 use Rattle.nitro_bytes.specs.declared.value.Dest.{Dest}
 use Rattle.nitro_bytes.specs.declared.value.Dest.TheVariants.{Person, Channel}
 use Rattle.channel_calls.specs.Flows.{is_person, carries, comes_from, is_outside, brings, takes, enters, into, out_of, held_in, paid_in, deposited_in, AreCovered, is_among, distinct, channel_of, person_of, source_of, channels_named, persons_named, AreConserved, held_by_all, paid_to_all, AreWithinAmounts}
+use Rattle.channel_model.specs.Rules.{Rules}
 use Rattle.channel_calls.specs.History.{Legal, newest_first, flow_of, flows_of, IsConserved, IsWithinDeposits}
 use Rattle.channel_calls.specs.declared.funds.Flow.{Flow}
 use Rattle.channel_calls.specs.declared.entry.Entry.{Entry}
@@ -136,13 +137,13 @@ pub deposit_fits : (fs : List Flow) (asset : ℕ) → AreWithinAmounts fs → de
 deposit_fits fs asset w = w.deposits asset
 
 -- over every legal history
-pub conserved : (h : List Entry) → Legal h → IsConserved h
-conserved h legal = flows_conserved (flows_of h) (covered h legal)
+pub conserved : (r : Rules) (h : List Entry) → Legal r h → IsConserved h
+conserved r h legal = flows_conserved (flows_of h) (covered r h legal)
 
-pub within_deposits : (h : List Entry) → Legal h → IsWithinDeposits h
-within_deposits h legal = record {
-  held = λ channel asset. held_le (flows_of h) (covered h legal) channel asset;
-  paid = λ person asset. paid_le (flows_of h) (covered h legal) person asset;
+pub within_deposits : (r : Rules) (h : List Entry) → Legal r h → IsWithinDeposits h
+within_deposits r h legal = record {
+  held = λ channel asset. held_le (flows_of h) (covered r h legal) channel asset;
+  paid = λ person asset. paid_le (flows_of h) (covered r h legal) person asset;
 }
 
 -- what a flow pays to a person
@@ -176,8 +177,8 @@ persons_fit fs asset w = omega (arith, paid_to_persons fs asset, all_paid_fits f
 pub held_is_left : (fs : List Flow) (asset : ℕ) → AreWithinAmounts fs → held_by_all fs asset + paid_to_all fs asset ≡ deposited_in fs asset
 held_is_left fs asset w = omega (arith, flows_conserved fs w.covered asset)
 
-pub within_amounts : (h : List Entry) → Legal h → AreWithinAmounts (flows_of h)
-within_amounts h legal = record { covered = covered h legal; deposits = deposits_fit h legal }
+pub within_amounts : (r : Rules) (h : List Entry) → Legal r h → AreWithinAmounts (flows_of h)
+within_amounts r h legal = record { covered = covered r h legal; deposits = deposits_fit r h legal }
 
 -- sums over flows don't tell the order of the entries
 flows_of-append : (g h : List Entry) → flows_of (g ++ h) ≡ flows_of g ++ flows_of h
@@ -199,8 +200,8 @@ sum_in_time f (e ∷ later) =
       sum_by-append f (flow_of e.op e.reply) (flows_of later),
     )
 
-pub within_in_time : (h : List Entry) → Legal (newest_first h) → AreWithinAmounts (flows_of h)
-within_in_time h legal = record {
-  covered = λ channel asset. omega (arith, covered (newest_first h) legal channel asset, sum_in_time (takes channel asset) h, sum_in_time (brings (Channel channel) asset) h);
-  deposits = λ asset. omega (arith, deposits_fit (newest_first h) legal asset, sum_in_time (enters asset) h);
+pub within_in_time : (r : Rules) (h : List Entry) → Legal r (newest_first h) → AreWithinAmounts (flows_of h)
+within_in_time r h legal = record {
+  covered = λ channel asset. omega (arith, covered r (newest_first h) legal channel asset, sum_in_time (takes channel asset) h, sum_in_time (brings (Channel channel) asset) h);
+  deposits = λ asset. omega (arith, deposits_fit r (newest_first h) legal asset, sum_in_time (enters asset) h);
 }

@@ -6,12 +6,13 @@ use Rattle.std.specs.Prelude.{◌==◌}
 use Rattle.std.specs.Str.{bytes_eq}
 use Rattle.nitro_bytes.specs.declared.value.Dest.TheVariants.{Person, Channel}
 use Rattle.channel_calls.specs.Flows.{comes_from, brings, takes, held_in, enters, deposited_in, AreCovered, HasMoved}
+use Rattle.channel_model.specs.Rules.{Rules}
 use Rattle.channel_calls.specs.History.{Legal, flow_of, flows_of, deposited_of, reply_to}
 use Rattle.channel_calls.specs.declared.call.Call.TheVariants.{Deposit}
 use Rattle.channel_calls.specs.declared.call.Op.{Op}
 use Rattle.channel_calls.specs.declared.call.Op.TheVariants as ops
 use Rattle.channel_calls.specs.declared.refusal.Reply.{Reply}
-use Rattle.channel_calls.specs.declared.refusal.Reply.TheVariants.{Held, Now, No}
+use Rattle.channel_calls.specs.declared.refusal.Reply.TheVariants.{Held}
 use Rattle.channel_calls.specs.declared.funds.Flow.{Flow}
 use Rattle.channel_calls.specs.declared.entry.Entry.{Entry}
 use Rattle.channel_calls.proofs.Names.{same_bytes}
@@ -60,23 +61,20 @@ covered_push flows f c h channel asset =
 -- the flow of an entry takes no more than its channel holds
 covered_entry : (h : List Entry) (op : Op) (reply : Reply) → AreCovered (flows_of h) → AreCovered (flow_of op reply ++ flows_of h)
 covered_entry h (ops.Call (Deposit channel asset expected amount)) (Held n) c = covered_more (flows_of h) (record { from = None; to = Channel channel; asset = asset; amount = amount }) c tt
-covered_entry h (ops.Call (Deposit channel asset expected amount)) (Now n) c = c
-covered_entry h (ops.Call (Deposit channel asset expected amount)) (No refusal) c = c
-covered_entry h (ops.Time t) reply c = c
+covered_entry h op reply c = c
 
 -- in a legal history no channel pays out more than it received
-pub covered : (h : List Entry) → Legal h → AreCovered (flows_of h)
-covered [] legal = λ channel asset. omega arith
-covered (e ∷ past) legal = covered_entry past e.op e.reply (covered past legal.0)
+pub covered : (r : Rules) (h : List Entry) → Legal r h → AreCovered (flows_of h)
+covered r [] legal = λ channel asset. omega arith
+covered r (e ∷ past) legal = covered_entry past e.op e.reply (covered r past legal.0)
 
 -- a reply leaves what was deposited of an asset within the largest amount
-reply_fits : (h : List Entry) (op : Op) (reply : Reply) (asset : ℕ) → reply ≡ reply_to h op → deposited_of h asset < 2 ^ 64 → deposited_in (flow_of op reply ++ flows_of h) asset < 2 ^ 64
-reply_fits h (ops.Call (Deposit channel kind expected amount)) (Held n) asset r before = grind (arith, common_steps)
-reply_fits h (ops.Call (Deposit channel kind expected amount)) (Now n) asset r before = before
-reply_fits h (ops.Call (Deposit channel kind expected amount)) (No refusal) asset r before = before
-reply_fits h (ops.Time t) reply asset r before = before
+reply_fits : (r : Rules) (h : List Entry) (op : Op) (reply : Reply) (asset : ℕ) → reply ≡ reply_to r h op → deposited_of h asset < 2 ^ 64 → deposited_in (flow_of op reply ++ flows_of h) asset < 2 ^ 64
+unfolding reply_to
+reply_fits r h (ops.Call (Deposit channel kind expected amount)) (Held n) asset is before = grind (arith, common_steps)
+reply_fits r h op reply asset is before = before
 
 -- in a legal history what was deposited of each asset is at most the largest amount
-pub deposits_fit : (h : List Entry) → Legal h → (asset : ℕ) → deposited_of h asset < 2 ^ 64
-deposits_fit [] legal asset = omega arith
-deposits_fit (e ∷ past) legal asset = reply_fits past e.op e.reply asset legal.2 (deposits_fit past legal.0 asset)
+pub deposits_fit : (r : Rules) (h : List Entry) → Legal r h → (asset : ℕ) → deposited_of h asset < 2 ^ 64
+deposits_fit r [] legal asset = omega arith
+deposits_fit r (e ∷ past) legal asset = reply_fits r past e.op e.reply asset legal.2 (deposits_fit r past legal.0 asset)

@@ -1,21 +1,32 @@
--- Histories, the newest entry first: time, flows, balances, replies, and which histories are legal.
-use Rattle.std.specs.Prelude.{◌≡◌, ◌≤◌, ℕ, suc, List, [], ◌∷◌, ◌++◌, length, reverse, Option, Some, None}
+-- Histories, the newest entry first: time, rows, flows, balances, replies, and which histories are legal.
+use Rattle.std.specs.Prelude.{◌≡◌, ◌≤◌, ℕ, suc, ◌+◌, Bool, true, false, ◌&&◌, List, [], ◌∷◌, ◌++◌, length, reverse, Option, Some, None, if◌then◌else◌}
+use Rattle.std.specs.Str.{bytes_eq}
+use Rattle.nitro_bytes.specs.Parts.{FixedParts}
 use Rattle.nitro_bytes.specs.declared.value.Dest.TheVariants.{Channel}
+use Rattle.channel_model.specs.Rules.{Rules}
+use Rattle.deadline_clock.specs.Mode.{mode_at}
+use Rattle.deadline_clock.specs.declared.standing.Standing.{Standing}
 use Rattle.channel_calls.specs.Refusing.{told}
+use Rattle.channel_calls.specs.Rows.{blank, fixed_of, turned}
 use Rattle.channel_calls.specs.Flows.{held_in, paid_in, deposited_in, AreConserved}
 use Rattle.channel_calls.specs.Replies as replies
 use Rattle.channel_calls.specs.declared.call.Call.{Call}
-use Rattle.channel_calls.specs.declared.call.Call.TheVariants.{Deposit}
+use Rattle.channel_calls.specs.declared.call.Call.TheVariants.{Deposit, Challenge, Respond, Refute, Checkpoint, Conclude}
 use Rattle.channel_calls.specs.declared.call.Op.{Op}
 use Rattle.channel_calls.specs.declared.call.Op.TheVariants as ops
 use Rattle.channel_calls.specs.declared.entry.Entry.{Entry}
 use Rattle.channel_calls.specs.declared.funds.Flow.{Flow}
 use Rattle.channel_calls.specs.declared.refusal.Reply.{Reply}
-use Rattle.channel_calls.specs.declared.refusal.Reply.TheVariants.{Held, Now, No}
+use Rattle.channel_calls.specs.declared.refusal.Reply.TheVariants.{Held, Until, Opened, Concluded, Now, No}
+use Rattle.channel_calls.specs.declared.row.Row.{Row}
 
 -- a list in the order of time, the newest first
 abbrev pub newest_first : List Entry → List Entry
 newest_first h = reverse h
+
+abbrev pub is_accepted : Reply → Bool
+is_accepted (No refusal) = false
+is_accepted _ = true
 
 -- ---- time
 
@@ -33,6 +44,31 @@ or_before (Some t) before = t
 abbrev pub now_of : List Entry → ℕ
 now_of [] = 0
 now_of (e ∷ past) = or_before (time_set e.op e.reply) (now_of past)
+
+-- ---- rows
+
+abbrev pub is_named : Rules → List ℕ → Option FixedParts → Bool
+is_named r channel None = false
+is_named r channel (Some fixed) = bytes_eq (r.named fixed) channel
+
+-- the entry turns the channel's row
+abbrev pub turning : Rules → List ℕ → Entry → Bool
+turning r channel e = is_accepted e.reply && is_named r channel (fixed_of e.op)
+
+abbrev pub row : Rules → List ℕ → List Entry → Row
+row r channel [] = blank
+row r channel (e ∷ past) = if turning r channel e then turned r (now_of past) e.op (row r channel past) else row r channel past
+
+-- whether there is a row
+abbrev pub is_recorded : Rules → List ℕ → List Entry → Bool
+is_recorded r channel [] = false
+is_recorded r channel (e ∷ past) = if turning r channel e then true else is_recorded r channel past
+
+abbrev pub row_given : Rules → List ℕ → List Entry → Option Row
+row_given r channel h = if is_recorded r channel h then Some (row r channel h) else None
+
+abbrev pub mode : Rules → List ℕ → List Entry → Standing
+mode r channel h = mode_at (row r channel h).deadline (now_of h)
 
 -- ---- flows
 
@@ -58,20 +94,29 @@ deposited_of h asset = deposited_in (flows_of h) asset
 
 -- ---- replies
 
--- what each call answers after a history
-abbrev pub call_reply : List Entry → Call → Reply
-call_reply h (Deposit channel asset expected amount) = told Held (replies.deposit (held_of h channel asset) (deposited_of h asset) expected amount)
+abbrev pub row_of_fixed : Rules → FixedParts → List Entry → Row
+row_of_fixed r fixed h = row r (r.named fixed) h
 
-abbrev pub reply_to : List Entry → Op → Reply
-reply_to h (ops.Call call) = call_reply h call
-reply_to h (ops.Time t) = told Now (replies.time (now_of h) t)
+-- what each call answers after a history
+abbrev pub call_reply : Rules → List Entry → Call → Reply
+call_reply r h (Deposit channel asset expected amount) = told Held (replies.deposit (held_of h channel asset) (deposited_of h asset) expected amount)
+call_reply r h (Challenge chain who signature) =
+    told (λ new. Until (now_of h + chain.fixed.duration)) (replies.challenge r (row_of_fixed r chain.fixed h) (now_of h) chain who signature)
+call_reply r h (Respond fixed from next) = told (λ new. Opened new.turn) (replies.respond r (row_of_fixed r fixed h) (now_of h) fixed from next)
+call_reply r h (Refute fixed next) = told (λ new. Opened new.turn) (replies.refute r (row_of_fixed r fixed h) (now_of h) fixed next)
+call_reply r h (Checkpoint chain) = told (λ new. Opened new.turn) (replies.checkpoint r (row_of_fixed r chain.fixed h) (now_of h) chain)
+call_reply r h (Conclude chain) = told (λ new. Concluded new.turn) (replies.conclude r (row_of_fixed r chain.fixed h) (now_of h) chain)
+
+unfoldable pub reply_to : Rules → List Entry → Op → Reply
+reply_to r h (ops.Call call) = call_reply r h call
+reply_to r h (ops.Time t) = told Now (replies.time (now_of h) t)
 
 -- ---- legal histories
 
 -- each entry has its number, and the reply that the entries before it give
-abbrev pub Legal : List Entry → Type 0
-Legal [] = Unit {0}
-Legal (e ∷ past) = Legal past × (e.number ≡ suc (length past)) × (e.reply ≡ reply_to past e.op)
+abbrev pub Legal : Rules → List Entry → Type 0
+Legal r [] = Unit {0}
+Legal r (e ∷ past) = Legal r past × (e.number ≡ suc (length past)) × (e.reply ≡ reply_to r past e.op)
 
 -- of each asset, what was deposited is what the channels hold and the persons were paid
 abbrev pub IsConserved : List Entry → Type 0

@@ -1,17 +1,40 @@
-//! Laws over every legal history.
+//! Laws over every legal history, and of the formats. Each function is empty: its contract is the law.
 
 ghost use Rattle.std.specs.Prelude.{List};
+ghost use Rattle.channel_model.specs.Rules.{Rules};
 ghost use Rattle.channel_calls.specs.History.{Legal, IsConserved, IsWithinDeposits};
 ghost use Rattle.channel_calls.specs.declared.entry.Entry.{Entry};
+ghost use Rattle.nitro_bytes.specs.Spelled.{SpelledOnce, WrittenBack, ReadAgain, FrontsFail, TrailingFails};
+ghost use Rattle.channel_calls.specs.Spelling.{call, message};
+ghost use Rattle.channel_calls.specs.Limits.{IsCall, IsMessage};
+ghost use Rattle.channel_calls.specs.Reading.{call_of, message_of};
 
 /// Of each asset, what was deposited is what the channels hold and the persons were paid.
 #[tactic(auto, using(crate::proofs::Conservation::conserved))]
 pub fn every_legal_history_conserves()
-    ensures { (h : List Entry) → Legal h → IsConserved h }
+    ensures { (r : Rules) (h : List Entry) → Legal r h → IsConserved h }
 {}
 
 /// No channel holds, and no person was paid, more of an asset than was deposited of it.
 #[tactic(auto, using(crate::proofs::Conservation::within_deposits))]
 pub fn nobody_holds_more_than_was_deposited()
-    ensures { (h : List Entry) → Legal h → IsWithinDeposits h }
+    ensures { (r : Rules) (h : List Entry) → Legal r h → IsWithinDeposits h }
+{}
+
+/// A call and its bytes determine each other.
+pub fn laws_of_calls()
+    ensures once { SpelledOnce call IsCall }
+    ensures back { WrittenBack call_of call }
+    ensures again { ReadAgain call_of call IsCall }
+    ensures fronts { FrontsFail call_of }
+    ensures trailing { TrailingFails call_of call IsCall }
+{}
+
+/// A message and its bytes determine each other.
+pub fn laws_of_messages()
+    ensures once { SpelledOnce message IsMessage }
+    ensures back { WrittenBack message_of message }
+    ensures again { ReadAgain message_of message IsMessage }
+    ensures fronts { FrontsFail message_of }
+    ensures trailing { TrailingFails message_of message IsMessage }
 {}

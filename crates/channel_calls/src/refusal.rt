@@ -1,8 +1,34 @@
 //! What the adjudicator answers.
 
+use nitro_bytes::{StepFault, SupportFault};
+
 /// Why an op is refused.
 #[derive(Clone, Copy, Debug, PartialEq, Eq)]
 pub enum Refusal {
+    /// The channel is final.
+    IsFinal,
+    /// The chain doesn't support the turn of its last state: its first fault.
+    NotSupported(SupportFault),
+    /// The turn is below the recorded one, or, where a challenge is open, isn't above it: the recorded turn.
+    Stale(u64),
+    /// The challenger is no participant, or its key doesn't verify the signature.
+    BadChallenger,
+    /// No challenge is open.
+    NoChallenge,
+    /// The state isn't the challenged one.
+    WrongState,
+    /// The state doesn't have the turn after the recorded one: the turn that it should have.
+    WrongTurn(u64),
+    /// The key of the state's mover doesn't verify it.
+    BadSignature,
+    /// The state doesn't follow.
+    BadStep(StepFault),
+    /// The turn isn't above the recorded one: the recorded turn.
+    NotNewer(u64),
+    /// The mover of the state isn't the challenger.
+    NotChallengers,
+    /// The place of the first state that isn't final.
+    NotFinalState(usize),
     /// Nothing would be deposited.
     Zero,
     /// The channel holds less than was expected: what it holds.
@@ -20,6 +46,12 @@ pub enum Refusal {
 pub enum Reply {
     /// What the channel then holds of the asset.
     Held(u64),
+    /// A challenge is open, until this time.
+    Until(u64),
+    /// No challenge is open, and this turn is recorded.
+    Opened(u64),
+    /// The channel ends at this turn.
+    Concluded(u64),
     /// The time then.
     Now(u64),
     No(Refusal),

@@ -4,6 +4,7 @@ use Rattle.std.specs.Result.{result_ok}
 use Rattle.hex.specs.Hex.{decode_sized}
 use Rattle.channel_calls.specs.History.{reply_to}
 use Rattle.channel_calls.specs.declared.call.Call.TheVariants.{Deposit}
+use Rattle.support_chain.specs.Real.{real}
 use Rattle.channel_calls.specs.declared.call.Op.{Op}
 use Rattle.channel_calls.specs.declared.call.Op.TheVariants as ops
 use Rattle.channel_calls.specs.declared.entry.Entry.{Entry}
@@ -21,7 +22,7 @@ op_of (steps.Time to) = ops.Time to
 
 -- a history to which caller 0 entered an op
 abbrev pub entered : List Entry → Op → List Entry
-entered past op = record { number = suc (length past); by = 0; op = op; reply = reply_to past op } ∷ past
+entered past op = record { number = suc (length past); by = 0; op = op; reply = reply_to real past op } ∷ past
 
 abbrev pub play : List Step → List Entry
 play steps = fold (λ past step. entered past (op_of step)) [] steps

@@ -1,25 +1,33 @@
 -- The printed text of a history, whose entries are in the order of time.
-use Rattle.std.specs.Prelude.{◌==◌, ◌&&◌, ℕ, List, [], ◌∷◌, ◌++◌, length, Bool, if◌then◌else◌, fold, flat_map, codes}
+use Rattle.std.specs.Prelude.{◌==◌, ◌&&◌, ℕ, List, [], ◌∷◌, ◌++◌, length, Bool, Option, Some, None, if◌then◌else◌, fold, flat_map, codes}
 use Rattle.std.specs.Fmt.{decimal}
 use Rattle.std.specs.List.{list_any}
 use Rattle.std.specs.Str.{bytes_eq}
 use Rattle.std.specs.Ordering.{nat_cmp}
 use Rattle.std.specs.BTreeSet.{insert_key}
 use Rattle.hex.specs.Hex.{encode_lower}
+use Rattle.nitro_bytes.specs.Parts.{FixedParts, StateParts}
+use Rattle.nitro_bytes.specs.Spelling.{fixed}
+use Rattle.nitro_bytes.specs.declared.fault.StepFault.{StepFault}
+use Rattle.nitro_bytes.specs.declared.fault.StepFault.TheVariants as steps
+use Rattle.nitro_bytes.specs.declared.fault.SupportFault.{SupportFault}
+use Rattle.nitro_bytes.specs.declared.fault.SupportFault.TheVariants as supports
 use Rattle.nitro_bytes.specs.declared.value.Dest.{Dest}
 use Rattle.nitro_bytes.specs.declared.value.Dest.TheVariants.{Person, Channel}
+use Rattle.channel_model.specs.Rules.{newest}
+use Rattle.channel_name.specs.Digests.{name_of_channel}
 use Rattle.channel_calls.specs.Flows.{held_in, deposited_in, held_by_all, paid_to_all}
 use Rattle.channel_calls.specs.History.{newest_first, now_of, flows_of}
 use Rattle.channel_calls.specs.declared.call.Call.{Call}
-use Rattle.channel_calls.specs.declared.call.Call.TheVariants.{Deposit}
+use Rattle.channel_calls.specs.declared.call.Call.TheVariants.{Deposit, Challenge, Respond, Refute, Checkpoint, Conclude}
 use Rattle.channel_calls.specs.declared.call.Op.{Op}
 use Rattle.channel_calls.specs.declared.call.Op.TheVariants as ops
 use Rattle.channel_calls.specs.declared.entry.Entry.{Entry}
 use Rattle.channel_calls.specs.declared.funds.Flow.{Flow}
 use Rattle.channel_calls.specs.declared.refusal.Refusal.{Refusal}
-use Rattle.channel_calls.specs.declared.refusal.Refusal.TheVariants.{Zero, Underheld, AssetFull, Backwards, TooLate}
+use Rattle.channel_calls.specs.declared.refusal.Refusal.TheVariants.{IsFinal, NotSupported, Stale, BadChallenger, NoChallenge, WrongState, WrongTurn, BadSignature, BadStep, NotNewer, NotChallengers, NotFinalState, Zero, Underheld, AssetFull, Backwards, TooLate}
 use Rattle.channel_calls.specs.declared.refusal.Reply.{Reply}
-use Rattle.channel_calls.specs.declared.refusal.Reply.TheVariants.{Held, Now, No}
+use Rattle.channel_calls.specs.declared.refusal.Reply.TheVariants.{Held, Until, Opened, Concluded, Now, No}
 
 -- two words with a space between them
 infixr 5 ◌&◌
@@ -32,15 +40,58 @@ ended word = word ++ 10 ∷ []
 
 -- ---- entries
 
+-- a channel by its fixed part, and the turn of a chain's last state, if it has one
+abbrev pub channel_text : FixedParts → List ℕ
+channel_text f = encode_lower (name_of_channel (fixed f))
+
+abbrev pub turn_text : Option StateParts → List ℕ
+turn_text None = codes "-"
+turn_text (Some s) = decimal s.turn
+
 abbrev pub call_text : Call → List ℕ
 call_text (Deposit channel asset expected amount) = codes "deposit" & encode_lower channel & decimal asset & decimal expected & decimal amount
+call_text (Challenge c who signature) = codes "challenge" & channel_text c.fixed & turn_text (newest c.states)
+call_text (Respond f from next) = codes "respond" & channel_text f & decimal next.state.turn
+call_text (Refute f next) = codes "refute" & channel_text f & decimal next.state.turn
+call_text (Checkpoint c) = codes "checkpoint" & channel_text c.fixed & turn_text (newest c.states)
+call_text (Conclude c) = codes "conclude" & channel_text c.fixed & turn_text (newest c.states)
 
 abbrev pub op_text : Op → List ℕ
 op_text (ops.Call call) = call_text call
 op_text (ops.Time t) = codes "time" & decimal t
 
+-- the number of a step's fault
+abbrev pub step_number : StepFault → ℕ
+step_number steps.Outcome = 1
+step_number steps.Data = 2
+step_number steps.Votes = 3
+step_number steps.Proposal = 4
+step_number steps.Raised = 5
+step_number steps.Lowered = 6
+step_number steps.EarlyFinal = 7
+step_number steps.AfterFinal = 8
+
+-- the number of a chain's fault, its place, and the number of the step's fault
+abbrev pub support_text : SupportFault → List ℕ
+support_text supports.Length = codes "1"
+support_text (supports.Turn i) = codes "2" & decimal i
+support_text (supports.Step i fault) = codes "3" & decimal i & decimal (step_number fault)
+support_text (supports.Signature j) = codes "4" & decimal j
+
 -- the number and the name of a refusal, and its value
 abbrev pub refusal_text : Refusal → List ℕ
+refusal_text IsFinal = codes "1 IsFinal"
+refusal_text (NotSupported fault) = codes "2 NotSupported" & support_text fault
+refusal_text (Stale recorded) = codes "3 Stale" & decimal recorded
+refusal_text BadChallenger = codes "4 BadChallenger"
+refusal_text NoChallenge = codes "5 NoChallenge"
+refusal_text WrongState = codes "6 WrongState"
+refusal_text (WrongTurn wanted) = codes "7 WrongTurn" & decimal wanted
+refusal_text BadSignature = codes "8 BadSignature"
+refusal_text (BadStep fault) = codes "9 BadStep" & decimal (step_number fault)
+refusal_text (NotNewer recorded) = codes "10 NotNewer" & decimal recorded
+refusal_text NotChallengers = codes "11 NotChallengers"
+refusal_text (NotFinalState i) = codes "12 NotFinalState" & decimal i
 refusal_text Zero = codes "13 Zero"
 refusal_text (Underheld held) = codes "14 Underheld" & decimal held
 refusal_text (AssetFull deposited) = codes "15 AssetFull" & decimal deposited
@@ -49,6 +100,9 @@ refusal_text TooLate = codes "25 TooLate"
 
 abbrev pub reply_text : Reply → List ℕ
 reply_text (Held n) = codes "ok held" & decimal n
+reply_text (Until n) = codes "ok until" & decimal n
+reply_text (Opened n) = codes "ok open" & decimal n
+reply_text (Concluded n) = codes "ok final" & decimal n
 reply_text (Now n) = codes "ok now" & decimal n
 reply_text (No refusal) = codes "no" & refusal_text refusal
 

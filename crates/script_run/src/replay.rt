@@ -3,6 +3,7 @@
 ghost use Rattle.std.specs.Prelude.{◌≡◌, ◌≤◌, false, length, IfOk};
 ghost use Rattle.channel_calls.specs.History.{Legal, newest_first};
 ghost use Rattle.script_reader.specs.Script.{start, AreChecked, IsChecked};
+ghost use Rattle.support_chain.specs.Real.{real};
 ghost use Rattle.script_run.specs.Play.{name_of, op_of, play};
 
 use adjudicator_core::Adjudicator;
@@ -45,7 +46,7 @@ pub fn play(alloc: Global, steps: &[Step]) -> Result<Vec<Entry>, NoMemory>
     requires few { length steps.now ≤ STEP_LIMIT }
     requires checked { AreChecked (start false) steps.now }
     ensures play { IfOk result (λ history. newest_first history.items ≡ play steps.now) }
-    ensures legal { IfOk result (λ history. Legal (newest_first history.items)) }
+    ensures legal { IfOk result (λ history. Legal real (newest_first history.items)) }
 {
     let mut adjudicator = Adjudicator::make(alloc);
     let mut history = Vec::new(alloc);

@@ -4,6 +4,7 @@ ghost use Rattle.std.specs.Prelude.{◌≡◌, ◌≢◌, ◌≤◌, ◌↔◌, 
 ghost use Rattle.std.specs.Io.KnownBytes.{Keeps, Consumes, Appends, IsAtEnd};
 ghost use Rattle.channel_calls.specs.History.{Legal, newest_first, IsConserved};
 ghost use Rattle.script_reader.specs.Outside.{Rose};
+ghost use Rattle.support_chain.specs.Real.{real};
 ghost use Rattle.script_run.specs.Outside.{AppendsPart};
 ghost use Rattle.script_run.specs.declared.run.Status.{Status};
 ghost use Rattle.script_run.specs.Run.{Given, IsRun, IsSound, given, code_of, EndsAs, rule_text, owed};
@@ -82,7 +83,7 @@ fn run_script(alloc: Global, bytes: &[u8]) -> Result<Ended, NoMemory>
     ensures ends { (given : Given) → IsRun given.words → Consumes given.before given.after bytes.now
         → IsAtEnd given.after → length bytes.now ≤ 4194304
         → IfOk result (λ ended. EndsAs given ended.status ended.report) }
-    ensures legal { IfOk result (λ ended. IfSome ended.report (λ report. Legal (newest_first report.history))) }
+    ensures legal { IfOk result (λ ended. IfSome ended.report (λ report. Legal real (newest_first report.history))) }
 {
     match read_script(alloc, bytes, false) {
         Err(ScriptFault::NoMemory) => Err(NoMemory),
@@ -100,7 +101,7 @@ fn run_script(alloc: Global, bytes: &[u8]) -> Result<Ended, NoMemory>
 /// What the words and the source come to.
 fn work<S: Source>(alloc: Global, words: &[Label], source: &mut S) -> Result<Ended, NoMemory>
     ensures ends { IfOk result (λ ended. EndsAs (given S.left S.faults words.now source.old source.new) ended.status ended.report) }
-    ensures legal { IfOk result (λ ended. IfSome ended.report (λ report. Legal (newest_first report.history))) }
+    ensures legal { IfOk result (λ ended. IfSome ended.report (λ report. Legal real (newest_first report.history))) }
 {
     if !is_run(words) {
         return Ok(without_report(Status::Usage));
@@ -128,7 +129,7 @@ fn rule_text(rule: Rule) -> &'static str
 
 /// The text that an end owes.
 fn owed(alloc: Global, ended: &Ended) -> Result<String, AllocError>
-    requires { IfSome ended.now.report (λ report. Legal (newest_first report.history)) }
+    requires { IfSome ended.now.report (λ report. Legal real (newest_first report.history)) }
     ensures { IfOk result (λ text. string_bytes text ≡ owed ended.now.status ended.now.report) }
 {
     match ended.status {
@@ -170,7 +171,7 @@ pub fn run_words<S: Source, K: Sink>(
         × Keeps (K.held sink.old) (K.held sink.new) }
 
     // Each reply of the history is the sequential adjudicator's at its place.
-    ensures legal { IfSome result.report (λ report. Legal (newest_first report.history)) }
+    ensures legal { IfSome result.report (λ report. Legal real (newest_first report.history)) }
 
     // Of each asset, what was deposited is what the channels hold.
     ensures conserved { IfSome result.report (λ report. IsConserved (newest_first report.history)) }

@@ -5,6 +5,7 @@ ghost use Rattle.std.specs.List.{list_any};
 ghost use Rattle.channel_calls.specs.Flows.{AreWithinAmounts};
 ghost use Rattle.channel_calls.specs.History.{Legal, newest_first, time_set, or_before, now_of, flow_of, flows_of};
 ghost use Rattle.channel_calls.specs.declared.entry.Entry.{Entry};
+ghost use Rattle.support_chain.specs.Real.{real};
 ghost use Rattle.script_run.specs.Text.{entry_line, end_line, assets_of, asset_line, is_pair, add_new, add_receiver, receivers_of, held_line, pair_line, text_of};
 
 use crate::entry_text::entry_line;
@@ -199,7 +200,7 @@ fn append_holdings(alloc: Global, text: &mut String, flows: &[Flow]) -> Result<(
 /// The printed text of a history, whose entries are in the order of time.
 #[tactic(auto, using(channel_calls::proofs::Conservation::within_in_time))]
 pub fn text_of(alloc: Global, history: &[Entry]) -> Result<String, AllocError>
-    requires { Legal (newest_first history.now) }
+    requires { Legal real (newest_first history.now) }
     ensures { IfOk result (λ text. string_bytes text ≡ text_of history.now) }
 {
     let flows = flows_of(alloc, history)?;

@@ -6,8 +6,9 @@ mod steps;
 mod support;
 
 pub use nitro_bytes::{Chain, Mark, StepFault, SupportFault};
+pub use signature::signs_state;
 pub use steps::step;
-pub use support::{supports, supports_with};
+pub use support::{people_of, supports, supports_with};
 
 #[cfg(test)]
 mod tests;

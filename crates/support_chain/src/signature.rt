@@ -5,12 +5,13 @@ ghost use Rattle.std.specs.List.{slice_get};
 ghost use Rattle.nitro_bytes.specs.Spelling.{fixed as spelling, state as body};
 ghost use Rattle.channel_name.specs.Digests.{name_of_channel, digest_of_state};
 ghost use Rattle.channel_name.specs.Messages.{message_of_state};
+ghost use Rattle.channel_model.specs.Rules.{signs_state};
 ghost use Rattle.channel_model.specs.Support.{is_marked_well};
 ghost use Rattle.support_chain.specs.Real.{real};
 
 use channel_name::{channel_name, state_digest, state_message};
 use lms_verify::verifies;
-use nitro_bytes::{Fixed, Key, Mark, State};
+use nitro_bytes::{Fixed, Mark, State};
 
 /// What is signed for a state of the channel.
 fn message_of(fixed: &Fixed, state: &State) -> [u8; 33]
@@ -20,6 +21,16 @@ fn message_of(fixed: &Fixed, state: &State) -> [u8; 33]
     state_message(&state_digest(&channel, state.bytes()))
 }
 
+/// Whether key `j` verifies the signature of the state. A participant that isn't there signs nothing.
+pub fn signs_state(fixed: &Fixed, j: usize, state: &State, signature: &[u8]) -> bool
+    ensures { result ≡ signs_state real fixed.now j state.now signature.now }
+{
+    let Some(key) = fixed.keys().get(j) else {
+        return false;
+    };
+    verifies(key, &message_of(fixed, state), signature)
+}
+
 /// Whether key `j` verifies the state that the mark stands on.
 pub(crate) fn mark_verifies(fixed: &Fixed, states: &[State], j: usize, mark: &Mark) -> bool
     ensures { result ≡ is_marked_well real fixed.now j mark.now.signature (slice_get states.now mark.now.place) }
@@ -27,8 +38,5 @@ pub(crate) fn mark_verifies(fixed: &Fixed, states: &[State], j: usize, mark: &Ma
     let Some(state) = states.get(mark.place as usize) else {
         return false;
     };
-    let Some(key) = fixed.keys().get(j) else {
-        return false;
-    };
-    verifies(key, &message_of(fixed, state), mark.signature.as_slice())
+    signs_state(fixed, j, state, mark.signature.as_slice())
 }

@@ -85,7 +85,7 @@ fn is_late(n: u64, turn: u64, j: u64, states: &[State], place: u8) -> bool
 }
 
 /// The persons of the keys.
-fn people_of(fixed: &Fixed) -> ArrayVec<Name, 4>
+pub fn people_of(fixed: &Fixed) -> ArrayVec<Name, 4>
     ensures { result.items ≡ persons fixed.now }
 {
     let mut people = ArrayVec::new();

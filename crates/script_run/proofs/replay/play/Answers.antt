@@ -4,6 +4,7 @@ use Rattle.channel_calls.specs.History.{newest_first}
 use Rattle.adjudicator_core.specs.Standing.{StandsFor}
 use Rattle.script_reader.specs.Script.{start, IsChecked}
 use Rattle.script_reader.proofs.Checked.{each_checked}
+use Rattle.support_chain.specs.Real.{real}
 use Rattle.script_run.specs.Play.{op_of}
 use Rattle.script_run.proofs.Plays.{entry_by_script, step_played}
 use Rattle.script_run.proofs.Texts.{newest_first-push}
@@ -22,7 +23,7 @@ loop-step-preserved c =
     let pushed = c.in_ok-push.ensures.items in
     let entry = entry_by_script (c.len.result + 1) c.op_of-op.result c.apply-reply.result in
     record {
-      stands = subst (λ es. StandsFor es c.apply-reply.new.self) (sym (ap newest_first pushed ∙ newest_first-push history entry)) (c.apply-reply.ensures.stands past (c.len.result + 1) 0 stood);
+      stands = subst (λ es. StandsFor real es c.apply-reply.new.self) (sym (ap newest_first pushed ∙ newest_first-push history entry)) (c.apply-reply.ensures.stands past (c.len.result + 1) 0 stood);
       played = step_played history c.push.new.self.items c.args.steps.now c.loop-step.step-index (c.len.result + 1) c.step-item.result c.op_of-op.result c.apply-reply.result c.loop-step-test.true c.loop-step.invariant.count c.loop-step.invariant.played op (c.apply-reply.ensures.reply past stood) number pushed;
       count = omega (arith, ap length pushed, length-append history (entry ∷ []), c.loop-step.invariant.count);
     }

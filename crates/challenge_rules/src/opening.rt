@@ -1,0 +1,109 @@
+//! Challenges.
+
+ghost use Rattle.std.specs.Prelude.{◌≡◌, ◌≤◌, ◌<◌, ◌^◌, Bool, List, Some, length, IfOk};
+ghost use Rattle.std.specs.Option.{option_map};
+ghost use Rattle.channel_model.specs.Rules.{newest};
+ghost use Rattle.channel_model.specs.Support.{support_of};
+ghost use Rattle.channel_calls.specs.Rows.{row_or_blank, is_stale, after_challenge};
+ghost use Rattle.channel_calls.specs.Replies as replies;
+ghost use Rattle.support_chain.specs.Real.{real};
+
+use crate::top::{digest_of, digest_of_outcome, found, is_challenge_signed};
+use channel_calls::{Refusal, Row, newest};
+use deadline_clock::{Standing, mode};
+use nitro_bytes::{Chain, State, SupportFault};
+use support_chain::{supports, supports_with};
+
+/// Whether a challenge at this turn comes too late.
+fn is_stale(standing: Standing, recorded: u64, turn: u64) -> bool
+    ensures { result ≡ is_stale standing recorded turn }
+{
+    match standing {
+        Standing::Challenged => turn <= recorded,
+        Standing::Open | Standing::Final => turn < recorded,
+    }
+}
+
+/// The row that a challenge on a chain with this last state makes.
+fn after_challenge(now: u64, chain: &Chain, last: &State, challenger: u8) -> Row
+    requires soon { now ≤ 2 ^ 62 }
+    requires last { newest chain.now.states ≡ Some last.now }
+    ensures row { result ≡ after_challenge real now chain.now challenger }
+    ensures small { result.turn < 2 ^ 48 }
+{
+    Row {
+        turn: last.turn(),
+        deadline: Some(now + chain.fixed.duration() as u64),
+        state_digest: digest_of(&chain.fixed, last),
+        outcome_digest: digest_of_outcome(last.outcome()),
+        challenger,
+    }
+}
+
+/// The challenge, where `support` is what the chain supports and `signed` says whether the challenger signed.
+fn challenged(
+    row: Row,
+    now: u64,
+    chain: &Chain,
+    challenger: u8,
+    support: Result<u64, SupportFault>,
+    signed: bool,
+) -> Result<Row, Refusal>
+    requires { now ≤ 2 ^ 62 }
+    ensures answer { (verified : List Bool) → support ≡ support_of real chain.now verified → result ≡ replies.challenge_with real row now chain.now challenger verified signed }
+    ensures small { IfOk result (λ new. new.turn < 2 ^ 48) }
+{
+    let standing = mode(row.deadline, now);
+    if standing == Standing::Final {
+        return Err(Refusal::IsFinal);
+    }
+    if let Err(fault) = support {
+        return Err(Refusal::NotSupported(fault));
+    }
+    let Some(last) = newest(chain.states.as_slice()) else {
+        return Err(Refusal::NotSupported(SupportFault::Length));
+    };
+    if is_stale(standing, row.turn, last.turn()) {
+        return Err(Refusal::Stale(row.turn));
+    }
+    if !signed {
+        return Err(Refusal::BadChallenger);
+    }
+    Ok(after_challenge(now, chain, last, challenger))
+}
+
+/// A challenge with a supported chain, which the challenger signs: the channel ends with the chain's last state unless
+/// it is answered before the deadline, which is the duration from now.
+#[tactic(auto, unfolding(channel_model::specs::Support::supports))]
+pub fn challenge(
+    row: Option<&Row>,
+    now: u64,
+    chain: &Chain,
+    challenger: u8,
+    signature: &[u8],
+) -> Result<Row, Refusal>
+    requires { now ≤ 2 ^ 62 }
+    ensures answer { result ≡ replies.challenge real (row_or_blank (option_map (λ m. m.now) row.entry)) now chain.now challenger signature.now }
+    ensures small { IfOk result (λ new. new.turn < 2 ^ 48) }
+{
+    let signed = is_challenge_signed(chain, challenger, signature);
+    challenged(found(row), now, chain, challenger, supports(chain), signed)
+}
+
+/// As `challenge`, where `verified` says which marks verify and `signed` whether the challenger's signature does.
+pub fn challenge_with(
+    row: Option<&Row>,
+    now: u64,
+    chain: &Chain,
+    challenger: u8,
+    verified: &[bool],
+    signed: bool,
+) -> Result<Row, Refusal>
+    requires soon { now ≤ 2 ^ 62 }
+    requires each { length verified.now ≡ length chain.now.marks }
+    ensures answer { result ≡ replies.challenge_with real (row_or_blank (option_map (λ m. m.now) row.entry)) now chain.now challenger verified.now signed }
+    ensures small { IfOk result (λ new. new.turn < 2 ^ 48) }
+{
+    let support = supports_with(chain, verified);
+    challenged(found(row), now, chain, challenger, support, signed)
+}

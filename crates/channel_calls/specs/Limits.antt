@@ -1,0 +1,32 @@
+-- Which calls and messages keep the limits of the format.
+use Rattle.std.specs.Prelude.{◌^◌, ◌<◌, ◌≤◌, length}
+use Rattle.nitro_bytes.specs.Outcomes.{IsName}
+use Rattle.nitro_bytes.specs.Parts.{IsFixed, IsState}
+use Rattle.nitro_bytes.specs.declared.chain.Signed.{Signed}
+use Rattle.nitro_bytes.specs.Chains.{IsSignature, IsSigned, IsChain, KeepsLimits}
+use Rattle.channel_calls.specs.Spelling.{Message}
+use Rattle.channel_calls.specs.declared.call.Call.{Call}
+use Rattle.channel_calls.specs.declared.call.Call.TheVariants.{Deposit, Challenge, Respond, Refute, Checkpoint, Conclude}
+
+abbrev pub IsCall : Call → Type 0
+IsCall (Deposit channel asset expected amount) = IsName channel × (asset < 2 ^ 32) × (expected < 2 ^ 64) × (amount < 2 ^ 64)
+IsCall (Challenge c challenger signature) = IsChain c × (challenger < 256) × IsSignature signature
+IsCall (Respond f from next) = IsFixed f × IsState from × IsSigned next
+IsCall (Refute f next) = IsFixed f × IsSigned next
+IsCall (Checkpoint c) = IsChain c
+IsCall (Conclude c) = IsChain c
+
+abbrev pub IsMessage : Message → Type 0
+IsMessage m = IsName m.0 × IsSigned m.1
+
+-- What the types don't say: how long the signatures are, and how many states and marks a chain has.
+abbrev pub IsShort : Signed → Type 0
+IsShort next = length next.signature ≤ 9004
+
+abbrev pub KeepsCall : Call → Type 0
+KeepsCall (Deposit channel asset expected amount) = Unit {0}
+KeepsCall (Challenge c challenger signature) = KeepsLimits c × (length signature ≤ 9004)
+KeepsCall (Respond f from next) = IsShort next
+KeepsCall (Refute f next) = IsShort next
+KeepsCall (Checkpoint c) = KeepsLimits c
+KeepsCall (Conclude c) = KeepsLimits c

@@ -1,0 +1,96 @@
+//! Copies of calls and entries.
+
+ghost use Rattle.std.specs.Prelude.{◌≡◌, IfOk};
+ghost use Rattle.channel_calls.specs.declared.call.Call.TheVariants as calls;
+
+use crate::call::{Call, Op};
+use crate::entry::Entry;
+use nitro_bytes::{Chain, Fixed, Listed, NoMemory, Signed, State};
+
+fn copy_challenge(chain: &Chain, challenger: u8, signature: &Listed<u8>) -> Result<Call, NoMemory>
+    ensures { IfOk result (λ c. c ≡ calls.Challenge chain.now challenger signature.now) }
+{
+    let chain = chain.copy()?;
+    let signature = signature.copy()?;
+    Ok(Call::Challenge {
+        chain,
+        challenger,
+        signature,
+    })
+}
+
+fn copy_respond(fixed: &Fixed, from: &State, next: &Signed) -> Result<Call, NoMemory>
+    ensures { IfOk result (λ c. c ≡ calls.Respond fixed.now from.now next.now) }
+{
+    let fixed = fixed.copy()?;
+    let from = from.copy()?;
+    let next = next.copy()?;
+    Ok(Call::Respond { fixed, from, next })
+}
+
+fn copy_refute(fixed: &Fixed, next: &Signed) -> Result<Call, NoMemory>
+    ensures { IfOk result (λ c. c ≡ calls.Refute fixed.now next.now) }
+{
+    let fixed = fixed.copy()?;
+    let next = next.copy()?;
+    Ok(Call::Refute { fixed, next })
+}
+
+/// A second call that equals this one.
+pub fn copy_call(call: &Call) -> Result<Call, NoMemory>
+    ensures { IfOk result (λ c. c ≡ call.now) }
+{
+    match call {
+        Call::Deposit {
+            channel,
+            asset,
+            expected,
+            amount,
+        } => Ok(Call::Deposit {
+            channel: *channel,
+            asset: *asset,
+            expected: *expected,
+            amount: *amount,
+        }),
+        Call::Challenge {
+            chain,
+            challenger,
+            signature,
+        } => copy_challenge(chain, *challenger, signature),
+        Call::Respond { fixed, from, next } => copy_respond(fixed, from, next),
+        Call::Refute { fixed, next } => copy_refute(fixed, next),
+        Call::Checkpoint { chain } => {
+            let chain = chain.copy()?;
+            Ok(Call::Checkpoint { chain })
+        }
+        Call::Conclude { chain } => {
+            let chain = chain.copy()?;
+            Ok(Call::Conclude { chain })
+        }
+    }
+}
+
+fn copy_op(op: &Op) -> Result<Op, NoMemory>
+    ensures { IfOk result (λ o. o ≡ op.now) }
+{
+    match op {
+        Op::Call(call) => {
+            let call = copy_call(call)?;
+            Ok(Op::Call(call))
+        }
+        Op::Time(to) => Ok(Op::Time(*to)),
+    }
+}
+
+/// A second entry that equals this one.
+pub fn copy_entry(entry: &Entry) -> Result<Entry, NoMemory>
+    ensures { IfOk result (λ e. e ≡ entry.now) }
+{
+    let op = copy_op(&entry.op)?;
+    Ok(Entry {
+        number: entry.number,
+        by: entry.by,
+        op,
+        reply: entry.reply,
+    })
+}
