@@ -1,43 +1,48 @@
 //! The adjudicator that serves one op after another.
 
-ghost use Rattle.std.specs.Prelude.{◌≡◌, ◌+◌, ◌<◌, ◌^◌, ◌∷◌, [], ℕ, List, None, OnOk, IfOk};
+ghost use Rattle.std.specs.Prelude.{◌≡◌, ◌≤◌, ◌+◌, ◌<◌, ◌^◌, ◌∷◌, [], ℕ, List, OnOk, OnErr, IfOk};
 ghost use Rattle.std.specs.Option.{option_map};
-ghost use Rattle.channel_calls.specs.Flows.{deposited_in, HasMoved};
+ghost use Rattle.channel_calls.specs.Flows.{held_in, paid_of_item};
 ghost use Rattle.channel_calls.specs.History.{reply_to, row_given};
 ghost use Rattle.channel_calls.specs.Refusing.{told};
+ghost use Rattle.channel_calls.specs.Replies as replies;
+ghost use Rattle.channel_calls.specs.Rows.{row_or_blank};
 ghost use Rattle.channel_calls.specs.declared.entry.Entry.{Entry};
 ghost use Rattle.support_chain.specs.Real.{real};
-ghost use Rattle.adjudicator_core.specs.Standing.{StandsFor, HasRoom, HasTurned};
+ghost use Rattle.adjudicator_core.specs.Standing.{row_in, StandsFor, AreBalancesOf, HasRoom, HasTurned, HasPaid};
 
+use crate::ending::{ends_otherwise, is_unfinished};
 use crate::rows::Rows;
+use asset_holdings::Holdings;
 use challenge_rules::{challenge, checkpoint, conclude, refute, respond};
-use channel_calls::{Call, Flow, Op, Refusal, Reply, Row, deposited, held};
+use channel_calls::{Call, Due, Op, Refusal, Reply, Row};
 use channel_name::channel_name;
-use nitro_bytes::{Chain, Dest, Fixed, Name, NoMemory, Signed, State};
+use claim_transfer::{PaidItems, claim_due, transfer_due};
+use nitro_bytes::{Chain, Fixed, Name, NoMemory, Outcome, Signed, State};
 use std::alloc::Global;
 use std::marker::Model;
 
 /// No time is later.
 pub const LAST_TIME: u64 = 1 << 62;
 
-/// A time, the rows of channels, and the flows of funds so far. Contracts say which histories it stands for.
+/// A time, the rows of channels, the balances, and what was paid of items. Contracts say which histories it stands for.
 #[derive(Drop)]
 pub struct Adjudicator {
     time: u64,
     rows: Rows,
-    flows: Vec<Flow>,
+    funds: Holdings,
+    items: PaidItems,
 }
 
 impl Model for Adjudicator {
-    ghost use Rattle.std.specs.Prelude.{◌≤◌, ◌^◌, ◌-◌, vec_len, vec_capacity};
-    ghost use Rattle.channel_calls.specs.Flows.{AreWithinAmounts};
+    ghost use Rattle.std.specs.Prelude.{◌≤◌, ◌^◌};
     ghost use Rattle.adjudicator_core.specs.Standing.{Standing};
 
     ghost Value = { Standing };
 
-    ghost view = { λ a. record { now = a.time; rows = a.rows.rows; flows = a.flows.items; row_room = a.rows.room; flow_room = vec_capacity a.flows - vec_len a.flows } };
+    ghost view = { λ a. record { now = a.time; rows = a.rows.rows; room = a.rows.room; funds = a.funds; items = a.items } };
 
-    ghost invariant = { λ a. (a.time ≤ 2 ^ 62) × AreWithinAmounts a.flows.items };
+    ghost invariant = { λ a. a.time ≤ 2 ^ 62 };
 }
 
 /// The reply that a challenge is open until the deadline, unless the call is refused.
@@ -70,6 +75,26 @@ fn opened(answer: Result<Row, Refusal>) -> Reply
     }
 }
 
+/// The reply of what a channel then holds, unless the call is refused.
+fn held(answer: Result<u64, Refusal>) -> Reply
+    ensures { result ≡ told Reply.Held answer }
+{
+    match answer {
+        Ok(held) => Reply::Held(held),
+        Err(refusal) => Reply::No(refusal),
+    }
+}
+
+/// The reply of what is paid, unless the call is refused.
+fn paid(answer: Result<Due, Refusal>) -> Reply
+    ensures { result ≡ told (λ due. Reply.Paid due.amount) answer }
+{
+    match answer {
+        Ok(due) => Reply::Paid(due.amount),
+        Err(refusal) => Reply::No(refusal),
+    }
+}
+
 impl Adjudicator {
     /// The time is 0, no channel has a row, and nothing is held.
     pub fn make(alloc: Global) -> Adjudicator
@@ -78,7 +103,8 @@ impl Adjudicator {
         Adjudicator {
             time: 0,
             rows: Rows::make(alloc),
-            flows: Vec::new(alloc),
+            funds: Holdings::make(alloc),
+            items: PaidItems::make(alloc),
         }
     }
 
@@ -88,7 +114,8 @@ impl Adjudicator {
         ensures stands { (h : List Entry) → StandsFor real h self.old → StandsFor real h self.new }
     {
         self.rows.reserve()?;
-        self.flows.reserve(1)?;
+        self.funds.reserve()?;
+        self.items.reserve()?;
         Ok(())
     }
 
@@ -103,6 +130,13 @@ impl Adjudicator {
         ensures { (h : List Entry) → StandsFor real h self.now → option_map (λ m. m.now) result ≡ row_given real channel.now h }
     {
         self.rows.get(channel)
+    }
+
+    /// The balances of channels and persons.
+    pub fn holdings(&self) -> &Holdings
+        ensures { (h : List Entry) → StandsFor real h self.now → AreBalancesOf h result.now }
+    {
+        &self.funds
     }
 
     /// The reply to an op, which is part of the history from then on. A refused op changes nothing.
@@ -140,10 +174,30 @@ impl Adjudicator {
             Call::Refute { fixed, next } => self.refute(fixed, next),
             Call::Checkpoint { chain } => self.checkpoint(chain),
             Call::Conclude { chain } => self.conclude(chain),
+            Call::Transfer {
+                channel,
+                outcome,
+                asset,
+                index,
+            } => self.transfer(channel, outcome, *asset, *index),
+            Call::Claim {
+                guarantor,
+                guarantor_outcome,
+                target,
+                target_outcome,
+                asset,
+                position,
+            } => self.claim(
+                guarantor,
+                guarantor_outcome,
+                target,
+                target_outcome,
+                *asset,
+                *position,
+            ),
         }
     }
 
-    #[tactic(auto, using(channel_calls::proofs::Conservation::held_within), unfolding(channel_calls::specs::History::reply_to))]
     fn deposit(&mut self, channel: Name, asset: u32, expected: u64, amount: u64) -> Reply
         requires { HasRoom self.old }
         ensures reply { (h : List Entry) → StandsFor real h self.old
@@ -151,19 +205,8 @@ impl Adjudicator {
         ensures stands { (h : List Entry) (number by : ℕ) → StandsFor real h self.old
             → StandsFor real (record { number = number; by = by; op = Op.Call (Call.Deposit channel asset expected amount); reply = result } ∷ h) self.new }
     {
-        if amount == 0 {
-            return Reply::No(Refusal::Zero);
-        }
-        let before = held(&self.flows, &channel, asset);
-        if before < expected {
-            return Reply::No(Refusal::Underheld(before));
-        }
-        let total = deposited(&self.flows, asset);
-        if amount > u64::MAX - total {
-            return Reply::No(Refusal::AssetFull(total));
-        }
-        self.bring(channel, asset, amount);
-        Reply::Held(before + amount)
+        let answer = self.funds.deposit(channel, asset, expected, amount);
+        held(answer)
     }
 
     fn challenge(&mut self, chain: &Chain, challenger: u8, signature: &[u8]) -> Reply
@@ -239,20 +282,122 @@ impl Adjudicator {
         }
     }
 
-    /// Funds from outside.
-    fn bring(&mut self, channel: Name, asset: u32, amount: u64)
-        requires room { HasRoom self.old }
-        requires fits { deposited_in self.old.flows asset + amount < 2 ^ 64 }
-        ensures now { self.new.now ≡ self.old.now }
-        ensures rows { self.new.rows ≡ self.old.rows }
-        ensures moved { HasMoved self.old.flows (record { from = None; to = Dest.Channel channel; asset = asset; amount = amount }) self.new.flows }
+    fn transfer(&mut self, channel: &Name, outcome: &Outcome, asset: u32, index: u8) -> Reply
+        requires { HasRoom self.old }
+        ensures reply { (h : List Entry) → StandsFor real h self.old → result ≡ reply_to real h (Op.Call (Call.Transfer channel.now outcome.now asset index)) }
+        ensures stands { (h : List Entry) (number by : ℕ) → StandsFor real h self.old
+            → StandsFor real (record { number = number; by = by; op = Op.Call (Call.Transfer channel.now outcome.now asset index); reply = result } ∷ h) self.new }
     {
-        self.flows.push_reserved(Flow {
-            from: None,
-            to: Dest::Channel(channel),
+        let answer = self.transfer_due(channel, outcome, asset, index);
+        self.pay(*channel, *channel, asset, answer);
+        paid(answer)
+    }
+
+    fn claim(
+        &mut self,
+        guarantor: &Name,
+        guarantor_outcome: &Outcome,
+        target: &Name,
+        target_outcome: &Outcome,
+        asset: u32,
+        position: u8,
+    ) -> Reply
+        requires { HasRoom self.old }
+        ensures reply { (h : List Entry) → StandsFor real h self.old
+            → result ≡ reply_to real h (Op.Call (Call.Claim guarantor.now guarantor_outcome.now target.now target_outcome.now asset position)) }
+        ensures stands { (h : List Entry) (number by : ℕ) → StandsFor real h self.old
+            → StandsFor real (record { number = number; by = by; op = Op.Call (Call.Claim guarantor.now guarantor_outcome.now target.now target_outcome.now asset position); reply = result } ∷ h) self.new }
+    {
+        let answer = self.claim_due(
+            guarantor,
+            guarantor_outcome,
+            target,
+            target_outcome,
             asset,
-            amount,
-        });
+            position,
+        );
+        self.pay(*guarantor, *target, asset, answer);
+        paid(answer)
+    }
+
+    /// What a transfer pays, or the first refusal.
+    fn transfer_due(
+        &self,
+        channel: &Name,
+        outcome: &Outcome,
+        asset: u32,
+        index: u8,
+    ) -> Result<Due, Refusal>
+        ensures answer { result ≡ replies.transfer real (row_or_blank (row_in self.now.rows channel.now)) self.now.now
+            (paid_of_item self.now.items.rows channel.now asset) (held_in self.now.funds.flows channel.now asset) channel.now outcome.now asset index }
+        ensures held { IfOk result (λ due. due.amount ≤ held_in self.now.funds.flows channel.now asset) }
+        ensures fits { IfOk result (λ due. paid_of_item self.now.items.rows channel.now asset due.place + due.amount < 2 ^ 64) }
+    {
+        let row = self.rows.get(channel);
+        if is_unfinished(row, self.time) {
+            return Err(Refusal::NotFinal(*channel));
+        }
+        if ends_otherwise(row, outcome) {
+            return Err(Refusal::WrongOutcome(*channel));
+        }
+        let held = self.funds.held(channel, asset);
+        transfer_due(&self.items, held, channel, outcome, asset, index)
+    }
+
+    /// What a claim pays, or the first refusal.
+    fn claim_due(
+        &self,
+        guarantor: &Name,
+        guarantor_outcome: &Outcome,
+        target: &Name,
+        target_outcome: &Outcome,
+        asset: u32,
+        position: u8,
+    ) -> Result<Due, Refusal>
+        ensures answer { result ≡ replies.claim real (row_or_blank (row_in self.now.rows guarantor.now)) (row_or_blank (row_in self.now.rows target.now)) self.now.now
+            (paid_of_item self.now.items.rows target.now asset) (held_in self.now.funds.flows guarantor.now asset)
+            guarantor.now guarantor_outcome.now target.now target_outcome.now asset position }
+        ensures held { IfOk result (λ due. due.amount ≤ held_in self.now.funds.flows guarantor.now asset) }
+        ensures fits { IfOk result (λ due. paid_of_item self.now.items.rows target.now asset due.place + due.amount < 2 ^ 64) }
+    {
+        let row = self.rows.get(guarantor);
+        let target_row = self.rows.get(target);
+        if is_unfinished(row, self.time) {
+            return Err(Refusal::NotFinal(*guarantor));
+        }
+        if is_unfinished(target_row, self.time) {
+            return Err(Refusal::NotFinal(*target));
+        }
+        if ends_otherwise(row, guarantor_outcome) {
+            return Err(Refusal::WrongOutcome(*guarantor));
+        }
+        if ends_otherwise(target_row, target_outcome) {
+            return Err(Refusal::WrongOutcome(*target));
+        }
+        let held = self.funds.held(guarantor, asset);
+        claim_due(
+            &self.items,
+            held,
+            guarantor_outcome,
+            target,
+            target_outcome,
+            asset,
+            position,
+        )
+    }
+
+    /// What is due is paid by one channel, and noted of the owner's item, unless the call is refused.
+    fn pay(&mut self, payer: Name, owner: Name, asset: u32, answer: Result<Due, Refusal>)
+        requires room { HasRoom self.old }
+        requires held { IfOk answer (λ due. due.amount ≤ held_in self.old.funds.flows payer asset) }
+        requires fits { IfOk answer (λ due. paid_of_item self.old.items.rows owner asset due.place + due.amount < 2 ^ 64) }
+        ensures paid { IfOk answer (λ due. HasPaid self.old payer owner asset due self.new) }
+        ensures same { OnErr answer (self.new ≡ self.old) }
+    {
+        if let Ok(due) = answer {
+            self.funds.move_funds(payer, due.to, asset, due.amount);
+            self.items.add(owner, asset, due.place, due.amount);
+        }
     }
 
     #[tactic(auto, unfolding(channel_calls::specs::History::reply_to))]

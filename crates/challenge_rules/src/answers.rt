@@ -124,8 +124,9 @@ pub fn refute_with(
     if !signed {
         return Err(Refusal::BadSignature);
     }
-    Ok(Row {
+    let opened = Row {
         deadline: None,
         ..row
-    })
+    };
+    Ok(opened)
 }

@@ -12,3 +12,6 @@ mod top;
 pub use answers::{refute, refute_with, respond, respond_with};
 pub use opening::{challenge, challenge_with};
 pub use supported::{checkpoint, checkpoint_with, conclude, conclude_with};
+
+#[cfg(test)]
+mod tests;

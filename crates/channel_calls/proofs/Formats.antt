@@ -5,20 +5,20 @@ use Rattle.std.specs.Int.{w32, w64, to_be_bytes}
 use Rattle.std.specs.Prelude.{IfOk}
 use Rattle.nitro_bytes.specs.declared.fault.ByteFault.{ByteFault}
 use Rattle.nitro_bytes.specs.Outcomes.{AreBytes}
-use Rattle.nitro_bytes.specs.Spelling.{sized, state, fixed, signed, chain}
-use Rattle.nitro_bytes.specs.Reading.{byte_at, number_at, name_at, sized_at, state_at, fixed_at, signed_at, chain_at}
+use Rattle.nitro_bytes.specs.Spelling.{outcome, sized, state, fixed, signed, chain}
+use Rattle.nitro_bytes.specs.Reading.{byte_at, number_at, name_at, sized_at, outcome_at, state_at, fixed_at, signed_at, chain_at}
 use Rattle.nitro_bytes.proofs.Fields.{bind_ok, ok_is, Takes, Takes-then, byte_takes, name_takes, number_takes, wide32, wide64}
-use Rattle.nitro_bytes.proofs.Takes.{chosen}
-use Rattle.nitro_bytes.proofs.Again.{bind_again, again_valid, number_again, name_again}
+use Rattle.nitro_bytes.proofs.Takes.{chosen, outcome_takes}
+use Rattle.nitro_bytes.proofs.Again.{bind_again, again_valid, number_again, name_again, outcome_valid_again}
 use Rattle.nitro_bytes.proofs.States.{sized_takes, sized_again, state_takes, state_valid_again}
 use Rattle.nitro_bytes.proofs.Fixeds.{fixed_takes, fixed_valid_again}
 use Rattle.nitro_bytes.proofs.Chains.{signed_takes, signed_valid_again, chain_takes, chain_valid_again, limits_kept}
 use Rattle.nitro_bytes.proofs.Format.{IsFormat}
 use Rattle.channel_calls.specs.Spelling.{Message, call, message}
 use Rattle.channel_calls.specs.Limits.{IsCall, IsMessage, KeepsCall}
-use Rattle.channel_calls.specs.Reading.{deposit_at, challenge_at, respond_at, refute_at, checkpoint_at, conclude_at, fields_at, call_at, message_at}
+use Rattle.channel_calls.specs.Reading.{deposit_at, challenge_at, respond_at, refute_at, checkpoint_at, conclude_at, transfer_at, claim_at, fields_at, call_at, message_at}
 use Rattle.channel_calls.specs.declared.call.Call.{Call}
-use Rattle.channel_calls.specs.declared.call.Call.TheVariants.{Deposit, Challenge, Respond, Refute, Checkpoint, Conclude}
+use Rattle.channel_calls.specs.declared.call.Call.TheVariants.{Deposit, Challenge, Respond, Refute, Checkpoint, Conclude, Transfer, Claim}
 
 -- ---- messages
 
@@ -127,6 +127,46 @@ conclude_takes whole bytes x fits e =
     let made : Call = Conclude a.0.0 in
     subst (λ (y : Call × List ℕ). Takes (6 ∷ bytes) (call y.0) y.1 × IsCall y.0) (ok_is (made, a.0.1) x a.2) (tagged 6 bytes _ a.0.1 t0.0, t0.1)
 
+transfer_takes : FieldsTake transfer_at 7
+unfolding transfer_at call
+transfer_takes whole bytes x fits e =
+    let a = bind_ok (name_at whole bytes) _ x e in
+    let b = bind_ok (outcome_at whole a.0.1) _ x a.2 in
+    let c = bind_ok (number_at whole w32 b.0.1) _ x b.2 in
+    let d = bind_ok (byte_at whole c.0.1) _ x c.2 in
+    let t0 = name_takes whole bytes a.0 fits a.1 in
+    let t1 = outcome_takes whole a.0.1 b.0 t0.0.rest_fits b.1 in
+    let t2 = number_takes whole w32 (2 ^ 32) wide32 b.0.1 c.0 t1.0.rest_fits c.1 in
+    let t3 = byte_takes whole c.0.1 d.0 t2.0.rest_fits d.1 in
+    let e23 = Takes-then b.0.1 (to_be_bytes w32 c.0.0) c.0.1 (d.0.0 ∷ []) d.0.1 t2.0 t3.0 in
+    let e13 = Takes-then a.0.1 (outcome b.0.0) b.0.1 (to_be_bytes w32 c.0.0 ++ (d.0.0 ∷ [])) d.0.1 t1.0 e23 in
+    let e03 = Takes-then bytes a.0.0 a.0.1 (outcome b.0.0 ++ (to_be_bytes w32 c.0.0 ++ (d.0.0 ∷ []))) d.0.1 t0.0 e13 in
+    let made : Call = Transfer a.0.0 b.0.0 c.0.0 d.0.0 in
+    subst (λ (y : Call × List ℕ). Takes (7 ∷ bytes) (call y.0) y.1 × IsCall y.0) (ok_is (made, d.0.1) x d.2) (tagged 7 bytes _ d.0.1 e03, (t0.1, t1.1, t2.1, t3.1))
+
+claim_takes : FieldsTake claim_at 8
+unfolding claim_at call
+claim_takes whole bytes x fits e =
+    let a = bind_ok (name_at whole bytes) _ x e in
+    let b = bind_ok (outcome_at whole a.0.1) _ x a.2 in
+    let c = bind_ok (name_at whole b.0.1) _ x b.2 in
+    let d = bind_ok (outcome_at whole c.0.1) _ x c.2 in
+    let f = bind_ok (number_at whole w32 d.0.1) _ x d.2 in
+    let g = bind_ok (byte_at whole f.0.1) _ x f.2 in
+    let t0 = name_takes whole bytes a.0 fits a.1 in
+    let t1 = outcome_takes whole a.0.1 b.0 t0.0.rest_fits b.1 in
+    let t2 = name_takes whole b.0.1 c.0 t1.0.rest_fits c.1 in
+    let t3 = outcome_takes whole c.0.1 d.0 t2.0.rest_fits d.1 in
+    let t4 = number_takes whole w32 (2 ^ 32) wide32 d.0.1 f.0 t3.0.rest_fits f.1 in
+    let t5 = byte_takes whole f.0.1 g.0 t4.0.rest_fits g.1 in
+    let e45 = Takes-then d.0.1 (to_be_bytes w32 f.0.0) f.0.1 (g.0.0 ∷ []) g.0.1 t4.0 t5.0 in
+    let e35 = Takes-then c.0.1 (outcome d.0.0) d.0.1 (to_be_bytes w32 f.0.0 ++ (g.0.0 ∷ [])) g.0.1 t3.0 e45 in
+    let e25 = Takes-then b.0.1 c.0.0 c.0.1 (outcome d.0.0 ++ (to_be_bytes w32 f.0.0 ++ (g.0.0 ∷ []))) g.0.1 t2.0 e35 in
+    let e15 = Takes-then a.0.1 (outcome b.0.0) b.0.1 (c.0.0 ++ (outcome d.0.0 ++ (to_be_bytes w32 f.0.0 ++ (g.0.0 ∷ [])))) g.0.1 t1.0 e25 in
+    let e05 = Takes-then bytes a.0.0 a.0.1 (outcome b.0.0 ++ (c.0.0 ++ (outcome d.0.0 ++ (to_be_bytes w32 f.0.0 ++ (g.0.0 ∷ []))))) g.0.1 t0.0 e15 in
+    let made : Call = Claim a.0.0 b.0.0 c.0.0 d.0.0 f.0.0 g.0.0 in
+    subst (λ (y : Call × List ℕ). Takes (8 ∷ bytes) (call y.0) y.1 × IsCall y.0) (ok_is (made, g.0.1) x g.2) (tagged 8 bytes _ g.0.1 e05, (t0.1, t1.1, t2.1, t3.1, t4.1, t5.1))
+
 -- ---- calls
 
 -- the fields behind this tag
@@ -150,7 +190,13 @@ fields_take whole place tag bytes x fits e =
               | inl p ↦ behind tag 5 bytes x p.0 (checkpoint_takes whole bytes x fits p.1)
               | inr q ↦ elim (chosen (eqb tag 6) _ _ (Ok x) q.1) [
                 | inl p ↦ behind tag 6 bytes x p.0 (conclude_takes whole bytes x fits p.1)
-                | inr q ↦ absurd (let never = q.1 in cc)
+                | inr q ↦ elim (chosen (eqb tag 7) _ _ (Ok x) q.1) [
+                  | inl p ↦ behind tag 7 bytes x p.0 (transfer_takes whole bytes x fits p.1)
+                  | inr q ↦ elim (chosen (eqb tag 8) _ _ (Ok x) q.1) [
+                    | inl p ↦ behind tag 8 bytes x p.0 (claim_takes whole bytes x fits p.1)
+                    | inr q ↦ absurd (let never = q.1 in cc)
+                  ]
+                ]
               ]
             ]
           ]
@@ -170,7 +216,7 @@ sized_valid : (whole : ℕ) (bytes rest : List ℕ) → length bytes ≤ 9004 �
 sized_valid whole bytes rest le = again_valid _ bytes rest (length bytes ≤ 9004) le (sized_again whole 9004 bytes rest (lit< tt))
 
 call_again : (whole : ℕ) (c : Call) (rest : List ℕ) → IsCall c → call_at whole (call c ++ rest) ≡ Ok (c, rest)
-unfolding call_at call deposit_at challenge_at respond_at refute_at checkpoint_at conclude_at
+unfolding call_at call deposit_at challenge_at respond_at refute_at checkpoint_at conclude_at transfer_at claim_at
 call_again whole (Deposit channel asset expected amount) rest valid =
     let paid : List ℕ = to_be_bytes w64 amount ++ rest in
     let hoped : List ℕ = to_be_bytes w64 expected ++ paid in
@@ -207,6 +253,36 @@ call_again whole (Refute f next) rest valid =
     (bind_again _ _ (next, rest) _ (signed_valid_again whole next rest valid.1) refl))
 call_again whole (Checkpoint c) rest valid = bind_again _ _ (c, rest) _ (chain_valid_again whole c rest valid) refl
 call_again whole (Conclude c) rest valid = bind_again _ _ (c, rest) _ (chain_valid_again whole c rest valid) refl
+call_again whole (Transfer channel o asset index) rest valid =
+    let last : List ℕ = index ∷ rest in
+    let amounts : List ℕ = to_be_bytes w32 asset ++ last in
+    let after : List ℕ = outcome o ++ amounts in
+    let regrouped : (channel ++ (outcome o ++ (to_be_bytes w32 asset ++ (index ∷ [])))) ++ rest ≡ channel ++ after =
+    append_assoc channel (outcome o ++ (to_be_bytes w32 asset ++ (index ∷ []))) rest
+    ∙ ap (λ (w : List ℕ). channel ++ w) (append_assoc (outcome o) (to_be_bytes w32 asset ++ (index ∷ [])) rest
+    ∙ ap (λ (w : List ℕ). outcome o ++ w) (append_assoc (to_be_bytes w32 asset) (index ∷ []) rest)) in
+    subst (λ (w : List ℕ). transfer_at whole w ≡ Ok (Transfer channel o asset index, rest)) (sym regrouped)
+    (bind_again _ _ (channel, after) _ (name_again whole channel after valid.0.0)
+    (bind_again _ _ (o, amounts) _ (outcome_valid_again whole o amounts valid.1)
+    (bind_again _ _ (asset, last) _ (number_again whole w32 (2 ^ 32) wide32 asset last valid.2) refl)))
+call_again whole (Claim guarantor promise target o asset position) rest valid =
+    let last : List ℕ = position ∷ rest in
+    let amounts : List ℕ = to_be_bytes w32 asset ++ last in
+    let ends : List ℕ = outcome o ++ amounts in
+    let names : List ℕ = target ++ ends in
+    let after : List ℕ = outcome promise ++ names in
+    let regrouped : (guarantor ++ (outcome promise ++ (target ++ (outcome o ++ (to_be_bytes w32 asset ++ (position ∷ [])))))) ++ rest ≡ guarantor ++ after =
+    append_assoc guarantor (outcome promise ++ (target ++ (outcome o ++ (to_be_bytes w32 asset ++ (position ∷ []))))) rest
+    ∙ ap (λ (w : List ℕ). guarantor ++ w) (append_assoc (outcome promise) (target ++ (outcome o ++ (to_be_bytes w32 asset ++ (position ∷ [])))) rest
+    ∙ ap (λ (w : List ℕ). outcome promise ++ w) (append_assoc target (outcome o ++ (to_be_bytes w32 asset ++ (position ∷ []))) rest
+    ∙ ap (λ (w : List ℕ). target ++ w) (append_assoc (outcome o) (to_be_bytes w32 asset ++ (position ∷ [])) rest
+    ∙ ap (λ (w : List ℕ). outcome o ++ w) (append_assoc (to_be_bytes w32 asset) (position ∷ []) rest)))) in
+    subst (λ (w : List ℕ). claim_at whole w ≡ Ok (Claim guarantor promise target o asset position, rest)) (sym regrouped)
+    (bind_again _ _ (guarantor, after) _ (name_again whole guarantor after valid.0.0)
+    (bind_again _ _ (promise, names) _ (outcome_valid_again whole promise names valid.1)
+    (bind_again _ _ (target, ends) _ (name_again whole target ends valid.2.0)
+    (bind_again _ _ (o, amounts) _ (outcome_valid_again whole o amounts valid.3)
+    (bind_again _ _ (asset, last) _ (number_again whole w32 (2 ^ 32) wide32 asset last valid.4) refl)))))
 
 pub call_format : IsFormat call_at call IsCall
 call_format = record { takes = call_takes; again = call_again }
@@ -219,6 +295,8 @@ call_keeps (Respond f from next) valid = valid.2.1.0
 call_keeps (Refute f next) valid = valid.1.1.0
 call_keeps (Checkpoint c) valid = limits_kept c valid
 call_keeps (Conclude c) valid = limits_kept c valid
+call_keeps (Transfer channel o asset index) valid = tt
+call_keeps (Claim guarantor promise target o asset position) valid = tt
 
 pub is_kept : (bytes : List ℕ) (r : Result Call ByteFault) → IfOk r (λ c. IsCall c × (bytes ≡ call c)) → IfOk r KeepsCall
 is_kept bytes (Ok c) found = call_keeps c found.0

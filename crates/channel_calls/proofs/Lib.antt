@@ -1,5 +1,11 @@
 pub mod Names
 pub mod Legality
 pub mod Conservation
+pub mod Rests
+pub mod Amounts
+pub mod Payouts
 pub mod Rowing
 pub mod Formats
+pub mod Tabled
+pub mod Telling
+pub mod LoweredMarks

@@ -1,11 +1,12 @@
 -- Flows of funds, and the balances that they sum up to.
-use Rattle.std.specs.Prelude.{◌≡◌, ◌≤◌, ◌<◌, ◌+◌, ◌^◌, ◌-◌, ◌==◌, ◌++◌, ◌∷◌, [], ℕ, List, Bool, true, false, if◌then◌else◌, Option, Some, None, sum_by, flat_map}
+use Rattle.std.specs.Prelude.{◌≡◌, ◌≤◌, ◌<◌, ◌+◌, ◌^◌, ◌-◌, ◌==◌, ◌&&◌, ◌++◌, ◌∷◌, [], ℕ, List, Bool, true, false, if◌then◌else◌, Option, Some, None, sum_by, flat_map}
 use Rattle.std.specs.List.{list_any}
 use Rattle.std.specs.Str.{bytes_eq}
 use Rattle.nitro_bytes.specs.Outcomes.{is_same}
 use Rattle.nitro_bytes.specs.declared.value.Dest.{Dest}
 use Rattle.nitro_bytes.specs.declared.value.Dest.TheVariants.{Person, Channel}
 use Rattle.channel_calls.specs.declared.funds.Flow.{Flow}
+use Rattle.channel_calls.specs.declared.funds.Payment.{Payment}
 
 abbrev pub is_person : Dest → Bool
 is_person (Person person) = true
@@ -103,3 +104,11 @@ pub record HasMoved (old : List Flow) (flow : Flow) (new : List Flow) : Type 0 w
   pub held : (channel : List ℕ) (asset : ℕ) → held_in new channel asset ≡ (held_in old channel asset + brings (Channel channel) asset flow) - takes channel asset flow
   pub paid : (person : List ℕ) (asset : ℕ) → paid_in new person asset ≡ paid_in old person asset + brings (Person person) asset flow
   pub deposited : (asset : ℕ) → deposited_in new asset ≡ deposited_in old asset + enters asset flow
+
+-- what was paid of an item
+abbrev pub pays : List ℕ → ℕ → ℕ → Payment → ℕ
+pays channel asset place payment =
+    if bytes_eq payment.channel channel && ((payment.asset == asset) && (payment.place == place)) then payment.amount else 0
+
+abbrev pub paid_of_item : List Payment → List ℕ → ℕ → ℕ → ℕ
+paid_of_item payments channel asset place = sum_by (pays channel asset place) payments

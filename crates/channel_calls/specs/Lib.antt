@@ -1,8 +1,15 @@
 pub mod Refusing
 pub mod Rows
 pub mod Flows
+pub mod Dues
+pub mod Rest
 pub mod Replies
 pub mod History
+pub mod Payouts
 pub mod Spelling
 pub mod Limits
 pub mod Reading
+pub mod Marked
+pub mod Shown
+pub mod Tables
+pub mod Told

@@ -1,12 +1,12 @@
 -- Which calls and messages keep the limits of the format.
 use Rattle.std.specs.Prelude.{◌^◌, ◌<◌, ◌≤◌, length}
-use Rattle.nitro_bytes.specs.Outcomes.{IsName}
+use Rattle.nitro_bytes.specs.Outcomes.{IsName, IsOutcome}
 use Rattle.nitro_bytes.specs.Parts.{IsFixed, IsState}
 use Rattle.nitro_bytes.specs.declared.chain.Signed.{Signed}
 use Rattle.nitro_bytes.specs.Chains.{IsSignature, IsSigned, IsChain, KeepsLimits}
 use Rattle.channel_calls.specs.Spelling.{Message}
 use Rattle.channel_calls.specs.declared.call.Call.{Call}
-use Rattle.channel_calls.specs.declared.call.Call.TheVariants.{Deposit, Challenge, Respond, Refute, Checkpoint, Conclude}
+use Rattle.channel_calls.specs.declared.call.Call.TheVariants.{Deposit, Challenge, Respond, Refute, Checkpoint, Conclude, Transfer, Claim}
 
 abbrev pub IsCall : Call → Type 0
 IsCall (Deposit channel asset expected amount) = IsName channel × (asset < 2 ^ 32) × (expected < 2 ^ 64) × (amount < 2 ^ 64)
@@ -15,6 +15,8 @@ IsCall (Respond f from next) = IsFixed f × IsState from × IsSigned next
 IsCall (Refute f next) = IsFixed f × IsSigned next
 IsCall (Checkpoint c) = IsChain c
 IsCall (Conclude c) = IsChain c
+IsCall (Transfer channel o asset index) = IsName channel × IsOutcome o × (asset < 2 ^ 32) × (index < 256)
+IsCall (Claim guarantor promise target o asset position) = IsName guarantor × IsOutcome promise × IsName target × IsOutcome o × (asset < 2 ^ 32) × (position < 256)
 
 abbrev pub IsMessage : Message → Type 0
 IsMessage m = IsName m.0 × IsSigned m.1
@@ -30,3 +32,5 @@ KeepsCall (Respond f from next) = IsShort next
 KeepsCall (Refute f next) = IsShort next
 KeepsCall (Checkpoint c) = KeepsLimits c
 KeepsCall (Conclude c) = KeepsLimits c
+KeepsCall (Transfer channel o asset index) = Unit {0}
+KeepsCall (Claim guarantor promise target o asset position) = Unit {0}

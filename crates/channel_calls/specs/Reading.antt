@@ -3,10 +3,10 @@ use Rattle.std.specs.Prelude.{ℕ, ◌-◌, List, length, Result, Ok, Err, ◌==
 use Rattle.std.specs.Int.{w32, w64}
 use Rattle.nitro_bytes.specs.declared.fault.ByteFault.{ByteFault}
 use Rattle.nitro_bytes.specs.declared.fault.ByteFault.TheVariants as faults
-use Rattle.nitro_bytes.specs.Reading.{◌>>=◌, byte_at, number_at, name_at, sized_at, state_at, fixed_at, signed_at, chain_at, all_of}
+use Rattle.nitro_bytes.specs.Reading.{◌>>=◌, byte_at, number_at, name_at, sized_at, outcome_at, state_at, fixed_at, signed_at, chain_at, all_of}
 use Rattle.channel_calls.specs.Spelling.{Message}
 use Rattle.channel_calls.specs.declared.call.Call.{Call}
-use Rattle.channel_calls.specs.declared.call.Call.TheVariants.{Deposit, Challenge, Respond, Refute, Checkpoint, Conclude}
+use Rattle.channel_calls.specs.declared.call.Call.TheVariants.{Deposit, Challenge, Respond, Refute, Checkpoint, Conclude, Transfer, Claim}
 
 -- the fields of each call, behind its tag
 unfoldable pub deposit_at : ℕ → List ℕ → Result (Call × List ℕ) ByteFault
@@ -47,6 +47,24 @@ conclude_at whole bytes = do
   chain ← chain_at whole bytes
   Ok (Conclude chain.0, chain.1)
 
+unfoldable pub transfer_at : ℕ → List ℕ → Result (Call × List ℕ) ByteFault
+transfer_at whole bytes = do
+  channel ← name_at whole bytes
+  outcome ← outcome_at whole channel.1
+  asset ← number_at whole w32 outcome.1
+  index ← byte_at whole asset.1
+  Ok (Transfer channel.0 outcome.0 asset.0 index.0, index.1)
+
+unfoldable pub claim_at : ℕ → List ℕ → Result (Call × List ℕ) ByteFault
+claim_at whole bytes = do
+  guarantor ← name_at whole bytes
+  promise ← outcome_at whole guarantor.1
+  target ← name_at whole promise.1
+  outcome ← outcome_at whole target.1
+  asset ← number_at whole w32 outcome.1
+  position ← byte_at whole asset.1
+  Ok (Claim guarantor.0 promise.0 target.0 outcome.0 asset.0 position.0, position.1)
+
 -- the fields behind a tag that stands at a place
 abbrev pub fields_at : ℕ → ℕ → ℕ → List ℕ → Result (Call × List ℕ) ByteFault
 fields_at whole place tag bytes =
@@ -56,7 +74,9 @@ fields_at whole place tag bytes =
     else (if tag == 4 then refute_at whole bytes
     else (if tag == 5 then checkpoint_at whole bytes
     else (if tag == 6 then conclude_at whole bytes
-    else Err (faults.BadTag place))))))
+    else (if tag == 7 then transfer_at whole bytes
+    else (if tag == 8 then claim_at whole bytes
+    else Err (faults.BadTag place))))))))
 
 unfoldable pub call_at : ℕ → List ℕ → Result (Call × List ℕ) ByteFault
 call_at whole bytes = do

@@ -5,15 +5,18 @@ use Rattle.std.specs.Str.{bytes_eq}
 use Rattle.nitro_bytes.specs.Parts.{FixedParts, StateParts}
 use Rattle.nitro_bytes.specs.declared.chain.Chain.{Chain}
 use Rattle.nitro_bytes.specs.declared.chain.Signed.{Signed}
+use Rattle.nitro_bytes.specs.declared.value.AssetOutcome.{AssetOutcome}
 use Rattle.channel_model.specs.Chains.{mover}
 use Rattle.channel_model.specs.Rules.{Rules, people, top_turn, is_signed_well, signs_challenge}
 use Rattle.channel_model.specs.Support.{support_of, verified_marks}
 use Rattle.channel_calls.specs.Refusing.{refuse_if, refuse_fault}
 use Rattle.deadline_clock.specs.Mode.{mode_at, is_final, is_challenged}
 use Rattle.channel_calls.specs.Rows.{is_stale, after_challenge, after_turn, after_refute, after_conclude}
+use Rattle.channel_calls.specs.Dues.{transfer_due, claim_due}
+use Rattle.channel_calls.specs.declared.funds.Due.{Due}
 use Rattle.channel_calls.specs.declared.row.Row.{Row}
 use Rattle.channel_calls.specs.declared.refusal.Refusal.{Refusal}
-use Rattle.channel_calls.specs.declared.refusal.Refusal.TheVariants.{IsFinal, NotSupported, Stale, BadChallenger, NoChallenge, WrongState, WrongTurn, BadSignature, BadStep, NotNewer, NotChallengers, NotFinalState, Zero, Underheld, AssetFull, Backwards, TooLate}
+use Rattle.channel_calls.specs.declared.refusal.Refusal.TheVariants.{IsFinal, NotSupported, Stale, BadChallenger, NoChallenge, WrongState, WrongTurn, BadSignature, BadStep, NotNewer, NotChallengers, NotFinalState, Zero, Underheld, AssetFull, NotFinal, WrongOutcome, Backwards, TooLate}
 
 -- the place of the first state that isn't final, in a row that begins at place i
 abbrev pub first_unfinished : ℕ → List StateParts → Option ℕ
@@ -85,6 +88,29 @@ deposit held deposited expected amount =
     refuse_if (nat_lt held expected) (Underheld held) (
     refuse_if (nat_lt (2 ^ 64 - 1) (deposited + amount)) (AssetFull deposited) (
     Ok (held + amount))))
+
+-- the channel of this row isn't final, or ended with another outcome
+abbrev pub is_unfinished : Row → ℕ → Bool
+is_unfinished row now = not (is_final (mode_at row.deadline now))
+
+abbrev pub ends_otherwise : Rules → Row → List AssetOutcome → Bool
+ends_otherwise r row outcome = not (bytes_eq (r.outcome_digest outcome) row.outcome_digest)
+
+-- `paid` is what was paid of each place of the outcome for the asset, and `held` what the channel holds of it
+abbrev pub transfer : Rules → Row → ℕ → (ℕ → ℕ) → ℕ → List ℕ → List AssetOutcome → ℕ → ℕ → Result Due Refusal
+transfer r row now paid held channel outcome asset index =
+    refuse_if (is_unfinished row now) (NotFinal channel) (
+    refuse_if (ends_otherwise r row outcome) (WrongOutcome channel) (
+    transfer_due paid held outcome asset index))
+
+-- `paid` is what was paid of each place of the target's outcome for the asset, and `held` what the guarantor holds of it
+abbrev pub claim : Rules → Row → Row → ℕ → (ℕ → ℕ) → ℕ → List ℕ → List AssetOutcome → List ℕ → List AssetOutcome → ℕ → ℕ → Result Due Refusal
+claim r row target_row now paid held guarantor promise target outcome asset position =
+    refuse_if (is_unfinished row now) (NotFinal guarantor) (
+    refuse_if (is_unfinished target_row now) (NotFinal target) (
+    refuse_if (ends_otherwise r row promise) (WrongOutcome guarantor) (
+    refuse_if (ends_otherwise r target_row outcome) (WrongOutcome target) (
+    claim_due paid held promise target outcome asset position))))
 
 -- the time then
 abbrev pub time : ℕ → ℕ → Result ℕ Refusal

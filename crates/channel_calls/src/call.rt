@@ -1,6 +1,6 @@
 //! What is entered.
 
-use nitro_bytes::{Chain, Fixed, Listed, Name, Signed, State};
+use nitro_bytes::{Chain, Fixed, Listed, Name, Outcome, Signed, State};
 
 /// A call of the adjudicator.
 #[derive(Drop)]
@@ -37,6 +37,23 @@ pub enum Call {
     /// Ends the channel at once, with final states.
     Conclude {
         chain: Chain,
+    },
+    /// Pays an item of an asset from what its final channel holds. The outcome is the one that the channel ended with.
+    Transfer {
+        channel: Name,
+        outcome: Outcome,
+        asset: u32,
+        index: u8,
+    },
+    /// Pays a destination of a guarantor's list from what the guarantor holds. What is paid is an item of the target. Both
+    /// channels are final, and the outcomes are those that they ended with.
+    Claim {
+        guarantor: Name,
+        guarantor_outcome: Outcome,
+        target: Name,
+        target_outcome: Outcome,
+        asset: u32,
+        position: u8,
     },
 }
 

@@ -5,7 +5,7 @@ ghost use Rattle.channel_calls.specs.declared.call.Call.TheVariants as calls;
 
 use crate::call::{Call, Op};
 use crate::entry::Entry;
-use nitro_bytes::{Chain, Fixed, Listed, NoMemory, Signed, State};
+use nitro_bytes::{Chain, Fixed, Listed, Name, NoMemory, Outcome, Signed, State};
 
 fn copy_challenge(chain: &Chain, challenger: u8, signature: &Listed<u8>) -> Result<Call, NoMemory>
     ensures { IfOk result (λ c. c ≡ calls.Challenge chain.now challenger signature.now) }
@@ -34,6 +34,40 @@ fn copy_refute(fixed: &Fixed, next: &Signed) -> Result<Call, NoMemory>
     let fixed = fixed.copy()?;
     let next = next.copy()?;
     Ok(Call::Refute { fixed, next })
+}
+
+fn copy_transfer(channel: &Name, outcome: &Outcome, asset: u32, index: u8) -> Result<Call, NoMemory>
+    ensures { IfOk result (λ c. c ≡ calls.Transfer channel.now outcome.now asset index) }
+{
+    let outcome = outcome.copy()?;
+    Ok(Call::Transfer {
+        channel: *channel,
+        outcome,
+        asset,
+        index,
+    })
+}
+
+fn copy_claim(
+    guarantor: &Name,
+    guarantor_outcome: &Outcome,
+    target: &Name,
+    target_outcome: &Outcome,
+    asset: u32,
+    position: u8,
+) -> Result<Call, NoMemory>
+    ensures { IfOk result (λ c. c ≡ calls.Claim guarantor.now guarantor_outcome.now target.now target_outcome.now asset position) }
+{
+    let guarantor_outcome = guarantor_outcome.copy()?;
+    let target_outcome = target_outcome.copy()?;
+    Ok(Call::Claim {
+        guarantor: *guarantor,
+        guarantor_outcome,
+        target: *target,
+        target_outcome,
+        asset,
+        position,
+    })
 }
 
 /// A second call that equals this one.
@@ -67,6 +101,27 @@ pub fn copy_call(call: &Call) -> Result<Call, NoMemory>
             let chain = chain.copy()?;
             Ok(Call::Conclude { chain })
         }
+        Call::Transfer {
+            channel,
+            outcome,
+            asset,
+            index,
+        } => copy_transfer(channel, outcome, *asset, *index),
+        Call::Claim {
+            guarantor,
+            guarantor_outcome,
+            target,
+            target_outcome,
+            asset,
+            position,
+        } => copy_claim(
+            guarantor,
+            guarantor_outcome,
+            target,
+            target_outcome,
+            *asset,
+            *position,
+        ),
     }
 }
 

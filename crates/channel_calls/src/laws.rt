@@ -2,7 +2,9 @@
 
 ghost use Rattle.std.specs.Prelude.{List};
 ghost use Rattle.channel_model.specs.Rules.{Rules};
-ghost use Rattle.channel_calls.specs.History.{Legal, IsConserved, IsWithinDeposits};
+ghost use Rattle.channel_calls.specs.Flows.{AreCovered};
+ghost use Rattle.channel_calls.specs.History.{Legal, flows_of, IsConserved, IsWithinDeposits, PaysWhatIsHeld};
+ghost use Rattle.channel_calls.specs.Payouts.{TransferLowersBoth, ClaimLowersBoth};
 ghost use Rattle.channel_calls.specs.declared.entry.Entry.{Entry};
 ghost use Rattle.nitro_bytes.specs.Spelled.{SpelledOnce, WrittenBack, ReadAgain, FrontsFail, TrailingFails};
 ghost use Rattle.channel_calls.specs.Spelling.{call, message};
@@ -19,6 +21,21 @@ pub fn every_legal_history_conserves()
 #[tactic(auto, using(crate::proofs::Conservation::within_deposits))]
 pub fn nobody_holds_more_than_was_deposited()
     ensures { (r : Rules) (h : List Entry) → Legal r h → IsWithinDeposits h }
+{}
+
+/// A transfer and a claim pay at most what the paying channel holds, so over every legal history no channel paid out
+/// more than it received.
+#[tactic(auto, using(crate::proofs::Legality::pays_what_is_held, crate::proofs::Legality::covered))]
+pub fn no_channel_pays_more_than_it_holds()
+    ensures each { (r : Rules) (h : List Entry) → PaysWhatIsHeld r h }
+    ensures all { (r : Rules) (h : List Entry) → Legal r h → AreCovered (flows_of h) }
+{}
+
+/// What an accepted transfer or claim pays is taken from one item's rest and from what one channel holds: both are lowered
+/// by it.
+pub fn payouts_lower_both()
+    ensures transfer { (r : Rules) (h : List Entry) → TransferLowersBoth r h }
+    ensures claim { (r : Rules) (h : List Entry) → ClaimLowersBoth r h }
 {}
 
 /// A call and its bytes determine each other.

@@ -1,29 +1,41 @@
 //! The words that the adjudicator and its callers share, and what histories of them mean.
 #![tactic(auto)]
 
+mod answering;
 mod balances;
 mod call;
 mod copying;
 mod entry;
+mod event;
+mod flows;
 mod funds;
+mod held_chain;
 mod laws;
 mod reading;
 mod refusal;
 mod row;
 mod states;
+mod told;
+mod view;
 mod writing;
 
+pub use answering::answered;
 pub use balances::{deposited, held, held_by_all, paid, paid_to_all};
 pub use call::{Call, Op};
 pub use copying::{copy_call, copy_entry};
 pub use entry::Entry;
-pub use funds::Flow;
+pub use event::{Deed, Event, NodeRefusal, copy_event};
+pub use flows::{flow_of, shape_in};
+pub use funds::{Due, Flow, Payment};
+pub use held_chain::{HeldChain, Known, Place};
 pub use laws::{
     every_legal_history_conserves, laws_of_calls, laws_of_messages,
-    nobody_holds_more_than_was_deposited,
+    no_channel_pays_more_than_it_holds, nobody_holds_more_than_was_deposited, payouts_lower_both,
 };
 pub use reading::{read_call, read_message};
 pub use refusal::{Refusal, Reply};
 pub use row::Row;
 pub use states::newest;
+pub use told::{fixed_of, time_set, told_row, top_turn};
+pub use view::{ChannelView, WorldView};
 pub use writing::{write_call, write_message};

@@ -4,12 +4,12 @@ ghost use Rattle.std.specs.Prelude.{◌≡◌, IfOk, Ok};
 ghost use Rattle.nitro_bytes.specs.Reading.{Gives};
 ghost use Rattle.channel_calls.specs.Spelling as spelling;
 ghost use Rattle.channel_calls.specs.Limits.{IsCall, IsMessage, KeepsCall};
-ghost use Rattle.channel_calls.specs.Reading.{deposit_at, challenge_at, respond_at, refute_at, checkpoint_at, conclude_at, call_at, message_at, call_of, message_of};
+ghost use Rattle.channel_calls.specs.Reading.{deposit_at, challenge_at, respond_at, refute_at, checkpoint_at, conclude_at, transfer_at, claim_at, call_at, message_at, call_of, message_of};
 ghost use Rattle.channel_calls.specs.declared.call.Call.{Call as AnyCall};
 
 use crate::call::Call;
 use nitro_bytes::{
-    ByteFault, Name, Signed, place_of, take_byte, take_chain, take_fixed, take_name,
+    ByteFault, Name, Signed, place_of, take_byte, take_chain, take_fixed, take_name, take_outcome,
     take_signature, take_signed, take_state, take_u32, take_u64,
 };
 use std::alloc::Global;
@@ -81,6 +81,44 @@ fn take_conclude(alloc: Global, whole: usize, bytes: &[u8]) -> Result<(Call, &[u
     Ok((Call::Conclude { chain }, rest))
 }
 
+#[tactic(auto, unfolding(crate::specs::Reading::transfer_at))]
+fn take_transfer(alloc: Global, whole: usize, bytes: &[u8]) -> Result<(Call, &[u8]), ByteFault>
+    ensures { Gives (λ x. (x.0, x.1.now)) result (transfer_at whole bytes.now) }
+{
+    let (channel, rest) = take_name(whole, bytes)?;
+    let (outcome, rest) = take_outcome(alloc, whole, rest)?;
+    let (asset, rest) = take_u32(whole, rest)?;
+    let (index, rest) = take_byte(whole, rest)?;
+    let call = Call::Transfer {
+        channel,
+        outcome,
+        asset,
+        index,
+    };
+    Ok((call, rest))
+}
+
+#[tactic(auto, unfolding(crate::specs::Reading::claim_at))]
+fn take_claim(alloc: Global, whole: usize, bytes: &[u8]) -> Result<(Call, &[u8]), ByteFault>
+    ensures { Gives (λ x. (x.0, x.1.now)) result (claim_at whole bytes.now) }
+{
+    let (guarantor, rest) = take_name(whole, bytes)?;
+    let (guarantor_outcome, rest) = take_outcome(alloc, whole, rest)?;
+    let (target, rest) = take_name(whole, rest)?;
+    let (target_outcome, rest) = take_outcome(alloc, whole, rest)?;
+    let (asset, rest) = take_u32(whole, rest)?;
+    let (position, rest) = take_byte(whole, rest)?;
+    let call = Call::Claim {
+        guarantor,
+        guarantor_outcome,
+        target,
+        target_outcome,
+        asset,
+        position,
+    };
+    Ok((call, rest))
+}
+
 #[tactic(auto, unfolding(crate::specs::Reading::call_at))]
 fn take_call(alloc: Global, whole: usize, bytes: &[u8]) -> Result<(Call, &[u8]), ByteFault>
     ensures { Gives (λ x. (x.0, x.1.now)) result (call_at whole bytes.now) }
@@ -94,6 +132,8 @@ fn take_call(alloc: Global, whole: usize, bytes: &[u8]) -> Result<(Call, &[u8]),
         4 => take_refute(alloc, whole, rest),
         5 => take_checkpoint(alloc, whole, rest),
         6 => take_conclude(alloc, whole, rest),
+        7 => take_transfer(alloc, whole, rest),
+        8 => take_claim(alloc, whole, rest),
         _ => Err(ByteFault::BadTag(place)),
     }
 }

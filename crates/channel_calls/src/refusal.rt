@@ -1,6 +1,6 @@
 //! What the adjudicator answers.
 
-use nitro_bytes::{StepFault, SupportFault};
+use nitro_bytes::{Name, StepFault, SupportFault};
 
 /// Why an op is refused.
 #[derive(Clone, Copy, Debug, PartialEq, Eq)]
@@ -35,6 +35,22 @@ pub enum Refusal {
     Underheld(u64),
     /// More than 2^64 - 1 of the asset would be deposited: what was deposited.
     AssetFull(u64),
+    /// The channel of this name isn't final.
+    NotFinal(Name),
+    /// The channel of this name ended with another outcome.
+    WrongOutcome(Name),
+    /// An outcome doesn't have the asset.
+    NoAsset,
+    /// An allocation stands where a guarantee is wanted, or a guarantee where an allocation is.
+    WrongKind,
+    /// The guarantee is of another target.
+    WrongTarget,
+    /// The position is past the guarantee's list.
+    NotListed,
+    /// The index is past the items, or the target has no item for the destination.
+    NoItem,
+    /// Nothing is due: what the paying channel holds.
+    NothingDue(u64),
     /// The time is over: what it is now.
     Backwards(u64),
     /// The time is above 2^62.
@@ -52,6 +68,8 @@ pub enum Reply {
     Opened(u64),
     /// The channel ends at this turn.
     Concluded(u64),
+    /// This much was paid.
+    Paid(u64),
     /// The time then.
     Now(u64),
     No(Refusal),

@@ -1,14 +1,14 @@
 //! The canonical bytes of calls and messages.
 
-ghost use Rattle.std.specs.Prelude.{◌≡◌, ◌≤◌, ◌++◌, ◌∷◌, length, OnOk};
+ghost use Rattle.std.specs.Prelude.{◌≡◌, ◌≤◌, ◌++◌, ◌∷◌, [], length, OnOk};
 ghost use Rattle.std.specs.Int.{w32, w64, to_be_bytes};
-ghost use Rattle.nitro_bytes.specs.Outcomes.{AreBytes, IsName};
-ghost use Rattle.nitro_bytes.specs.Spelling.{sized};
+ghost use Rattle.nitro_bytes.specs.Outcomes.{AreBytes, IsName, IsOutcome};
+ghost use Rattle.nitro_bytes.specs.Spelling.{outcome as spell, sized};
 ghost use Rattle.channel_calls.specs.Spelling.{call, message};
 ghost use Rattle.channel_calls.specs.Limits.{IsCall, IsMessage, KeepsCall, IsShort};
 
 use crate::call::Call;
-use nitro_bytes::{Name, NoMemory, Signed, write_chain, write_signed};
+use nitro_bytes::{Name, NoMemory, Outcome, Signed, write_chain, write_signed};
 
 /// A name has 32 bytes.
 fn put_name(out: &mut Vec<u8>, name: &Name) -> Result<(), NoMemory>
@@ -56,6 +56,59 @@ fn put_signature(out: &mut Vec<u8>, signature: &[u8]) -> Result<(), NoMemory>
     Ok(())
 }
 
+/// A channel's name, and its outcome.
+fn put_ending(out: &mut Vec<u8>, channel: &Name, outcome: &Outcome) -> Result<(), NoMemory>
+    ensures put { OnOk result (out.new.items ≡ out.old.items ++ (channel.now ++ spell outcome.now)) }
+    ensures fits { OnOk result (IsName channel.now × IsOutcome outcome.now) }
+{
+    put_name(out, channel)?;
+    out.extend_from_slice(outcome.bytes())?;
+    Ok(())
+}
+
+/// An asset, and a place in a list.
+fn put_place(out: &mut Vec<u8>, asset: u32, place: u8) -> Result<(), NoMemory>
+    ensures { OnOk result (out.new.items ≡ out.old.items ++ (to_be_bytes w32 asset ++ (place ∷ []))) }
+{
+    out.extend_from_slice(&asset.to_be_bytes())?;
+    out.push(place)?;
+    Ok(())
+}
+
+fn put_transfer(
+    out: &mut Vec<u8>,
+    channel: &Name,
+    outcome: &Outcome,
+    asset: u32,
+    index: u8,
+) -> Result<(), NoMemory>
+    ensures put { OnOk result (out.new.items ≡ out.old.items ++ (7 ∷ (channel.now ++ (spell outcome.now ++ (to_be_bytes w32 asset ++ (index ∷ [])))))) }
+    ensures fits { OnOk result (IsName channel.now × IsOutcome outcome.now) }
+{
+    out.push(7)?;
+    put_ending(out, channel, outcome)?;
+    put_place(out, asset, index)
+}
+
+fn put_claim(
+    out: &mut Vec<u8>,
+    guarantor: &Name,
+    guarantor_outcome: &Outcome,
+    target: &Name,
+    target_outcome: &Outcome,
+    asset: u32,
+    position: u8,
+) -> Result<(), NoMemory>
+    ensures put { OnOk result (out.new.items ≡ out.old.items ++ (8 ∷ (guarantor.now ++ (spell guarantor_outcome.now
+        ++ (target.now ++ (spell target_outcome.now ++ (to_be_bytes w32 asset ++ (position ∷ [])))))))) }
+    ensures fits { OnOk result (IsName guarantor.now × IsOutcome guarantor_outcome.now × IsName target.now × IsOutcome target_outcome.now) }
+{
+    out.push(8)?;
+    put_ending(out, guarantor, guarantor_outcome)?;
+    put_ending(out, target, target_outcome)?;
+    put_place(out, asset, position)
+}
+
 /// Appends the one spelling.
 #[tactic(auto, unfolding(crate::specs::Spelling::call))]
 pub fn write_call(value: &Call, out: &mut Vec<u8>) -> Result<(), NoMemory>
@@ -99,6 +152,28 @@ pub fn write_call(value: &Call, out: &mut Vec<u8>) -> Result<(), NoMemory>
             out.push(6)?;
             write_chain(chain, out)
         }
+        Call::Transfer {
+            channel,
+            outcome,
+            asset,
+            index,
+        } => put_transfer(out, channel, outcome, *asset, *index),
+        Call::Claim {
+            guarantor,
+            guarantor_outcome,
+            target,
+            target_outcome,
+            asset,
+            position,
+        } => put_claim(
+            out,
+            guarantor,
+            guarantor_outcome,
+            target,
+            target_outcome,
+            *asset,
+            *position,
+        ),
     }
 }
 

@@ -1,5 +1,6 @@
 pub mod Words
 pub mod Amounts
+pub mod Items
 pub mod Chains
 pub mod LastTurn
 pub mod Rules

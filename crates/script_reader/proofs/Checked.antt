@@ -5,7 +5,7 @@ use Rattle.serde_json.specs.Data.{Data, Items, no_items, item}
 use Rattle.script_reader.specs.Rules.{◌>>=◌, holds}
 use Rattle.script_reader.specs.Kinds.{word_at}
 use Rattle.script_reader.specs.Forms.{step_by}
-use Rattle.script_reader.specs.Conditions.{after, is_named, fits, runs_in_race}
+use Rattle.script_reader.specs.Conditions.{after, is_built, is_named, fits, has_fixed, is_apart, distinct, runs_in_race}
 use Rattle.script_reader.specs.Reading.{checked, step_of}
 use Rattle.script_reader.specs.Script as script
 use Rattle.script_reader.specs.Script.{start, at_step, steps_from, AreChecked, IsChecked}
@@ -26,19 +26,32 @@ held rule false x e = absurd (cc)
 
 -- the rules that a checked step keeps
 pub record Keeps (c : Context) (s : Step) (t : Step) : Type 0 where
+  pub built : is_built s ≡ true
   pub named : is_named c s ≡ true
   pub fit : fits c s ≡ true
+  pub part : has_fixed c s ≡ true
+  pub apart : is_apart c s ≡ true
   pub raced : not c.race || runs_in_race s ≡ true
   pub same : s ≡ t
 
 pub keeps : (c : Context) (s t : Step) → checked c s ≡ Ok t → Keeps c s t
 keeps c s t h =
-    let n = bind_ok (holds rules.Name (is_named c s)) (λ u. holds rules.Limit (fits c s) >>= λ v. holds rules.NotInRace (not c.race || runs_in_race s) >>= λ w. Ok s) t h in
-    let f = bind_ok (holds rules.Limit (fits c s)) (λ v. holds rules.NotInRace (not c.race || runs_in_race s) >>= λ w. Ok s) t n.2 in
-    let r = bind_ok (holds rules.NotInRace (not c.race || runs_in_race s)) (λ w. Ok s) t f.2 in
+    let raced = λ (w : ℕ). holds rules.NotInRace (not c.race || runs_in_race s) >>= λ x. Ok s in
+    let apart = λ (w : ℕ). distinct c s >>= raced in
+    let fit = λ (w : ℕ). holds rules.Limit (fits c s) >>= apart in
+    let named = λ (w : ℕ). holds rules.Name (is_named c s) >>= fit in
+    let b = bind_ok (holds rules.NotBuilt (is_built s)) named t h in
+    let n = bind_ok (holds rules.Name (is_named c s)) fit t b.2 in
+    let f = bind_ok (holds rules.Limit (fits c s)) apart t n.2 in
+    let d = bind_ok (distinct c s) raced t f.2 in
+    let p = bind_ok (holds rules.Limit (has_fixed c s)) (λ w. holds rules.Name (is_apart c s)) d.0 d.1 in
+    let r = bind_ok (holds rules.NotInRace (not c.race || runs_in_race s)) (λ w. Ok s) t d.2 in
     record {
+      built = held rules.NotBuilt (is_built s) b.0 b.1;
       named = held rules.Name (is_named c s) n.0 n.1;
       fit = held rules.Limit (fits c s) f.0 f.1;
+      part = held rules.Limit (has_fixed c s) p.0 p.1;
+      apart = held rules.Name (is_apart c s) d.0 p.2;
       raced = held rules.NotInRace (not c.race || runs_in_race s) r.0 r.1;
       same = cc;
     }
@@ -51,8 +64,8 @@ checked_fits c s h = (keeps c s s h).fit
 
 step_checked : (c : Context) (d : Data) (s : Step) → step_of c d ≡ Ok s → checked c s ≡ Ok s
 step_checked c d s h =
-    let p = bind_ok (word_at d) (λ word. step_by word d >>= λ t. checked c t) s h in
-    let q = bind_ok (step_by p.0 d) (λ t. checked c t) s p.2 in
+    let p = bind_ok (word_at d) (λ word. step_by c word d >>= λ t. checked c t) s h in
+    let q = bind_ok (step_by c p.0 d) (λ t. checked c t) s p.2 in
     let same : q.0 ≡ s = (keeps c q.0 s q.2).same in
     rw same at q.2
 

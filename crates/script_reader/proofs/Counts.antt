@@ -4,8 +4,7 @@ use Rattle.std.specs.Prelude.{String}
 use Rattle.std.specs.declared.alloc.Global.{Global}
 use Rattle.serde_json.specs.declared.value.Value.{Value}
 use Rattle.serde_json.specs.View.{items_view, members_view}
-use Rattle.script_reader.specs.Kinds.{member_count}
-use Rattle.script_reader.specs.Listed.{item_count}
+use Rattle.script_reader.specs.Kinds.{member_count, item_count}
 
 pub member_count_view : (ms : List (String Global × Value)) → member_count (members_view ms) ≡ length ms
 member_count_view [] = refl

@@ -1,5 +1,5 @@
 -- Steps that are read one after another.
-use Rattle.std.proofs.Common.{◌≡◌, ℕ, ◌+◌, List, [], ◌∷◌, ◌++◌, length, ap, ◌∙◌, ◌<◌, get_or, drop, Result, Ok, Err, arith, length-append, refl}
+use Rattle.std.proofs.Common.{◌≡◌, ℕ, ◌+◌, List, [], ◌∷◌, ◌++◌, length, ap, ◌∙◌, ◌<◌, get_or, drop, Result, Ok, Err, arith, length-append}
 use Rattle.std.proofs.lemmas.List.{at_drop_more}
 use Rattle.serde_json.specs.declared.value.Value.{Value}
 use Rattle.serde_json.specs.View.{view, items_view}
@@ -8,25 +8,18 @@ use Rattle.script_reader.specs.Reading.{step_of}
 use Rattle.script_reader.specs.Script.{◌>>=◌, at_step, steps_from}
 use Rattle.script_reader.specs.declared.context.Context.{Context}
 use Rattle.script_reader.specs.declared.step.Step.{Step}
-use Rattle.script_reader.specs.declared.step.Step.TheVariants.{Deposit, Time}
 use Rattle.script_reader.specs.declared.script.ScriptFault.{ScriptFault}
 
 -- what is read of the values that are left, behind the steps seen
 abbrev pub steps_left : Context → List Step → List Value → Result (List Step) ScriptFault
 steps_left c seen vs = steps_from c seen (items_view vs)
 
--- no step that is built declares a name
-after_same : (c : Context) (s : Step) → after c s ≡ c
-after_same c (Deposit channel asset expected amount) = refl
-after_same c (Time to) = refl
-
 pub goes_on : (c : Context) (seen : List Step) (s : Step) (vs : List Value) (i n : ℕ) (d : Value) → i < length vs → n ≡ length seen + 1 → at_step n (step_of c (view (get_or vs i d))) ≡ Ok s
-    → steps_left c seen (drop i vs) ≡ steps_left c (seen ++ s ∷ []) (drop (i + 1) vs)
+    → steps_left c seen (drop i vs) ≡ steps_left (after c s) (seen ++ s ∷ []) (drop (i + 1) vs)
 goes_on c seen s vs i n d h same e =
     let here : at_step (length seen + 1) (step_of c (view (get_or vs i d))) ≡ Ok s = rw (← same) e in
     at_drop_more (steps_left c seen) vs i d h
     ∙ ap (λ r. r >>= λ x. steps_from (after c x) (seen ++ x ∷ []) (items_view (drop (i + 1) vs))) here
-    ∙ ap (λ k. steps_left k (seen ++ s ∷ []) (drop (i + 1) vs)) (after_same c s)
 
 pub stops : (c : Context) (seen : List Step) (f : ScriptFault) (vs : List Value) (i n : ℕ) (d : Value) → i < length vs → n ≡ length seen + 1 → at_step n (step_of c (view (get_or vs i d))) ≡ Err f
     → steps_left c seen (drop i vs) ≡ Err f

@@ -1,8 +1,12 @@
 pub mod Conditions
+pub mod Context
+pub mod Digests
 pub mod Forms
 pub mod Kinds
 pub mod Listed
 pub mod Outside
 pub mod Reading
+pub mod Resolved
 pub mod Rules
 pub mod Script
+pub mod Written

@@ -1,14 +1,10 @@
 -- The items of a script, before any of them is read.
-use Rattle.std.specs.Prelude.{ℕ, suc, Bool, nat_le, Result, Ok, codes}
-use Rattle.serde_json.specs.Data.{Data, Items, no_items, item}
+use Rattle.std.specs.Prelude.{Bool, nat_le, Result, Ok, codes}
+use Rattle.serde_json.specs.Data.{Data, Items}
 use Rattle.script_reader.specs.Rules.{◌>>=◌, holds}
-use Rattle.script_reader.specs.Kinds.{keys, array_at}
+use Rattle.script_reader.specs.Kinds.{keys, array_at, item_count}
 use Rattle.script_reader.specs.declared.step.Rule.{Rule}
 use Rattle.script_reader.specs.declared.step.Rule.TheVariants as rules
-
-abbrev pub item_count : Items → ℕ
-item_count no_items = 0
-item_count (item d ds) = suc (item_count ds)
 
 -- at most 4,096 items
 abbrev pub few_items : Items → Bool

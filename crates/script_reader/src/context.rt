@@ -1,8 +1,160 @@
 //! What the steps so far declare.
 
-/// What a step is read in: whether the script is for a race. No form that is built declares a
-/// name. It is public so that a contract can say in what a step was checked.
-#[derive(Clone, Copy, Debug, PartialEq, Eq)]
+ghost use Rattle.std.specs.Prelude.{◌≡◌, option_map, nat_lt, ◌^◌};
+ghost use Rattle.std.specs.List.{list_any};
+ghost use Rattle.std.specs.Str.{bytes_eq};
+ghost use Rattle.script_reader.specs.Context.{person_by, channel_by, is_person, is_hand, is_channel, is_state, is_new, has_seed, has_index, are_people, are_states, signs, repeats};
+
+use nitro_bytes::{Key, Label, Listed, Name};
+
+/// A declared person, with its public key and the digest that names it.
+#[derive(Drop)]
+pub struct Person {
+    pub name: Label,
+    pub seed: [u8; 32],
+    /// The height of the key's tree.
+    pub h: u64,
+    pub node: bool,
+    pub key: Key,
+    pub digest: Name,
+}
+
+/// A declared channel, with the digest that names it.
+#[derive(Drop)]
+pub struct Channel {
+    pub name: Label,
+    pub digest: Name,
+}
+
+/// What a step is read in: whether the script is for a race, and what the steps before it declared
+/// and used up. It is public so that a contract can say in what a step was checked.
+#[derive(Drop)]
 pub struct Context {
     pub race: bool,
+    pub people: Listed<Person>,
+    pub channels: Listed<Channel>,
+    pub states: Listed<Label>,
+    /// Who signed, once for each sign and challenge step.
+    pub signers: Listed<Label>,
+}
+
+impl Context {
+    pub(crate) fn person_by(&self, name: &str) -> Option<&Person>
+        ensures { option_map (λ p. p.now) result ≡ person_by self.now name.now }
+    {
+        self.people
+            .as_slice()
+            .iter()
+            .find(|p| p.name.as_str() == name)
+    }
+
+    pub(crate) fn channel_by(&self, name: &str) -> Option<&Channel>
+        ensures { option_map (λ k. k.now) result ≡ channel_by self.now name.now }
+    {
+        self.channels
+            .as_slice()
+            .iter()
+            .find(|k| k.name.as_str() == name)
+    }
+
+    pub(crate) fn is_person(&self, name: &str) -> bool
+        ensures { result ≡ is_person self.now name.now }
+    {
+        self.people
+            .as_slice()
+            .iter()
+            .any(|p| p.name.as_str() == name)
+    }
+
+    pub(crate) fn is_hand(&self, name: &str) -> bool
+        ensures { result ≡ is_hand self.now name.now }
+    {
+        self.people
+            .as_slice()
+            .iter()
+            .any(|p| p.name.as_str() == name && !p.node)
+    }
+
+    pub(crate) fn is_channel(&self, name: &str) -> bool
+        ensures { result ≡ is_channel self.now name.now }
+    {
+        self.channels
+            .as_slice()
+            .iter()
+            .any(|c| c.name.as_str() == name)
+    }
+
+    pub(crate) fn is_state(&self, name: &str) -> bool
+        ensures { result ≡ is_state self.now name.now }
+    {
+        self.states.as_slice().iter().any(|s| s.as_str() == name)
+    }
+
+    pub(crate) fn is_new(&self, name: &str) -> bool
+        ensures { result ≡ is_new self.now name.now }
+    {
+        !(self.is_person(name) || self.is_channel(name) || self.is_state(name))
+    }
+
+    pub(crate) fn has_seed(&self, seed: &[u8; 32]) -> bool
+        ensures { result ≡ has_seed self.now seed.now }
+    {
+        self.people.as_slice().iter().any(|p| p.seed == *seed)
+    }
+
+    pub(crate) fn are_people(&self, names: &[Label]) -> bool
+        ensures { result ≡ are_people self.now names.now }
+    {
+        names.iter().all(|n| self.is_person(n.as_str()))
+    }
+
+    pub(crate) fn are_states(&self, names: &[Label]) -> bool
+        ensures { result ≡ are_states self.now names.now }
+    {
+        names.iter().all(|n| self.is_state(n.as_str()))
+    }
+
+    /// Whether a person has an index left to sign with.
+    pub(crate) fn has_index(&self, name: &str) -> bool
+        ensures { result ≡ has_index self.now name.now }
+    {
+        let signs = self.signs(name);
+        self.people
+            .as_slice()
+            .iter()
+            .any(|p| p.name.as_str() == name && is_below_power(signs, p.h))
+    }
+
+    /// How often a person signed.
+    fn signs(&self, name: &str) -> usize
+        ensures { result ≡ signs self.now name.now }
+    {
+        self.signers
+            .as_slice()
+            .iter()
+            .filter(|s| s.as_str() == name)
+            .count()
+    }
+}
+
+fn is_below_power(count: usize, h: u64) -> bool
+    ensures { result ≡ nat_lt count (2 ^ h) }
+{
+    h >= 64 || count < 1usize << h
+}
+
+fn is_among(name: &str, names: &[Label]) -> bool
+    ensures { result ≡ list_any (bytes_eq name.now) names.now }
+{
+    names.iter().any(|n| name == n.as_str())
+}
+
+/// Whether a name stands twice.
+pub(crate) fn repeats(names: &[Label]) -> bool
+    ensures { result ≡ repeats names.now }
+{
+    match names {
+        [] => false,
+        [first, rest @ ..] => is_among(first.as_str(), rest) || repeats(rest),
+    }
 }

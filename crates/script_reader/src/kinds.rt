@@ -1,18 +1,20 @@
 //! Reads the values of a step's keys by their kinds.
 
-ghost use Rattle.std.specs.Prelude.{◌≡◌, option_map};
+ghost use Rattle.std.specs.Prelude.{◌≡◌, [], option_map};
 ghost use Rattle.std.specs.List.{list_all};
 ghost use Rattle.serde_json.specs.View.{view, items_view};
 ghost use Rattle.script_reader.specs.Rules.{Gives};
-ghost use Rattle.script_reader.specs.Kinds.{has_keys, keys, text_in, word_at, number_at, is_lower_digit, is_hex, is_letter, is_name_byte, is_name, place_at, array_at};
+ghost use Rattle.script_reader.specs.Kinds.{has_keys, keys, text_in, word_at, number_of, number_at, flag_at, many_in, is_lower_digit, is_hex, is_letter, is_name_byte, is_name, name_of, name_at, names_at, place_at, array_at, seed_of, seed_at, app_of, app_at};
 
 use crate::step::{Rule, StepFault};
-use nitro_bytes::Label;
+use hex::FromHex;
+use nitro_bytes::{Label, Listed};
 use serde_json::Value;
 use std::alloc::Global;
 
+/// Whether the value is an object of so many keys.
 #[tactic(auto, using(crate::proofs::Counts::member_count_view))]
-fn has_keys(value: &Value, count: usize) -> bool
+pub(crate) fn has_keys(value: &Value, count: usize) -> bool
     ensures { result ≡ has_keys (view value.now) count }
 {
     match value.as_object() {
@@ -47,12 +49,32 @@ pub(crate) fn word_at(value: &Value) -> Result<&str, StepFault>
     }
 }
 
+/// The number from 0 to 2^64-1 that the value is.
+pub(crate) fn number_of(value: &Value) -> Result<u64, StepFault>
+    ensures { Gives (λ n. n) result (number_of (view value.now)) }
+{
+    match value.as_u64() {
+        Some(number) => Ok(number),
+        None => Err(StepFault::Broken(Rule::Shape)),
+    }
+}
+
 /// The number from 0 to 2^64-1 at the key.
 pub(crate) fn number_at(value: &Value, key: &str) -> Result<u64, StepFault>
     ensures { Gives (λ n. n) result (number_at key.now (view value.now)) }
 {
     match value.get(key).and_then(Value::as_u64) {
         Some(number) => Ok(number),
+        None => Err(StepFault::Broken(Rule::Shape)),
+    }
+}
+
+/// The true or false at the key.
+pub(crate) fn flag_at(value: &Value, key: &str) -> Result<bool, StepFault>
+    ensures { Gives (λ b. b) result (flag_at key.now (view value.now)) }
+{
+    match value.get(key).and_then(Value::as_bool) {
+        Some(flag) => Ok(flag),
         None => Err(StepFault::Broken(Rule::Shape)),
     }
 }
@@ -122,5 +144,88 @@ pub(crate) fn place_at(alloc: Global, value: &Value, key: &str) -> Result<Label,
             Ok(Label::make(String::from_str(alloc, text)?))
         }
         _ => Err(StepFault::Broken(Rule::Shape)),
+    }
+}
+
+/// The name that the value is.
+pub(crate) fn name_of(alloc: Global, value: &Value) -> Result<Label, StepFault>
+    ensures { Gives (λ l. l) result (name_of (view value.now)) }
+{
+    match value.as_str() {
+        Some(text) if is_name(text) => Ok(Label::make(String::from_str(alloc, text)?)),
+        _ => Err(StepFault::Broken(Rule::Shape)),
+    }
+}
+
+/// The name at the key.
+pub(crate) fn name_at(alloc: Global, value: &Value, key: &str) -> Result<Label, StepFault>
+    ensures { Gives (λ l. l) result (name_at key.now (view value.now)) }
+{
+    match text_in(value, key) {
+        Some(text) if is_name(text) => Ok(Label::make(String::from_str(alloc, text)?)),
+        _ => Err(StepFault::Broken(Rule::Shape)),
+    }
+}
+
+#[tactic(auto, using(crate::proofs::Many::goes_on, crate::proofs::Many::stops))]
+fn names_in(alloc: Global, values: &[Value]) -> Result<Listed<Label>, StepFault>
+    ensures { Gives (λ l. l) result (many_in name_of [] (items_view values.now)) }
+{
+    let mut names = Listed::make(Vec::new(alloc));
+    for value in values {
+        let name = name_of(alloc, value)?;
+        names.push(name)?;
+    }
+    Ok(names)
+}
+
+/// The names that the array at the key holds.
+pub(crate) fn names_at(alloc: Global, value: &Value, key: &str) -> Result<Listed<Label>, StepFault>
+    ensures { Gives (λ l. l) result (names_at key.now (view value.now)) }
+{
+    let values = array_at(value, key)?;
+    names_in(alloc, values)
+}
+
+fn seed_of(text: &str) -> Result<[u8; 32], StepFault>
+    ensures { Gives (λ s. s) result (seed_of text.now) }
+{
+    if !is_hex(text) {
+        return Err(StepFault::Broken(Rule::Shape));
+    }
+    match <[u8; 32] as FromHex>::from_hex(text).ok() {
+        Some(seed) => Ok(seed),
+        None => Err(StepFault::Broken(Rule::Shape)),
+    }
+}
+
+/// The 32 bytes that the 64 digits at the key spell.
+pub(crate) fn seed_at(value: &Value, key: &str) -> Result<[u8; 32], StepFault>
+    ensures { Gives (λ s. s) result (seed_at key.now (view value.now)) }
+{
+    match text_in(value, key) {
+        Some(text) => seed_of(text),
+        None => Err(StepFault::Broken(Rule::Shape)),
+    }
+}
+
+fn app_of(text: &str) -> Result<u8, StepFault>
+    ensures { Gives (λ n. n) result (app_of text.now) }
+{
+    match text {
+        "consensus" => Ok(0),
+        "payment" => Ok(1),
+        "fixed" => Ok(2),
+        _ => Err(StepFault::Broken(Rule::Shape)),
+    }
+}
+
+/// The number of the application at the key.
+pub(crate) fn app_at(value: &Value, key: &str) -> Result<u8, StepFault>
+    ensures { Gives (λ n. n) result (app_at key.now (view value.now)) }
+{
+    match text_in(value, key) {
+        Some(text) => app_of(text),
+        None => Err(StepFault::Broken(Rule::Shape)),
     }
 }

@@ -4,6 +4,7 @@ ghost use Rattle.std.specs.Prelude.{◌≡◌, ◌≤◌, [], length, nat_le, If
 ghost use Rattle.serde_json.specs.View.{view, items_view};
 ghost use Rattle.script_reader.specs.Rules.{Gives};
 ghost use Rattle.script_reader.specs.Listed.{few_items, listed};
+ghost use Rattle.script_reader.specs.Conditions.{after};
 ghost use Rattle.script_reader.specs.Reading.{step_of};
 ghost use Rattle.script_reader.specs.Script.{Ends, fault_at, at_step, start, steps_from, script_of, IsReading, AreChecked};
 ghost use Rattle.script_reader.specs.declared.script.ScriptFault.TheVariants.{NoMemory as NoMemoryLeft};
@@ -50,14 +51,27 @@ fn fault_at(step: u32, fault: StepFault) -> ScriptFault
     }
 }
 
+fn start(alloc: Global, race: bool) -> Context
+    ensures { result ≡ start race }
+{
+    Context {
+        race,
+        people: Listed::make(Vec::new(alloc)),
+        channels: Listed::make(Vec::new(alloc)),
+        states: Listed::make(Vec::new(alloc)),
+        signers: Listed::make(Vec::new(alloc)),
+    }
+}
+
 /// The step of this number.
 fn numbered(
     alloc: Global,
-    context: Context,
+    context: &mut Context,
     number: u32,
     value: &Value,
 ) -> Result<Step, ScriptFault>
-    ensures { Ends (λ s. s) result (at_step number (step_of context (view value.now))) }
+    ensures read { Ends (λ s. s) result (at_step number (step_of context.old (view value.now))) }
+    ensures noted { IfOk result (λ s. context.new ≡ after context.old s) }
 {
     match step_of(alloc, context, value) {
         Ok(step) => Ok(step),
@@ -72,12 +86,12 @@ fn steps_in(alloc: Global, race: bool, values: &[Value]) -> Result<Listed<Step>,
     ensures kept { IfOk result (λ l. AreChecked (start race) l) }
     ensures few { IfOk result (λ l. length l ≤ STEP_LIMIT) }
 {
-    let context = Context { race };
+    let mut context = start(alloc, race);
     let mut steps = Listed::make(Vec::new(alloc));
     let mut number = 0;
     for value in values {
         number += 1;
-        let step = numbered(alloc, context, number, value)?;
+        let step = numbered(alloc, &mut context, number, value)?;
         steps.push(step)?;
     }
     Ok(steps)

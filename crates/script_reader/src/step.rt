@@ -3,8 +3,8 @@
 ghost use Rattle.std.specs.Prelude.{◌≡◌};
 ghost use Rattle.script_reader.specs.declared.step.StepFault.TheVariants.{NoMemory as NoMemoryLeft};
 
-use nitro_bytes::Label;
-use std::alloc::AllocError;
+use nitro_bytes::{Label, Listed, NoMemory, Outcome};
+use std::alloc::{AllocError, AllocFailed};
 
 /// The rules of a script, in the order of their numbers in the text.
 #[derive(Clone, Copy, Debug, PartialEq, Eq)]
@@ -20,7 +20,7 @@ pub enum Rule {
 /// A step, whose fields are the keys of its form in order.
 #[derive(Drop)]
 pub enum Step {
-    /// `channel` is 64 digits 0-9 a-f, and `asset` is below 2^32.
+    /// `channel` is the name of a declared channel or 64 digits 0-9 a-f, and `asset` is below 2^32.
     Deposit {
         channel: Label,
         asset: u64,
@@ -29,6 +29,72 @@ pub enum Step {
     },
     Time {
         to: u64,
+    },
+    /// `h` is 5 or 10.
+    Person {
+        name: Label,
+        seed: [u8; 32],
+        h: u64,
+        node: bool,
+        watchers: u64,
+    },
+    /// Two to four people. `app` is 0 consensus, 1 payment or 2 fixed; `duration` is 1 to 2^32 - 1.
+    Channel {
+        name: Label,
+        people: Listed<Label>,
+        nonce: u64,
+        app: u8,
+        duration: u64,
+    },
+    /// `turn` is below 2^48, and `votes` is at most 3. With 0 votes the proposal is empty.
+    Sign {
+        name: Label,
+        channel: Label,
+        by: Label,
+        turn: u64,
+        is_final: bool,
+        outcome: Outcome,
+        votes: u64,
+        proposal: Outcome,
+    },
+    /// A chain names at most four states.
+    Challenge {
+        channel: Label,
+        chain: Listed<Label>,
+        by: Label,
+    },
+    Respond {
+        channel: Label,
+        from: Label,
+        state: Label,
+    },
+    Refute {
+        channel: Label,
+        state: Label,
+    },
+    Checkpoint {
+        channel: Label,
+        chain: Listed<Label>,
+    },
+    Conclude {
+        channel: Label,
+        chain: Listed<Label>,
+    },
+    /// The outcome is that of the state. `asset` is below 2^32, and `index` below 2^8.
+    Transfer {
+        channel: Label,
+        state: Label,
+        asset: u64,
+        index: u64,
+    },
+    /// The outcomes are those of the states. `asset` is below 2^32, and `position` below 2^8.
+    Claim {
+        guarantor: Label,
+        state: Label,
+        target: Label,
+        target_state: Label,
+        asset: u64,
+        position: u64,
     },
 }
 
@@ -43,6 +109,30 @@ impl From<AllocError> for StepFault {
     ghost from_gives = { λ _ e. e ≡ NoMemoryLeft };
 
     fn from(_: AllocError) -> StepFault {
+        StepFault::NoMemory
+    }
+}
+
+impl From<NoMemory> for StepFault {
+    ghost from_gives = { λ _ e. e ≡ NoMemoryLeft };
+
+    fn from(_: NoMemory) -> StepFault {
+        StepFault::NoMemory
+    }
+}
+
+impl<T: Drop> From<AllocFailed<T>> for StepFault {
+    ghost from_gives = { λ _ e. e ≡ NoMemoryLeft };
+
+    fn from(_: AllocFailed<T>) -> StepFault {
+        StepFault::NoMemory
+    }
+}
+
+impl From<sign_index::NoMemory> for StepFault {
+    ghost from_gives = { λ _ e. e ≡ NoMemoryLeft };
+
+    fn from(_: sign_index::NoMemory) -> StepFault {
         StepFault::NoMemory
     }
 }

@@ -1,5 +1,8 @@
 //! Tests of whole scripts and of sources.
 
 mod broken;
+mod declared;
+mod limits;
+mod payouts;
 mod scripts;
 mod sources;

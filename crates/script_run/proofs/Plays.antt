@@ -1,42 +1,45 @@
--- A play goes on by one entry, and is legal.
-use Rattle.std.proofs.Common.{◌≡◌, ℕ, suc, ◌+◌, ◌<◌, List, [], ◌∷◌, ◌++◌, length, take, get_or, refl, ap, sym, ◌∙◌, arith}
-use Rattle.std.proofs.lemmas.List.{length-reverse}
+-- A play goes on step by step, and a step enters at most one op.
+use Rattle.std.proofs.Common.{◌≡◌, ℕ, suc, ◌+◌, ◌<◌, ◌≤◌, List, [], ◌∷◌, length, take, get_or, refl, ap, arith, rules}
 use Rattle.std.proofs.lemmas.List.Sums.{fold_more}
-use Rattle.std.specs.Prelude.{fold}
-use Rattle.channel_calls.specs.History.{Legal, newest_first, reply_to}
-use Rattle.channel_calls.specs.declared.call.Op.{Op}
-use Rattle.channel_calls.specs.declared.entry.Entry.{Entry}
-use Rattle.channel_calls.specs.declared.refusal.Reply.{Reply}
+use Rattle.std.specs.Prelude.{Option, Some, None, unwrap_or}
 use Rattle.script_reader.specs.declared.step.Step.{Step}
-use Rattle.support_chain.specs.Real.{real}
-use Rattle.script_run.proofs.Texts.{newest_first-push}
-use Rattle.script_run.specs.Play.{op_of, entered, play}
+use Rattle.script_reader.specs.declared.step.Step.TheVariants as steps
+use Rattle.script_run.specs.Hands.{◌>>=◌, SignedBy}
+use Rattle.channel_calls.specs.declared.call.Op.{Op}
+use Rattle.channel_calls.specs.declared.call.Op.TheVariants as ops
+use Rattle.script_run.specs.Play.{attempted, entering, with_person, played, empty, play}
+use Rattle.script_run.specs.declared.stage.Stage.{Stage}
 
-pub play_more : (steps : List Step) (i : ℕ) (d : Step) → i < length steps → play (take (i + 1) steps) ≡ entered (play (take i steps)) (op_of (get_or steps i d))
-play_more steps i d h = fold_more (λ (past : List Entry) (step : Step). entered past (op_of step)) [] steps i d h
+pub play_more : (steps : List Step) (i : ℕ) (d : Step) → i < length steps → play (take (i + 1) steps) ≡ played (play (take i steps)) (get_or steps i d)
+play_more steps i d h = fold_more played empty steps i d h
 
-legal_from : (past : List Entry) (steps : List Step) → Legal real past → Legal real (fold (λ past step. entered past (op_of step)) past steps)
-legal_from past [] legal = legal
-legal_from past (step ∷ steps) legal = legal_from (entered past (op_of step)) steps (legal, refl, refl)
+-- at most one more entry
+record Grows (s : Stage) (o : Option Stage) : Type 0 where
+  few : length (unwrap_or o s).docket ≤ suc (length s.docket)
 
--- each play is a legal history
-pub Legal_play : (steps : List Step) → Legal real (play steps)
-Legal_play steps = legal_from [] steps tt
+grows_after : {A : Type 0} (s : Stage) (o : Option A) (f : A → Option Stage) → ((x : A) → Grows s (f x)) → Grows s (o >>= f)
+grows_after s None f h = record { few = omega (arith) }
+grows_after s (Some x) f h = h x
 
-abbrev pub entry_by_script : ℕ → Op → Reply → Entry
-entry_by_script number op reply = record { number = number; by = 0; op = op; reply = reply }
+entered_once : (s t : Stage) (op : Op) → t.docket ≡ s.docket → Grows s (Some (entering t op))
+entered_once s t op same = record { few = omega (arith, ap length same) }
 
--- a history that is played so far, and the entry of the next step
-pub step_played : (history new : List Entry) (steps : List Step) (i number : ℕ) (d : Step) (op : Op) (reply : Reply) → i < length steps → length history ≡ i
-    → newest_first history ≡ play (take i steps) → op ≡ op_of (get_or steps i d) → reply ≡ reply_to real (newest_first history) op → number ≡ i + 1
-    → new ≡ history ++ entry_by_script number op reply ∷ [] → newest_first new ≡ play (take (i + 1) steps)
-step_played history new steps i number d op reply l count played is_op is_reply is_number is_new =
-    let past = newest_first history in
-    let next : number ≡ suc (length past) = omega (arith, length-reverse history, count, is_number) in
-    ap newest_first is_new
-    ∙ newest_first-push history (entry_by_script number op reply)
-    ∙ ap (λ n. entry_by_script n op reply ∷ past) next
-    ∙ ap (λ r. entry_by_script (suc (length past)) op r ∷ past) is_reply
-    ∙ ap (λ o. entered past o) is_op
-    ∙ ap (λ p. entered p (op_of (get_or steps i d))) played
-    ∙ sym (play_more steps i d l)
+kept : (s t : Stage) → t.docket ≡ s.docket → Grows s (Some t)
+kept s t same = record { few = omega (arith, ap length same) }
+
+attempt_grows : (s : Stage) (step : Step) → Grows s (attempted s step)
+attempt_grows s (steps.Deposit channel asset expected amount) = grows_after s _ _ (λ to. entered_once s s _ refl)
+attempt_grows s (steps.Time to) = entered_once s s (ops.Time to) refl
+attempt_grows s (steps.Person name seed h node watchers) = kept s (with_person s name seed h) refl
+attempt_grows s (steps.Channel name people nonce app duration) = grows_after s _ _ (λ f. kept s _ refl)
+attempt_grows s (steps.Sign name channel by turn is_final items votes proposal) = search (rules, grows_after, kept)
+attempt_grows s (steps.Challenge channel chain by) = search (rules, grows_after, entered_once)
+attempt_grows s (steps.Respond channel from next) = search (rules, grows_after, entered_once)
+attempt_grows s (steps.Refute channel next) = search (rules, grows_after, entered_once)
+attempt_grows s (steps.Checkpoint channel chain) = grows_after s _ _ (λ f. entered_once s s _ refl)
+attempt_grows s (steps.Conclude channel chain) = grows_after s _ _ (λ f. entered_once s s _ refl)
+attempt_grows s (steps.Transfer channel state asset index) = search (rules, grows_after, entered_once)
+attempt_grows s (steps.Claim guarantor promise target ending asset position) = search (rules, grows_after, entered_once)
+
+pub docket_grows : (s : Stage) (step : Step) → length (played s step).docket ≤ suc (length s.docket)
+docket_grows s step = (attempt_grows s step).few

@@ -9,15 +9,15 @@ use Rattle.channel_calls.specs.History.{newest_first, time_set, or_before, now_o
 use Rattle.channel_calls.specs.declared.entry.Entry.{Entry}
 use Rattle.channel_calls.specs.declared.funds.Flow.{Flow}
 use Rattle.channel_calls.proofs.Conservation.{flows_of-push}
-use Rattle.script_run.specs.Text.{assets_of, receivers_of, add_receiver, Pair}
+use Rattle.script_run.specs.Text.{assets_of, receivers_of, add_new, Pair}
 
 pub assets_of_more : (flows : List Flow) (i : ℕ) (seen new : List ℕ) (d : Flow) → i < length flows → seen ≡ assets_of (take i flows) → new ≡ insert_key nat_cmp seen (get_or flows i d).asset → new ≡ assets_of (take (i + 1) flows)
 assets_of_more flows i seen new d h before after =
     after ∙ ap (λ s. insert_key nat_cmp s (get_or flows i d).asset) before ∙ sym (fold_more (λ (s : List ℕ) (f : Flow). insert_key nat_cmp s f.asset) [] flows i d h)
 
-pub receivers_of_more : (flows : List Flow) (i : ℕ) (seen new : List Pair) (d : Flow) → i < length flows → seen ≡ receivers_of (take i flows) → new ≡ add_receiver seen (get_or flows i d).asset (get_or flows i d).to → new ≡ receivers_of (take (i + 1) flows)
+pub receivers_of_more : (flows : List Flow) (i : ℕ) (seen new : List Pair) (d : Flow) → i < length flows → seen ≡ receivers_of (take i flows) → new ≡ add_new seen ((get_or flows i d).to, (get_or flows i d).asset) → new ≡ receivers_of (take (i + 1) flows)
 receivers_of_more flows i seen new d h before after =
-    after ∙ ap (λ s. add_receiver s (get_or flows i d).asset (get_or flows i d).to) before ∙ sym (fold_more (λ (s : List Pair) (f : Flow). add_receiver s f.asset f.to) [] flows i d h)
+    after ∙ ap (λ s. add_new s ((get_or flows i d).to, (get_or flows i d).asset)) before ∙ sym (fold_more (λ (s : List Pair) (f : Flow). add_new s (f.to, f.asset)) [] flows i d h)
 
 -- the newest entry comes first
 pub newest_first-push : (h : List Entry) (e : Entry) → newest_first (h ++ e ∷ []) ≡ e ∷ newest_first h

@@ -3,7 +3,6 @@ use Rattle.std.specs.Prelude.{◌≡◌, ◌≤◌, ◌<◌, ℕ, List, [], ◌�
 use Rattle.std.specs.Fmt.{decimal}
 use Rattle.std.specs.Io.KnownBytes.{Consumes, IsAtEnd}
 use Rattle.channel_calls.specs.History.{newest_first}
-use Rattle.channel_calls.specs.declared.entry.Entry.{Entry}
 use Rattle.script_reader.specs.Outside.{Rose}
 use Rattle.script_reader.specs.Script.{IsScript, Breaks}
 use Rattle.script_reader.specs.declared.step.Rule.{Rule}
@@ -49,13 +48,13 @@ Takes g P = (bytes : List ℕ) × Consumes g.before g.after bytes × P bytes
 abbrev pub Reads : Given → (List ℕ → Type 0) → Type 0
 Reads g P = (bytes : List ℕ) × Consumes g.before g.after bytes × IsAtEnd g.after × (length bytes ≤ 4194304) × P bytes
 
--- the bytes are a script, whose play is this history in the order of time
-abbrev pub IsPlayed : List Entry → List ℕ → Type 0
-IsPlayed history bytes = (steps : List Step) × IsScript false bytes steps × (newest_first history ≡ play steps)
+-- the bytes are a script, of whose play the report tells the history in the order of time, and the declared names
+abbrev pub IsPlayed : Report → List ℕ → Type 0
+IsPlayed report bytes = (steps : List Step) × IsScript false bytes steps × (newest_first report.history ≡ (play steps).docket) × (report.labels ≡ (play steps).labels)
 
 -- Why a run comes to each end, before its text is put.
 abbrev pub EndsAs : Given → Status → Option Report → Type 0
-EndsAs g Done (Some report) = IsRun g.words × Reads g (IsPlayed report.history)
+EndsAs g Done (Some report) = IsRun g.words × Reads g (IsPlayed report)
 EndsAs g Usage None = ¬ (IsRun g.words)
 EndsAs g (Script step rule) None = IsRun g.words × Reads g (Breaks false step rule)
 EndsAs g ReadFault None = IsRun g.words × Takes g (λ bytes. length bytes ≤ 4194304) × Rose g.faults_before g.faults_after
@@ -78,14 +77,14 @@ rule_text rules.Limit = codes "4 Limit"
 rule_text rules.NotBuilt = codes "5 NotBuilt"
 rule_text rules.NotInRace = codes "6 NotInRace"
 
--- the history of a report, or none
-abbrev pub history_of : Option Report → List Entry
-history_of None = []
-history_of (Some report) = report.history
+-- the text of a report, where there is one
+abbrev pub printed : Option Report → List ℕ
+printed None = []
+printed (Some report) = text_of report.labels report.history
 
 -- the bytes that an end owes
 abbrev pub owed : Status → Option Report → List ℕ
-owed Done report = text_of (history_of report)
+owed Done report = printed report
 owed NoMemory report = []
 owed Usage report = ended (codes "usage")
 owed (Script step rule) report = codes "script" & decimal step & ended (rule_text rule)

@@ -1,33 +1,34 @@
 -- The printed text of a history, whose entries are in the order of time.
-use Rattle.std.specs.Prelude.{◌==◌, ◌&&◌, ℕ, List, [], ◌∷◌, ◌++◌, length, Bool, Option, Some, None, if◌then◌else◌, fold, flat_map, codes}
+use Rattle.std.specs.Prelude.{◌==◌, ◌&&◌, ℕ, List, [], ◌∷◌, ◌++◌, length, Bool, if◌then◌else◌, fold, flat_map, codes, Option, Some, None}
 use Rattle.std.specs.Fmt.{decimal}
 use Rattle.std.specs.List.{list_any}
 use Rattle.std.specs.Str.{bytes_eq}
 use Rattle.std.specs.Ordering.{nat_cmp}
 use Rattle.std.specs.BTreeSet.{insert_key}
 use Rattle.hex.specs.Hex.{encode_lower}
+use Rattle.nitro_bytes.specs.Outcomes.{is_same}
 use Rattle.nitro_bytes.specs.Parts.{FixedParts, StateParts}
-use Rattle.nitro_bytes.specs.Spelling.{fixed}
+use Rattle.nitro_bytes.specs.Spelling.{fixed as fixed_bytes}
 use Rattle.nitro_bytes.specs.declared.fault.StepFault.{StepFault}
-use Rattle.nitro_bytes.specs.declared.fault.StepFault.TheVariants as steps
+use Rattle.nitro_bytes.specs.declared.fault.StepFault.TheVariants as step_faults
 use Rattle.nitro_bytes.specs.declared.fault.SupportFault.{SupportFault}
-use Rattle.nitro_bytes.specs.declared.fault.SupportFault.TheVariants as supports
+use Rattle.nitro_bytes.specs.declared.fault.SupportFault.TheVariants as support_faults
 use Rattle.nitro_bytes.specs.declared.value.Dest.{Dest}
 use Rattle.nitro_bytes.specs.declared.value.Dest.TheVariants.{Person, Channel}
 use Rattle.channel_model.specs.Rules.{newest}
 use Rattle.channel_name.specs.Digests.{name_of_channel}
-use Rattle.channel_calls.specs.Flows.{held_in, deposited_in, held_by_all, paid_to_all}
+use Rattle.channel_calls.specs.Flows.{held_in, paid_in, deposited_in, held_by_all, paid_to_all}
 use Rattle.channel_calls.specs.History.{newest_first, now_of, flows_of}
 use Rattle.channel_calls.specs.declared.call.Call.{Call}
-use Rattle.channel_calls.specs.declared.call.Call.TheVariants.{Deposit, Challenge, Respond, Refute, Checkpoint, Conclude}
+use Rattle.channel_calls.specs.declared.call.Call.TheVariants.{Deposit, Challenge, Respond, Refute, Checkpoint, Conclude, Transfer, Claim}
 use Rattle.channel_calls.specs.declared.call.Op.{Op}
 use Rattle.channel_calls.specs.declared.call.Op.TheVariants as ops
 use Rattle.channel_calls.specs.declared.entry.Entry.{Entry}
 use Rattle.channel_calls.specs.declared.funds.Flow.{Flow}
 use Rattle.channel_calls.specs.declared.refusal.Refusal.{Refusal}
-use Rattle.channel_calls.specs.declared.refusal.Refusal.TheVariants.{IsFinal, NotSupported, Stale, BadChallenger, NoChallenge, WrongState, WrongTurn, BadSignature, BadStep, NotNewer, NotChallengers, NotFinalState, Zero, Underheld, AssetFull, Backwards, TooLate}
+use Rattle.channel_calls.specs.declared.refusal.Refusal.TheVariants.{IsFinal, NotSupported, Stale, BadChallenger, NoChallenge, WrongState, WrongTurn, BadSignature, BadStep, NotNewer, NotChallengers, NotFinalState, Zero, Underheld, AssetFull, NotFinal, WrongOutcome, NoAsset, WrongKind, WrongTarget, NotListed, NoItem, NothingDue, Backwards, TooLate}
 use Rattle.channel_calls.specs.declared.refusal.Reply.{Reply}
-use Rattle.channel_calls.specs.declared.refusal.Reply.TheVariants.{Held, Until, Opened, Concluded, Now, No}
+use Rattle.channel_calls.specs.declared.refusal.Reply.TheVariants.{Held, Until, Opened, Concluded, Paid, Now, No}
 
 -- two words with a space between them
 infixr 5 ◌&◌
@@ -38,76 +39,109 @@ a & b = a ++ 32 ∷ b
 abbrev pub ended : List ℕ → List ℕ
 ended word = word ++ 10 ∷ []
 
+-- ---- names
+
+-- what was declared with each name, in the order of declaration
+abbrev pub Labels : Type 0
+Labels = List (Dest × List ℕ)
+
+abbrev pub digits_of : Dest → List ℕ
+digits_of (Person person) = encode_lower person
+digits_of (Channel channel) = encode_lower channel
+
+-- the first name that a person or a channel was declared with, else its digits
+abbrev pub dest_text : Labels → Dest → List ℕ
+dest_text [] dest = digits_of dest
+dest_text (label ∷ labels) dest = if is_same label.0 dest then label.1 else dest_text labels dest
+
+abbrev pub channel_text : Labels → List ℕ → List ℕ
+channel_text labels channel = dest_text labels (Channel channel)
+
+-- of the channel with a fixed part
+abbrev pub fixed_text : Labels → FixedParts → List ℕ
+fixed_text labels f = channel_text labels (name_of_channel (fixed_bytes f))
+
 -- ---- entries
 
--- a channel by its fixed part, and the turn of a chain's last state, if it has one
-abbrev pub channel_text : FixedParts → List ℕ
-channel_text f = encode_lower (name_of_channel (fixed f))
+abbrev pub turn_or_dash : Option StateParts → List ℕ
+turn_or_dash None = codes "-"
+turn_or_dash (Some s) = decimal s.turn
 
-abbrev pub turn_text : Option StateParts → List ℕ
-turn_text None = codes "-"
-turn_text (Some s) = decimal s.turn
+-- the turn of the last state of a row
+abbrev pub top_text : List StateParts → List ℕ
+top_text states = turn_or_dash (newest states)
 
-abbrev pub call_text : Call → List ℕ
-call_text (Deposit channel asset expected amount) = codes "deposit" & encode_lower channel & decimal asset & decimal expected & decimal amount
-call_text (Challenge c who signature) = codes "challenge" & channel_text c.fixed & turn_text (newest c.states)
-call_text (Respond f from next) = codes "respond" & channel_text f & decimal next.state.turn
-call_text (Refute f next) = codes "refute" & channel_text f & decimal next.state.turn
-call_text (Checkpoint c) = codes "checkpoint" & channel_text c.fixed & turn_text (newest c.states)
-call_text (Conclude c) = codes "conclude" & channel_text c.fixed & turn_text (newest c.states)
+abbrev pub call_text : Labels → Call → List ℕ
+call_text labels (Deposit channel asset expected amount) = codes "deposit" & channel_text labels channel & decimal asset & decimal expected & decimal amount
+call_text labels (Challenge chain who signature) = codes "challenge" & fixed_text labels chain.fixed & top_text chain.states
+call_text labels (Respond fixed from next) = codes "respond" & fixed_text labels fixed & decimal next.state.turn
+call_text labels (Refute fixed next) = codes "refute" & fixed_text labels fixed & decimal next.state.turn
+call_text labels (Checkpoint chain) = codes "checkpoint" & fixed_text labels chain.fixed & top_text chain.states
+call_text labels (Conclude chain) = codes "conclude" & fixed_text labels chain.fixed & top_text chain.states
+call_text labels (Transfer channel outcome asset index) = codes "transfer" & channel_text labels channel & decimal asset & decimal index
+call_text labels (Claim guarantor promise target outcome asset position) = codes "claim" & channel_text labels guarantor & channel_text labels target & decimal asset & decimal position
 
-abbrev pub op_text : Op → List ℕ
-op_text (ops.Call call) = call_text call
-op_text (ops.Time t) = codes "time" & decimal t
+abbrev pub op_text : Labels → Op → List ℕ
+op_text labels (ops.Call call) = call_text labels call
+op_text labels (ops.Time t) = codes "time" & decimal t
 
--- the number of a step's fault
-abbrev pub step_number : StepFault → ℕ
-step_number steps.Outcome = 1
-step_number steps.Data = 2
-step_number steps.Votes = 3
-step_number steps.Proposal = 4
-step_number steps.Raised = 5
-step_number steps.Lowered = 6
-step_number steps.EarlyFinal = 7
-step_number steps.AfterFinal = 8
+-- the number of a broken rule of a step
+abbrev pub step_fault_number : StepFault → ℕ
+step_fault_number step_faults.Outcome = 1
+step_fault_number step_faults.Data = 2
+step_fault_number step_faults.Votes = 3
+step_fault_number step_faults.Proposal = 4
+step_fault_number step_faults.Raised = 5
+step_fault_number step_faults.Lowered = 6
+step_fault_number step_faults.EarlyFinal = 7
+step_fault_number step_faults.AfterFinal = 8
 
--- the number of a chain's fault, its place, and the number of the step's fault
-abbrev pub support_text : SupportFault → List ℕ
-support_text supports.Length = codes "1"
-support_text (supports.Turn i) = codes "2" & decimal i
-support_text (supports.Step i fault) = codes "3" & decimal i & decimal (step_number fault)
-support_text (supports.Signature j) = codes "4" & decimal j
+-- the number of a break of a chain, its place, and the number of the broken rule
+abbrev pub support_fault_text : SupportFault → List ℕ
+support_fault_text support_faults.Length = codes "1"
+support_fault_text (support_faults.Turn place) = codes "2" & decimal place
+support_fault_text (support_faults.Step place fault) = codes "3" & decimal place & decimal (step_fault_number fault)
+support_fault_text (support_faults.Signature who) = codes "4" & decimal who
 
 -- the number and the name of a refusal, and its value
-abbrev pub refusal_text : Refusal → List ℕ
-refusal_text IsFinal = codes "1 IsFinal"
-refusal_text (NotSupported fault) = codes "2 NotSupported" & support_text fault
-refusal_text (Stale recorded) = codes "3 Stale" & decimal recorded
-refusal_text BadChallenger = codes "4 BadChallenger"
-refusal_text NoChallenge = codes "5 NoChallenge"
-refusal_text WrongState = codes "6 WrongState"
-refusal_text (WrongTurn wanted) = codes "7 WrongTurn" & decimal wanted
-refusal_text BadSignature = codes "8 BadSignature"
-refusal_text (BadStep fault) = codes "9 BadStep" & decimal (step_number fault)
-refusal_text (NotNewer recorded) = codes "10 NotNewer" & decimal recorded
-refusal_text NotChallengers = codes "11 NotChallengers"
-refusal_text (NotFinalState i) = codes "12 NotFinalState" & decimal i
-refusal_text Zero = codes "13 Zero"
-refusal_text (Underheld held) = codes "14 Underheld" & decimal held
-refusal_text (AssetFull deposited) = codes "15 AssetFull" & decimal deposited
-refusal_text (Backwards now) = codes "24 Backwards" & decimal now
-refusal_text TooLate = codes "25 TooLate"
+abbrev pub refusal_text : Labels → Refusal → List ℕ
+refusal_text labels IsFinal = codes "1 IsFinal"
+refusal_text labels (NotSupported fault) = codes "2 NotSupported" & support_fault_text fault
+refusal_text labels (Stale recorded) = codes "3 Stale" & decimal recorded
+refusal_text labels BadChallenger = codes "4 BadChallenger"
+refusal_text labels NoChallenge = codes "5 NoChallenge"
+refusal_text labels WrongState = codes "6 WrongState"
+refusal_text labels (WrongTurn wanted) = codes "7 WrongTurn" & decimal wanted
+refusal_text labels BadSignature = codes "8 BadSignature"
+refusal_text labels (BadStep fault) = codes "9 BadStep" & decimal (step_fault_number fault)
+refusal_text labels (NotNewer recorded) = codes "10 NotNewer" & decimal recorded
+refusal_text labels NotChallengers = codes "11 NotChallengers"
+refusal_text labels (NotFinalState place) = codes "12 NotFinalState" & decimal place
+refusal_text labels Zero = codes "13 Zero"
+refusal_text labels (Underheld held) = codes "14 Underheld" & decimal held
+refusal_text labels (AssetFull deposited) = codes "15 AssetFull" & decimal deposited
+refusal_text labels (NotFinal channel) = codes "16 NotFinal" & channel_text labels channel
+refusal_text labels (WrongOutcome channel) = codes "17 WrongOutcome" & channel_text labels channel
+refusal_text labels NoAsset = codes "18 NoAsset"
+refusal_text labels WrongKind = codes "19 WrongKind"
+refusal_text labels WrongTarget = codes "20 WrongTarget"
+refusal_text labels NotListed = codes "21 NotListed"
+refusal_text labels NoItem = codes "22 NoItem"
+refusal_text labels (NothingDue held) = codes "23 NothingDue" & decimal held
+refusal_text labels (Backwards now) = codes "24 Backwards" & decimal now
+refusal_text labels TooLate = codes "25 TooLate"
 
-abbrev pub reply_text : Reply → List ℕ
-reply_text (Held n) = codes "ok held" & decimal n
-reply_text (Until n) = codes "ok until" & decimal n
-reply_text (Opened n) = codes "ok open" & decimal n
-reply_text (Concluded n) = codes "ok final" & decimal n
-reply_text (Now n) = codes "ok now" & decimal n
-reply_text (No refusal) = codes "no" & refusal_text refusal
+abbrev pub reply_text : Labels → Reply → List ℕ
+reply_text labels (Held n) = codes "ok held" & decimal n
+reply_text labels (Until n) = codes "ok until" & decimal n
+reply_text labels (Opened n) = codes "ok open" & decimal n
+reply_text labels (Concluded n) = codes "ok final" & decimal n
+reply_text labels (Paid n) = codes "ok paid" & decimal n
+reply_text labels (Now n) = codes "ok now" & decimal n
+reply_text labels (No refusal) = codes "no" & refusal_text labels refusal
 
-abbrev pub entry_line : Entry → List ℕ
-entry_line e = decimal e.number & decimal e.by & op_text e.op & ended (reply_text e.reply)
+abbrev pub entry_line : Labels → Entry → List ℕ
+entry_line labels e = decimal e.number & decimal e.by & op_text labels e.op & ended (reply_text labels e.reply)
 
 abbrev pub end_line : List Entry → List ℕ
 end_line h = codes "end entries" & decimal (length h) & codes "now" & ended (decimal (now_of (newest_first h)))
@@ -125,37 +159,41 @@ asset_line flows asset =
     & codes "held" & decimal (held_by_all flows asset)
     & codes "paid" & ended (decimal (paid_to_all flows asset))
 
--- ---- channels
+-- ---- balances
 
--- a channel and an asset
+-- a destination and an asset
 abbrev pub Pair : Type 0
-Pair = List ℕ × ℕ
+Pair = Dest × ℕ
 
 abbrev pub is_pair : Pair → Pair → Bool
-is_pair a b = bytes_eq a.0 b.0 && (a.1 == b.1)
+is_pair a b = is_same a.0 b.0 && (a.1 == b.1)
 
 abbrev pub add_new : List Pair → Pair → List Pair
 add_new seen pair = if list_any (λ p. is_pair p pair) seen then seen else seen ++ pair ∷ []
 
-abbrev pub add_receiver : List Pair → ℕ → Dest → List Pair
-add_receiver seen asset (Channel name) = add_new seen (name, asset)
-add_receiver seen asset (Person name) = seen
-
--- the channels that received something, with its asset, in the order of first receipt
+-- who received something, with its asset, in the order of first receipt
 abbrev pub receivers_of : List Flow → List Pair
-receivers_of flows = fold (λ seen flow. add_receiver seen flow.asset flow.to) [] flows
+receivers_of flows = fold (λ seen flow. add_new seen (flow.to, flow.asset)) [] flows
 
--- a line where the channel holds something
-unfoldable pub held_line : List ℕ → ℕ → ℕ → List ℕ
-held_line channel asset held = if held == 0 then [] else codes "held" & encode_lower channel & decimal asset & ended (decimal held)
+-- a line where the balance isn't 0: its word, whose it is, the asset and the amount
+unfoldable pub balance_line : List ℕ → List ℕ → ℕ → ℕ → List ℕ
+balance_line word name asset amount = if amount == 0 then [] else word & name & decimal asset & ended (decimal amount)
 
-abbrev pub pair_line : List Flow → Pair → List ℕ
-pair_line flows pair = held_line pair.0 pair.1 (held_in flows pair.0 pair.1)
+-- what a channel holds of an asset
+abbrev pub held_line : Labels → List Flow → Pair → List ℕ
+held_line labels flows (Channel channel, asset) = balance_line (codes "held") (channel_text labels channel) asset (held_in flows channel asset)
+held_line labels flows (Person person, asset) = []
+
+-- what a person was paid of an asset
+abbrev pub paid_line : Labels → List Flow → Pair → List ℕ
+paid_line labels flows (Person person, asset) = balance_line (codes "paid") (dest_text labels (Person person)) asset (paid_in flows person asset)
+paid_line labels flows (Channel channel, asset) = []
 
 -- ---- the whole
 
-abbrev pub text_of : List Entry → List ℕ
-text_of h =
-    flat_map entry_line h ++ end_line h
+abbrev pub text_of : Labels → List Entry → List ℕ
+text_of labels h =
+    flat_map (entry_line labels) h ++ end_line h
     ++ flat_map (asset_line (flows_of h)) (assets_of (flows_of h))
-    ++ flat_map (pair_line (flows_of h)) (receivers_of (flows_of h))
+    ++ flat_map (held_line labels (flows_of h)) (receivers_of (flows_of h))
+    ++ flat_map (paid_line labels (flows_of h)) (receivers_of (flows_of h))

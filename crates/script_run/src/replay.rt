@@ -1,28 +1,20 @@
-//! Plays the steps of a script on an adjudicator.
+//! Plays the steps of a script.
 
-ghost use Rattle.std.specs.Prelude.{◌≡◌, ◌≤◌, false, length, IfOk};
-ghost use Rattle.channel_calls.specs.History.{Legal, newest_first};
+ghost use Rattle.std.specs.Prelude.{◌≡◌, ◌≤◌, ◌<◌, ◌-◌, ◌^◌, false, length, OnOk, IfOk};
 ghost use Rattle.script_reader.specs.Script.{start, AreChecked, IsChecked};
-ghost use Rattle.support_chain.specs.Real.{real};
-ghost use Rattle.script_run.specs.Play.{name_of, op_of, play};
+ghost use Rattle.script_run.specs.Play.{played, play};
 
-use adjudicator_core::Adjudicator;
-use channel_calls::{Call, Entry, Op};
-use hex::FromHex;
-use nitro_bytes::{Name, NoMemory};
+use crate::stage::{Stage, state_with_votes};
+use nitro_bytes::NoMemory;
 use script_reader::{STEP_LIMIT, Step};
 use std::alloc::Global;
 
-fn name_of(digits: &str) -> Name
-    ensures { result ≡ name_of digits.now }
-{
-    <[u8; 32] as FromHex>::from_hex(digits).unwrap_or([0; 32])
-}
-
-/// What a step enters.
-fn op_of(step: &Step) -> Op
-    requires { IsChecked step.now }
-    ensures { result ≡ op_of step.now }
+/// Plays one more step.
+#[tactic(auto, using(script_reader::proofs::Checked::checked_fits))]
+fn play_step(stage: &mut Stage, step: &Step) -> Result<(), NoMemory>
+    requires checked { IsChecked step.now }
+    requires room { length stage.old.docket < 2 ^ 32 - 1 }
+    ensures { OnOk result (stage.new ≡ played stage.old step.now) }
 {
     match step {
         Step::Deposit {
@@ -30,37 +22,71 @@ fn op_of(step: &Step) -> Op
             asset,
             expected,
             amount,
-        } => Op::Call(Call::Deposit {
-            channel: name_of(channel.as_str()),
-            asset: *asset as u32,
-            expected: *expected,
-            amount: *amount,
-        }),
-        Step::Time { to } => Op::Time(*to),
+        } => stage.deposit(channel, *asset as u32, *expected, *amount),
+        Step::Time { to } => stage.set_time(*to),
+        Step::Person { name, seed, h, .. } => stage.person(name, seed, *h),
+        Step::Channel {
+            name,
+            people,
+            nonce,
+            app,
+            duration,
+        } => stage.channel(name, people.as_slice(), *nonce, *app, *duration as u32),
+        Step::Sign {
+            name,
+            channel,
+            by,
+            turn,
+            is_final,
+            outcome,
+            votes,
+            proposal,
+        } => {
+            let alloc = stage.alloc();
+            let votes = *votes as u8;
+            match state_with_votes(alloc, *turn, *is_final, outcome, votes, proposal)? {
+                Some(state) => stage.sign(name, channel, by, state),
+                None => Ok(()),
+            }
+        }
+        Step::Challenge { channel, chain, by } => stage.challenge(channel, chain.as_slice(), by),
+        Step::Respond {
+            channel,
+            from,
+            state,
+        } => stage.respond(channel, from, state),
+        Step::Refute { channel, state } => stage.refute(channel, state),
+        Step::Checkpoint { channel, chain } => stage.checkpoint(channel, chain.as_slice()),
+        Step::Conclude { channel, chain } => stage.conclude(channel, chain.as_slice()),
+        Step::Transfer {
+            channel,
+            state,
+            asset,
+            index,
+        } => stage.transfer(channel, state, *asset as u32, *index as u8),
+        Step::Claim {
+            guarantor,
+            state,
+            target,
+            target_state,
+            asset,
+            position,
+        } => {
+            let (asset, position) = (*asset as u32, *position as u8);
+            stage.claim(guarantor, state, target, target_state, asset, position)
+        }
     }
 }
 
-/// The history of the steps in the order of time, each entered by caller 0.
-#[tactic(auto, using(crate::proofs::Plays::Legal_play))]
-pub fn play(alloc: Global, steps: &[Step]) -> Result<Vec<Entry>, NoMemory>
+/// Plays the steps, each on what those before it made.
+pub fn play(alloc: Global, steps: &[Step]) -> Result<Stage, NoMemory>
     requires few { length steps.now ≤ STEP_LIMIT }
     requires checked { AreChecked (start false) steps.now }
-    ensures play { IfOk result (λ history. newest_first history.items ≡ play steps.now) }
-    ensures legal { IfOk result (λ history. Legal real (newest_first history.items)) }
+    ensures { IfOk result (λ stage. stage ≡ play steps.now) }
 {
-    let mut adjudicator = Adjudicator::make(alloc);
-    let mut history = Vec::new(alloc);
+    let mut stage = Stage::make(alloc);
     for step in steps {
-        adjudicator.reserve()?;
-        let op = op_of(step);
-        let reply = adjudicator.apply(&op);
-        let number = (history.len() + 1) as u32;
-        history.push(Entry {
-            number,
-            by: 0,
-            op,
-            reply,
-        })?;
+        play_step(&mut stage, step)?;
     }
-    Ok(history)
+    Ok(stage)
 }

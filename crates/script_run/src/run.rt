@@ -3,8 +3,8 @@
 ghost use Rattle.std.specs.Prelude.{◌≡◌, ◌≢◌, ◌≤◌, ◌↔◌, ◌⊎◌, ℕ, List, false, length, IsTrue, IfOk, IfSome, IsNone, string_bytes};
 ghost use Rattle.std.specs.Io.KnownBytes.{Keeps, Consumes, Appends, IsAtEnd};
 ghost use Rattle.channel_calls.specs.History.{Legal, newest_first, IsConserved};
-ghost use Rattle.script_reader.specs.Outside.{Rose};
 ghost use Rattle.support_chain.specs.Real.{real};
+ghost use Rattle.script_reader.specs.Outside.{Rose};
 ghost use Rattle.script_run.specs.Outside.{AppendsPart};
 ghost use Rattle.script_run.specs.declared.run.Status.{Status};
 ghost use Rattle.script_run.specs.Run.{Given, IsRun, IsSound, given, code_of, EndsAs, rule_text, owed};
@@ -13,7 +13,7 @@ use crate::replay::play;
 use crate::sink::{Sink, put_all};
 use crate::text::text_of;
 use channel_calls::Entry;
-use nitro_bytes::{Label, Listed, NoMemory};
+use nitro_bytes::{Dest, Label, Listed, NoMemory};
 use script_reader::{ReadEnd, Rule, ScriptFault, Source, read_all, read_script};
 use std::alloc::{AllocError, Global};
 
@@ -47,10 +47,12 @@ impl Status {
     }
 }
 
-/// What a run made: its history, in the order of time.
+/// What a run made: its history, in the order of time, and the names of the declared people and channels, in the order
+/// of declaration.
 #[derive(Drop)]
 pub struct Report {
     pub history: Listed<Entry>,
+    pub labels: Listed<(Dest, Label)>,
 }
 
 /// What a run answers. The report is there where the script was played.
@@ -89,10 +91,14 @@ fn run_script(alloc: Global, bytes: &[u8]) -> Result<Ended, NoMemory>
         Err(ScriptFault::NoMemory) => Err(NoMemory),
         Err(ScriptFault::Broken { step, rule }) => Ok(without_report(Status::Script(step, rule))),
         Ok(script) => {
-            let history = Listed::make(play(alloc, script.steps.as_slice())?);
+            let stage = play(alloc, script.steps.as_slice())?;
+            let report = Report {
+                history: Listed::make(stage.docket.into_history()),
+                labels: stage.labels,
+            };
             Ok(Ended {
                 status: Status::Done,
-                report: Some(Report { history }),
+                report: Some(report),
             })
         }
     }
@@ -134,8 +140,8 @@ fn owed(alloc: Global, ended: &Ended) -> Result<String, AllocError>
 {
     match ended.status {
         Status::Done => match &ended.report {
-            Some(report) => text_of(alloc, report.history.as_slice()),
-            None => text_of(alloc, &[]),
+            Some(report) => text_of(alloc, report.history.as_slice(), report.labels.as_slice()),
+            None => Ok(String::new(alloc)),
         },
         Status::Usage => String::from_str(alloc, "usage\n"),
         Status::Script(step, rule) => {

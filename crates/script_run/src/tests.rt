@@ -1,5 +1,9 @@
 //! Whole runs: what is printed, and what comes of faults.
 
+mod disputes;
+mod names;
+mod payouts;
+
 use crate::{ListSink, Status, run_words};
 use nitro_bytes::Label;
 use script_reader::{CalmSource, ListSource, Rule, Source, Took};

@@ -3,14 +3,16 @@
 ghost use Rattle.std.specs.Prelude.{◌≡◌, ◌++◌, flat_map, length, IfOk, OnOk, List, ℕ, string_bytes};
 ghost use Rattle.std.specs.List.{list_any};
 ghost use Rattle.channel_calls.specs.Flows.{AreWithinAmounts};
-ghost use Rattle.channel_calls.specs.History.{Legal, newest_first, time_set, or_before, now_of, flow_of, flows_of};
+ghost use Rattle.channel_calls.specs.History.{Legal, newest_first, time_set, or_before, now_of};
 ghost use Rattle.channel_calls.specs.declared.entry.Entry.{Entry};
 ghost use Rattle.support_chain.specs.Real.{real};
-ghost use Rattle.script_run.specs.Text.{entry_line, end_line, assets_of, asset_line, is_pair, add_new, add_receiver, receivers_of, held_line, pair_line, text_of};
+ghost use Rattle.script_run.specs.Text.{entry_line, end_line, assets_of, asset_line, is_pair, add_new, receivers_of, balance_line, held_line, paid_line, text_of};
 
 use crate::entry_text::entry_line;
-use channel_calls::{Call, Entry, Flow, Op, Reply, deposited, held, held_by_all, paid_to_all};
-use nitro_bytes::{Dest, Name};
+use crate::flows::flows_of;
+use crate::names::{channel_text, dest_text};
+use channel_calls::{Entry, Flow, Op, Reply, deposited, held, held_by_all, paid, paid_to_all};
+use nitro_bytes::{Dest, Label};
 use std::alloc::{AllocError, Global};
 use std::collections::BTreeSet;
 
@@ -31,65 +33,63 @@ fn asset_line(alloc: Global, flows: &[Flow], asset: u32) -> Result<String, Alloc
     format!(in alloc; "asset {asset} deposited {deposited} held {held} paid {paid}\n")
 }
 
-#[tactic(auto, unfolding(crate::specs::Text::held_line))]
-fn held_line(alloc: Global, channel: &Name, asset: u32, held: u64) -> Result<String, AllocError>
-    ensures { IfOk result (λ text. string_bytes text ≡ held_line channel.now asset held) }
+/// A line where the balance isn't 0.
+#[tactic(auto, unfolding(crate::specs::Text::balance_line))]
+fn balance_line(
+    alloc: Global,
+    word: &str,
+    name: &str,
+    asset: u32,
+    amount: u64,
+) -> Result<String, AllocError>
+    ensures { IfOk result (λ text. string_bytes text ≡ balance_line word.now name.now asset amount) }
 {
-    if held == 0 {
+    if amount == 0 {
         return Ok(String::new(alloc));
     }
-    let name = hex::encode(alloc, channel.as_slice())?;
-    format!(in alloc; "held {name} {asset} {held}\n")
+    format!(in alloc; "{word} {name} {asset} {amount}\n")
 }
 
-fn pair_line(
+/// What a channel holds; nothing of a person.
+fn held_line(
     alloc: Global,
+    labels: &[(Dest, Label)],
     flows: &[Flow],
-    channel: &Name,
-    asset: u32,
+    pair: &(Dest, u32),
 ) -> Result<String, AllocError>
     requires { AreWithinAmounts flows.now }
-    ensures { IfOk result (λ text. string_bytes text ≡ pair_line flows.now (channel.now, asset)) }
+    ensures { IfOk result (λ text. string_bytes text ≡ held_line labels.now flows.now pair.now) }
 {
-    held_line(alloc, channel, asset, held(flows, channel, asset))
+    let (to, asset) = pair;
+    match to {
+        Dest::Person(_) => Ok(String::new(alloc)),
+        Dest::Channel(channel) => {
+            let name = channel_text(alloc, labels, channel)?;
+            let held = held(flows, channel, *asset);
+            balance_line(alloc, "held", name.as_str(), *asset, held)
+        }
+    }
 }
 
-/// Adds the flow of an accepted call.
-fn add_flow(flows: &mut Vec<Flow>, entry: &Entry) -> Result<(), AllocError>
-    ensures { OnOk result (flows.new.items ≡ flows.old.items ++ flow_of entry.now.op entry.now.reply) }
+/// What a person was paid; nothing of a channel.
+fn paid_line(
+    alloc: Global,
+    labels: &[(Dest, Label)],
+    flows: &[Flow],
+    pair: &(Dest, u32),
+) -> Result<String, AllocError>
+    requires { AreWithinAmounts flows.now }
+    ensures { IfOk result (λ text. string_bytes text ≡ paid_line labels.now flows.now pair.now) }
 {
-    if let (
-        Op::Call(
-            Call::Deposit {
-                channel,
-                asset,
-                amount,
-                ..
-            },
-        ),
-        Reply::Held(_),
-    ) = (&entry.op, &entry.reply)
-    {
-        flows.push(Flow {
-            from: None,
-            to: Dest::Channel(*channel),
-            asset: *asset,
-            amount: *amount,
-        })?;
+    let (to, asset) = pair;
+    match to {
+        Dest::Channel(_) => Ok(String::new(alloc)),
+        Dest::Person(person) => {
+            let name = dest_text(alloc, labels, to)?;
+            let paid = paid(flows, person, *asset);
+            balance_line(alloc, "paid", name.as_str(), *asset, paid)
+        }
     }
-    Ok(())
-}
-
-/// The flows of a history, in the order of time.
-#[tactic(auto, using(crate::proofs::Texts::flows_of_more))]
-fn flows_of(alloc: Global, history: &[Entry]) -> Result<Vec<Flow>, AllocError>
-    ensures { IfOk result (λ flows. flows.items ≡ flows_of history.now) }
-{
-    let mut flows = Vec::new(alloc);
-    for entry in history {
-        add_flow(&mut flows, entry)?;
-    }
-    Ok(flows)
 }
 
 /// The time after an entry.
@@ -125,47 +125,45 @@ fn assets_of(alloc: Global, flows: &[Flow]) -> Result<BTreeSet<u32>, AllocError>
     Ok(assets)
 }
 
-fn has_pair(pairs: &[(Name, u32)], channel: &Name, asset: u32) -> bool
-    ensures { result ≡ list_any (λ p. is_pair p (channel.now, asset)) pairs.now }
+fn has_pair(pairs: &[(Dest, u32)], to: &Dest, asset: u32) -> bool
+    ensures { result ≡ list_any (λ p. is_pair p (to.now, asset)) pairs.now }
 {
-    pairs.iter().any(|p| p.0 == *channel && p.1 == asset)
+    pairs.iter().any(|p| p.0 == *to && p.1 == asset)
 }
 
-fn add_new(pairs: &mut Vec<(Name, u32)>, channel: &Name, asset: u32) -> Result<(), AllocError>
-    ensures { OnOk result (pairs.new.items ≡ add_new pairs.old.items (channel.now, asset)) }
+fn add_new(pairs: &mut Vec<(Dest, u32)>, to: &Dest, asset: u32) -> Result<(), AllocError>
+    ensures { OnOk result (pairs.new.items ≡ add_new pairs.old.items (to.now, asset)) }
 {
-    if has_pair(pairs, channel, asset) {
+    if has_pair(pairs, to, asset) {
         return Ok(());
     }
-    pairs.push((*channel, asset))?;
+    pairs.push((*to, asset))?;
     Ok(())
 }
 
-fn add_receiver(pairs: &mut Vec<(Name, u32)>, asset: u32, to: &Dest) -> Result<(), AllocError>
-    ensures { OnOk result (pairs.new.items ≡ add_receiver pairs.old.items asset to.now) }
-{
-    match to {
-        Dest::Channel(channel) => add_new(pairs, channel, asset),
-        Dest::Person(_) => Ok(()),
-    }
-}
-
+/// Who received something, with its asset, in the order of first receipt.
 #[tactic(auto, using(crate::proofs::Texts::receivers_of_more))]
-fn receivers_of(alloc: Global, flows: &[Flow]) -> Result<Vec<(Name, u32)>, AllocError>
+fn receivers_of(alloc: Global, flows: &[Flow]) -> Result<Vec<(Dest, u32)>, AllocError>
     ensures { IfOk result (λ pairs. pairs.items ≡ receivers_of flows.now) }
 {
     let mut pairs = Vec::new(alloc);
     for flow in flows {
-        add_receiver(&mut pairs, flow.asset, &flow.to)?;
+        add_new(&mut pairs, &flow.to, flow.asset)?;
     }
     Ok(pairs)
 }
 
-fn append_entries(alloc: Global, text: &mut String, history: &[Entry]) -> Result<(), AllocError>
-    ensures { OnOk result (string_bytes text.new ≡ string_bytes text.old ++ flat_map entry_line history.now) }
+fn append_entries(
+    alloc: Global,
+    text: &mut String,
+    labels: &[(Dest, Label)],
+    history: &[Entry],
+) -> Result<(), AllocError>
+    ensures { OnOk result (string_bytes text.new
+        ≡ string_bytes text.old ++ flat_map (entry_line labels.now) history.now) }
 {
     for entry in history {
-        let line = entry_line(alloc, entry)?;
+        let line = entry_line(alloc, labels, entry)?;
         text.push_str(line.as_str())?;
     }
     Ok(())
@@ -184,31 +182,61 @@ fn append_assets(alloc: Global, text: &mut String, flows: &[Flow]) -> Result<(),
     Ok(())
 }
 
-fn append_holdings(alloc: Global, text: &mut String, flows: &[Flow]) -> Result<(), AllocError>
+fn append_holdings(
+    alloc: Global,
+    text: &mut String,
+    labels: &[(Dest, Label)],
+    flows: &[Flow],
+    pairs: &[(Dest, u32)],
+) -> Result<(), AllocError>
     requires { AreWithinAmounts flows.now }
     ensures { OnOk result (string_bytes text.new
-        ≡ string_bytes text.old ++ flat_map (pair_line flows.now) (receivers_of flows.now)) }
+        ≡ string_bytes text.old ++ flat_map (held_line labels.now flows.now) pairs.now) }
 {
-    let pairs = receivers_of(alloc, flows)?;
-    for pair in &pairs {
-        let line = pair_line(alloc, flows, &pair.0, pair.1)?;
+    for pair in pairs {
+        let line = held_line(alloc, labels, flows, pair)?;
         text.push_str(line.as_str())?;
     }
     Ok(())
 }
 
-/// The printed text of a history, whose entries are in the order of time.
+fn append_payouts(
+    alloc: Global,
+    text: &mut String,
+    labels: &[(Dest, Label)],
+    flows: &[Flow],
+    pairs: &[(Dest, u32)],
+) -> Result<(), AllocError>
+    requires { AreWithinAmounts flows.now }
+    ensures { OnOk result (string_bytes text.new
+        ≡ string_bytes text.old ++ flat_map (paid_line labels.now flows.now) pairs.now) }
+{
+    for pair in pairs {
+        let line = paid_line(alloc, labels, flows, pair)?;
+        text.push_str(line.as_str())?;
+    }
+    Ok(())
+}
+
+/// The printed text of a history, whose entries are in the order of time. `labels` are the names in the order of
+/// declaration.
 #[tactic(auto, using(channel_calls::proofs::Conservation::within_in_time))]
-pub fn text_of(alloc: Global, history: &[Entry]) -> Result<String, AllocError>
+pub fn text_of(
+    alloc: Global,
+    history: &[Entry],
+    labels: &[(Dest, Label)],
+) -> Result<String, AllocError>
     requires { Legal real (newest_first history.now) }
-    ensures { IfOk result (λ text. string_bytes text ≡ text_of history.now) }
+    ensures { IfOk result (λ text. string_bytes text ≡ text_of labels.now history.now) }
 {
     let flows = flows_of(alloc, history)?;
     let end = end_line(alloc, history.len(), now_of(history))?;
     let mut text = String::new(alloc);
-    append_entries(alloc, &mut text, history)?;
+    append_entries(alloc, &mut text, labels, history)?;
     text.push_str(end.as_str())?;
     append_assets(alloc, &mut text, &flows)?;
-    append_holdings(alloc, &mut text, &flows)?;
+    let pairs = receivers_of(alloc, &flows)?;
+    append_holdings(alloc, &mut text, labels, &flows, &pairs)?;
+    append_payouts(alloc, &mut text, labels, &flows, &pairs)?;
     Ok(text)
 }

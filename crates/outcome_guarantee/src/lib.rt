@@ -1,0 +1,6 @@
+//! What a guarantee's destinations get of a balance.
+#![tactic(auto)]
+
+mod claims;
+
+pub use claims::claimable;

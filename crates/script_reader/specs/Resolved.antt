@@ -1,0 +1,78 @@
+-- Where the names of an outcome lead, by what earlier steps declared.
+use Rattle.std.specs.Prelude.{◌||◌, ◌&&◌, ◌^◌, ℕ, List, [], ◌∷◌, ◌++◌, Bool, nat_lt, is_ok, Option, Some, None, Result, Ok, Err}
+use Rattle.std.specs.List.{list_all}
+use Rattle.nitro_bytes.specs.declared.value.Dest.{Dest}
+use Rattle.nitro_bytes.specs.declared.value.Dest.TheVariants as dests
+use Rattle.nitro_bytes.specs.declared.value.Item.{Item}
+use Rattle.nitro_bytes.specs.declared.value.Shape.{Shape}
+use Rattle.nitro_bytes.specs.declared.value.Shape.TheVariants.{Allocation, Guarantee}
+use Rattle.nitro_bytes.specs.declared.value.AssetOutcome.{AssetOutcome}
+use Rattle.nitro_bytes.specs.Spelling.{outcome}
+use Rattle.nitro_bytes.specs.Reading.{outcome_of}
+use Rattle.script_reader.specs.Context.{person_by, channel_by, is_person, is_channel}
+use Rattle.script_reader.specs.Rules.{◌>>=◌, given, holds}
+use Rattle.script_reader.specs.declared.context.Channel.{Channel}
+use Rattle.script_reader.specs.declared.context.Context.{Context}
+use Rattle.script_reader.specs.declared.context.Person.{Person}
+use Rattle.script_reader.specs.declared.step.Rule.{Rule}
+use Rattle.script_reader.specs.declared.step.Rule.TheVariants as rules
+use Rattle.script_reader.specs.declared.written.Holding.{Holding}
+use Rattle.script_reader.specs.declared.written.WrittenShape.{WrittenShape}
+use Rattle.script_reader.specs.declared.written.WrittenShape.TheVariants as shapes
+use Rattle.script_reader.specs.declared.written.WrittenAsset.{WrittenAsset}
+
+abbrev pub is_dest : Context → List ℕ → Bool
+is_dest c name = is_person c name || is_channel c name
+
+abbrev pub knows_shape : Context → WrittenShape → Bool
+knows_shape c (shapes.Items holdings) = list_all (λ h. is_dest c h.to) holdings
+knows_shape c (shapes.List target list) = is_channel c target && list_all (is_dest c) list
+
+-- each name of the outcome is declared, and a target is a channel
+abbrev pub knows_outcome : Context → List WrittenAsset → Bool
+knows_outcome c os = list_all (λ o. knows_shape c o.shape) os
+
+abbrev pub either_dest : Option Person → Option Channel → Result Dest Rule
+either_dest (Some person) channel = Ok (dests.Person person.digest)
+either_dest None (Some channel) = Ok (dests.Channel channel.digest)
+either_dest None None = Err rules.Name
+
+-- the person or the channel of a name
+abbrev pub dest_of : Context → List ℕ → Result Dest Rule
+dest_of c name = either_dest (person_by c name) (channel_by c name)
+
+abbrev pub item_of : Context → Holding → Result Item Rule
+item_of c h = do
+  to ← dest_of c h.to
+  Ok (record { to = to; amount = h.amount })
+
+-- what one after another gives, behind those seen
+abbrev pub each : {A X : Type 0} → (A → Result X Rule) → List X → List A → Result (List X) Rule
+each one seen [] = Ok seen
+each one seen (a ∷ rest) = one a >>= λ x. each one (seen ++ x ∷ []) rest
+
+abbrev pub shape_in : Context → WrittenShape → Result Shape Rule
+shape_in c (shapes.Items holdings) = do
+  items ← each (item_of c) [] holdings
+  Ok (Allocation items)
+shape_in c (shapes.List target list) = do
+  channel ← given rules.Name (channel_by c target)
+  dests ← each (dest_of c) [] list
+  Ok (Guarantee channel.digest dests)
+
+abbrev pub asset_in : Context → WrittenAsset → Result AssetOutcome Rule
+asset_in c o = do
+  shape ← shape_in c o.shape
+  small ← holds rules.Limit (nat_lt o.asset (2 ^ 32))
+  Ok (record { asset = o.asset; shape = shape })
+
+-- reading the spelling of the assets gives an outcome
+abbrev pub is_outcome : List AssetOutcome → Bool
+is_outcome assets = is_ok (outcome_of (outcome assets))
+
+-- the outcome that the names give, if it is one
+abbrev pub outcome_in : Context → List WrittenAsset → Result (List AssetOutcome) Rule
+outcome_in c os = do
+  assets ← each (asset_in c) [] os
+  valid ← holds rules.Limit (is_outcome assets)
+  Ok assets

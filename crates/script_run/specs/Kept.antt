@@ -1,0 +1,11 @@
+-- What a docket keeps of its adjudicator and its history.
+use Rattle.std.specs.Prelude.{List}
+use Rattle.channel_calls.specs.History.{Legal}
+use Rattle.channel_calls.specs.declared.entry.Entry.{Entry}
+use Rattle.support_chain.specs.Real.{real}
+use Rattle.adjudicator_core.specs.Standing.{Standing, StandsFor}
+
+-- the history is legal, and the adjudicator stands for it
+pub record IsKept (history : List Entry) (adjudicator : Standing) : Type 0 where
+  pub stands : StandsFor real history adjudicator
+  pub legal : Legal real history
