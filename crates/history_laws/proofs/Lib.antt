@@ -1,0 +1,17 @@
+pub mod Tests
+pub mod Lists
+pub mod Rowing
+pub mod Replies
+pub mod Chains
+pub mod Answering
+pub mod Final
+pub mod Places
+pub mod Keeps
+pub mod Safe
+pub mod Headline
+pub mod Opening
+pub mod Since
+pub mod Open
+pub mod Clearing
+pub mod Telling
+pub mod Example

@@ -1,0 +1,128 @@
+-- Where names and digests are hashes and no two strings have one, names tell fixed parts and digests tell states.
+use Rattle.std.proofs.Common.{◌≡◌, ℕ, suc, ◌<◌, Bool, true, false, cond, List, [], ◌∷◌, inl, inr, length, refl, sym, ap, subst, ◌∙◌, arith}
+use Rattle.std.specs.Prelude.{Option, Some, flat_map, Contains}
+use Rattle.nitro_bytes.specs.Parts.{FixedParts, StateParts, IsState}
+use Rattle.nitro_bytes.specs.Spelling.{fixed, state}
+use Rattle.nitro_bytes.proofs.Format.{spelled_once}
+use Rattle.nitro_bytes.proofs.Formats.{fixed_format, state_format}
+use Rattle.sha2.proofs.Facts256.{length-sha256}
+use Rattle.channel_name.specs.Digests.{channel_string, state_string, name_of_channel}
+use Rattle.channel_name.specs.Laws.{Tells}
+use Rattle.channel_name.proofs.Telling.{digests_tell}
+use Rattle.channel_model.specs.Rules.{Rules}
+use Rattle.channel_calls.specs.declared.entry.Entry.{Entry}
+use Rattle.channel_calls.specs.declared.event.Deed.{Deed}
+use Rattle.channel_calls.specs.declared.event.Deed.TheVariants as deeds
+use Rattle.net_model.specs.Journals.{In, Line, is_followed, opened}
+use Rattle.net_model.specs.Strings.{states_in, signed_of}
+use Rattle.net_model.specs.Hashed.{of_fixed, of_state, of_states, of_op, of_deed, of_line, hashed}
+use Rattle.net_model.specs.Premises.{OccursFixed, OccursState, in_call, in_line, AreValid}
+use Rattle.history_laws.specs.Hashing.{Hashes, StringsTell, HashedOutcomesAreNotOlder, HashedChainsHaveTheSteps, FewHashedChallengesAreCleared}
+use Rattle.history_laws.proofs.Tests.{some-eq}
+use Rattle.history_laws.proofs.Lists.{In-append_left, In-append_right}
+use Rattle.history_laws.proofs.Headline.{safe}
+use Rattle.history_laws.proofs.Since.{has_steps}
+use Rattle.history_laws.proofs.Clearing.{few-cleared}
+
+contains : {A : Type 0} (x : A) (xs : List A) → In x xs → Contains xs x
+contains x [] i = absurd i
+contains x (y ∷ xs) (inl e) = (0, omega arith, sym e)
+contains x (y ∷ xs) (inr i) = let c = contains x xs i in (suc c.0, (let l : c.0 < length xs = c.1 in omega arith), c.2)
+
+In-flat_map : {A B : Type 0} (f : A → List B) (b : B) (x : A) (xs : List A) → In x xs → In b (f x) → In b (flat_map f xs)
+In-flat_map f b x [] i j = absurd i
+In-flat_map f b x (y ∷ xs) (inl e) j = In-append_left b (f y) (flat_map f xs) (subst (λ z. In b (f z)) e j)
+In-flat_map f b x (y ∷ xs) (inr i) j = In-append_right b (f y) (flat_map f xs) (In-flat_map f b x xs i j)
+
+-- ---- which strings there are
+
+in-entry : (h : List Entry) (journal : List Line) (e : Entry) (b : List ℕ) → In e h → In b (of_op e.op) → In b (hashed h journal)
+in-entry h journal e b i j = In-append_left b (flat_map (λ (k : Entry). of_op k.op) h) (flat_map of_line journal) (In-flat_map (λ (k : Entry). of_op k.op) b e h i j)
+
+in-journal : (h : List Entry) (journal : List Line) (x : Line) (b : List ℕ) → In x journal → In b (of_line x) → In b (hashed h journal)
+in-journal h journal x b i j = In-append_right b (flat_map (λ (k : Entry). of_op k.op) h) (flat_map of_line journal) (In-flat_map of_line b x journal i j)
+
+added : (x : Line) (f : FixedParts) → In f (opened x) → In f x.adds
+added x f i = go (is_followed x.deed) i
+  where
+    go : (b : Bool) → In f (cond b x.adds []) → In f x.adds
+    go true j = j
+    go false j = absurd j
+
+fixed-there : (h : List Entry) (journal : List Line) (f : FixedParts) → OccursFixed h journal f → In (channel_string (fixed f)) (hashed h journal)
+fixed-there h journal f (inl o) =
+    in-entry h journal o.0 (channel_string (fixed f)) o.1 (subst (λ (k : Option FixedParts). In (channel_string (fixed f)) (of_states k (states_in o.0.op))) (sym o.2) (inl refl))
+fixed-there h journal f (inr o) =
+    in-journal h journal o.0 (channel_string (fixed f)) o.1
+    (In-append_left (channel_string (fixed f)) (flat_map of_fixed o.0.adds) (of_deed o.0.deed) (In-flat_map of_fixed (channel_string (fixed f)) f o.0.adds (added o.0 f o.2) (inl refl)))
+
+name-length : (f : FixedParts) → length (name_of_channel (fixed f)) ≡ 32
+unfolding name_of_channel
+name-length f = length-sha256 (channel_string (fixed f))
+
+-- a state that occurs is a state, of a name, and its string is there
+record There (h : List Entry) (journal : List Line) (c : List ℕ) (s : StateParts) : Type 0 where
+  name : length c ≡ 32
+  string : In (state_string c (state s)) (hashed h journal)
+
+of-pair : (p q : List ℕ × StateParts) → p ≡ q → state_string q.0 (state q.1) ≡ state_string p.0 (state p.1)
+of-pair p q e = sym (ap (λ (z : List ℕ × StateParts). state_string z.0 (state z.1)) e)
+
+in-deed : (c : List ℕ) (s : StateParts) (d : Deed) → signed_of d ≡ Some (c, s) → In (state_string c (state s)) (of_deed d)
+in-deed c s (deeds.Signed channel t signature) e =
+    let p : List ℕ × StateParts = (channel, t) in
+    let q : List ℕ × StateParts = (c, s) in
+    inl (of-pair p q (some-eq p q e))
+in-deed c s (deeds.SignedChallenge channel t who signature) e =
+    let p : List ℕ × StateParts = (channel, t) in
+    let q : List ℕ × StateParts = (c, s) in
+    inl (of-pair p q (some-eq p q e))
+in-deed c s _ e = cc
+
+state-there : (r : Rules) (h : List Entry) (journal : List Line) → Hashes r → AreValid h journal → (c : List ℕ) (s : StateParts) → OccursState r h journal c s → There h journal c s
+state-there r h journal by valid c s (in_call e f i has named j) =
+    let is : name_of_channel (fixed f) ≡ c = sym (by.named f) ∙ named in
+    record {
+      name = subst (λ (b : List ℕ). length b ≡ 32) is (name-length f);
+      string = subst (λ (b : List ℕ). In (state_string b (state s)) (hashed h journal)) is
+          (in-entry h journal e (state_string (name_of_channel (fixed f)) (state s)) i
+          (subst (λ (k : Option FixedParts). In (state_string (name_of_channel (fixed f)) (state s)) (of_states k (states_in e.op))) (sym has)
+          (In-append_right (state_string (name_of_channel (fixed f)) (state s)) (of_fixed f) (flat_map (of_state (name_of_channel (fixed f))) (states_in e.op)) (In-flat_map (of_state (name_of_channel (fixed f))) (state_string (name_of_channel (fixed f)) (state s)) s (states_in e.op) j (inl refl)))));
+    }
+state-there r h journal by valid c s (in_line x i e) =
+    record {
+      name = (valid.signed x c s i e).0.0;
+      string = in-journal h journal x (state_string c (state s)) i (In-append_right (state_string c (state s)) (flat_map of_fixed x.adds) (of_deed x.deed) (in-deed c s x.deed e));
+    }
+
+state-valid : (r : Rules) (h : List Entry) (journal : List Line) → AreValid h journal → (c : List ℕ) (s : StateParts) → OccursState r h journal c s → IsState s
+state-valid r h journal valid c s (in_call e f i has named j) = valid.states e s i j
+state-valid r h journal valid c s (in_line x i e) = (valid.signed x c s i e).1
+
+-- ---- what they tell
+
+pub tells : StringsTell
+tells r h journal by valid none = record {
+  names = λ f g a b e. spelled_once fixed_format f g (valid.fixed f a) (valid.fixed g b)
+      (told.channels (fixed f) (fixed g) (contains (channel_string (fixed f)) (hashed h journal) (fixed-there h journal f a)) (contains (channel_string (fixed g)) (hashed h journal) (fixed-there h journal g b))
+      (sym (by.named f) ∙ (e ∙ by.named g)));
+  states = λ c d s t a b e. (
+      let p = state-there r h journal by valid c s a in
+      let q = state-there r h journal by valid d t b in
+      let k = told.states c d (state s) (state t) p.name q.name (contains (state_string c (state s)) (hashed h journal) p.string) (contains (state_string d (state t)) (hashed h journal) q.string)
+      (sym (by.digest c s) ∙ (e ∙ by.digest d t)) in
+      (k.0, spelled_once state_format s t (state-valid r h journal valid c s a) (state-valid r h journal valid d t b) k.1)
+      );
+}
+  where
+    told : Tells (hashed h journal)
+    told = digests_tell (hashed h journal) none
+
+pub hashed-safe : HashedOutcomesAreNotOlder
+hashed-safe r key h journal keeps by legal honest unforged none valid in_time = safe r key h journal keeps legal honest unforged (tells r h journal by valid none) valid in_time
+
+pub hashed-steps : HashedChainsHaveTheSteps
+hashed-steps r key h journal keeps by legal honest unforged none valid = has_steps r key h journal keeps legal honest unforged (tells r h journal by valid none) valid
+
+pub hashed-cleared : FewHashedChallengesAreCleared
+hashed-cleared r key h journal keeps by legal honest unforged none valid = few-cleared r key h journal keeps legal honest unforged (tells r h journal by valid none) valid

@@ -1,0 +1,5 @@
+use Rattle.network_laws.proofs.Real.{network-cleared}
+use Rattle.network_laws.proofs.laws.few_network_challenges_are_cleared.Goals as goal
+
+pub returns : goal.returns
+returns c = network-cleared
