@@ -1,6 +1,6 @@
 -- Values of the types make valid model lists.
 use Rattle.std.proofs.Common.{◌≡◌, ℕ, zero, suc, Bool, true, false, cond, List, [], ◌∷◌, ◌++◌, inl, inr, length, reverse, refl, sym, subst, Option, Some, None, Result, Ok, Err}
-use Rattle.std.specs.Prelude.{IfSome, IfOk}
+use Rattle.std.specs.Prelude.{IfSome}
 use Rattle.std.specs.List.{AllByRecursion}
 use Rattle.std.specs.Str.{bytes_eq}
 use Rattle.std.proofs.lemmas.List.{reverse-append}
@@ -12,7 +12,6 @@ use Rattle.nitro_bytes.proofs.Format.{all_takes}
 use Rattle.channel_calls.specs.History.{newest_first}
 use Rattle.channel_calls.specs.Limits.{IsMessage}
 use Rattle.channel_calls.specs.Reading.{message_of}
-use Rattle.channel_calls.specs.Rows.{fixed_of}
 use Rattle.channel_calls.specs.Spelling.{Message}
 use Rattle.channel_calls.specs.declared.entry.Entry.{Entry}
 use Rattle.channel_calls.specs.declared.event.Deed.{Deed}
