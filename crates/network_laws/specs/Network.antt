@@ -1,4 +1,4 @@
--- The laws over every history and journal, under the network's own rules.
+-- What the laws say of a history and a journal under the network's own rules.
 use Rattle.std.specs.Prelude.{ℕ, List}
 use Rattle.channel_name.specs.Collisions.{NoneCollide}
 use Rattle.channel_calls.specs.History.{Legal}
@@ -6,21 +6,21 @@ use Rattle.channel_calls.specs.declared.entry.Entry.{Entry}
 use Rattle.support_chain.specs.Real.{real}
 use Rattle.net_model.specs.Journals.{Line}
 use Rattle.net_model.specs.Hashed.{hashed}
-use Rattle.net_model.specs.Premises.{Unforged, AreValid, InTime}
+use Rattle.net_model.specs.Premises.{Unforged, InTime}
 use Rattle.net_model.specs.Honest.{Honest}
 use Rattle.net_model.specs.Safety.{IsSafe, HasStepsAfterLast, FewAreCleared}
 
-abbrev pub NetworkOutcomesAreNotOlder : Type 0
-NetworkOutcomesAreNotOlder =
-    (key : List ℕ) (h : List Entry) (journal : List Line) → Legal real h → Honest real key h journal → Unforged real key h journal
-    → NoneCollide (hashed h journal) → AreValid h journal → InTime real h journal → IsSafe real key h journal
+-- no outcome becomes final for an honest participant with watchers in time that is older than what it noted or was shown
+abbrev pub NetworkOutcomesAreNotOlder : List Entry → List Line → Type 0
+NetworkOutcomesAreNotOlder h journal =
+    (key : List ℕ) → Legal real h → Honest real key h journal → Unforged real key h journal → NoneCollide (hashed h journal) → InTime real h journal → IsSafe real key h journal
 
-abbrev pub NetworkChainsHaveTheSteps : Type 0
-NetworkChainsHaveTheSteps =
-    (key : List ℕ) (h : List Entry) (journal : List Line) → Legal real h → Honest real key h journal → Unforged real key h journal
-    → NoneCollide (hashed h journal) → AreValid h journal → HasStepsAfterLast real key h journal
+-- each step after the last state that an honest participant signed is in each chain that is shown at its turn or later
+abbrev pub NetworkChainsHaveTheSteps : List Entry → List Line → Type 0
+NetworkChainsHaveTheSteps h journal =
+    (key : List ℕ) → Legal real h → Honest real key h journal → Unforged real key h journal → NoneCollide (hashed h journal) → HasStepsAfterLast real key h journal
 
-abbrev pub FewNetworkChallengesAreCleared : Type 0
-FewNetworkChallengesAreCleared =
-    (key : List ℕ) (h : List Entry) (journal : List Line) → Legal real h → Honest real key h journal → Unforged real key h journal
-    → NoneCollide (hashed h journal) → AreValid h journal → FewAreCleared real key h journal
+-- of an honest participant's challenges of a channel of n, at most n - 1 are cleared by another entry than a conclude
+abbrev pub FewNetworkChallengesAreCleared : List Entry → List Line → Type 0
+FewNetworkChallengesAreCleared h journal =
+    (key : List ℕ) → Legal real h → Honest real key h journal → Unforged real key h journal → NoneCollide (hashed h journal) → FewAreCleared real key h journal

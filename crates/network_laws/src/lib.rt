@@ -1,5 +1,10 @@
-//! What the laws over every history and journal say under the network's own rules. Each function is empty: its contract
-//! is the law.
+//! What the laws over every history and journal say under the network's own rules: signatures of LMS, digests by
+//! SHA-256, and the steps of the three applications. No function takes memory, and none returns a value: what a contract
+//! says is the law.
 #![tactic(auto)]
 
 pub mod laws;
+pub mod models;
+mod validity;
+
+pub use validity::values_are_valid;
