@@ -108,7 +108,7 @@ impl Store {
         }
     }
 
-    /// Adds a channel that isn't there, in which the participant has the position `me`.
+    /// Adds a channel that isn't there (`next_turn` is None), in which the participant has the position `me`.
     pub fn add_channel(&mut self, fixed: Fixed, me: u8) -> Result<(), NoMemory>
         requires new { IsNone (kept_of (name_of_channel (spelled fixed)) self.old) }
         requires position { me < people fixed }

@@ -1,5 +1,8 @@
 //! Two people's states of a payment channel, signed by their keys; what a store answers was worked out by hand.
 
+ghost use Rattle.std.specs.Prelude.{◌≡◌, IfOk};
+ghost use Rattle.channel_model.specs.Rules.{people};
+
 use super::*;
 use channel_name::{channel_name, person_name, state_digest, state_message};
 use nitro_bytes::{
@@ -48,7 +51,9 @@ impl People {
         })
     }
 
-    fn fixed(&self) -> Result<Fixed, Fail> {
+    fn fixed(&self) -> Result<Fixed, Fail>
+        ensures { IfOk result (λ f. people f ≡ 2) }
+    {
         let mut keys: Vec<Key> = Vec::new(self.alloc);
         keys.push(self.first.public())?;
         keys.push(self.second.public())?;
@@ -169,16 +174,19 @@ fn the_first_round_becomes_the_held_chain(rt: HostRuntime) -> Result<(), Fail> {
     store.note(&channel, people.signed(S1)?)?;
     assert!(rt; turns_of(alloc, &store, &channel)? == vec![in alloc; 0, 1]?);
     assert_eq!(rt; (store.chains().len(), store.known().len()), (1, 1));
-    assert_eq!(rt; store.known()[0].last.turn(), 0);
-    let place = &store.places()[0];
     assert_eq!(rt;
-        (place.me, place.next, place.people.as_slice().len()),
-        (0, 2, 2)
+        store.known().first().map(|known| known.last.turn()),
+        Some(0)
     );
-    assert_eq!(rt;
-        place.people.as_slice()[1],
-        person_name(&people.second.public())
-    );
+    assert_eq!(rt; store.places().len(), 1);
+    let second = person_name(&people.second.public());
+    for place in store.places() {
+        assert_eq!(rt;
+            (place.me, place.next, place.people.as_slice().len()),
+            (0, 2, 2)
+        );
+        assert!(rt; place.people.as_slice().last().copied() == Some(second));
+    }
     Ok(())
 }
 
