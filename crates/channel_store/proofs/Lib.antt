@@ -1,0 +1,4 @@
+pub mod Placing
+pub mod Held
+pub mod Calls
+pub mod Good

@@ -1,0 +1,173 @@
+//! What is kept of one channel.
+
+ghost use Rattle.std.specs.Prelude.{◌≡◌, ◌<◌, IfOk};
+ghost use Rattle.std.specs.List.{list_all};
+ghost use Rattle.std.specs.Option.{option_map};
+ghost use Rattle.std.specs.Result.{result_err};
+ghost use Rattle.channel_model.specs.Chains.{mover};
+ghost use Rattle.channel_model.specs.Rules.{people, newest, is_signed_well};
+ghost use Rattle.channel_calls.specs.Marked.{next_after};
+ghost use Rattle.support_chain.specs.Real.{real};
+ghost use Rattle.channel_store.specs.Keeping.{is_held, is_ended, next_of, step_of, note_fault, is_newer, last_after, noted};
+
+use crate::fault::NoteFault;
+use channel_calls::{answered, newest, top_turn};
+use nitro_bytes::{Chain, Fixed, Name, NoMemory, Signed, State, StepFault};
+use support_chain::{people_of, signs_state, step, supports};
+
+/// A channel, the participant's position in it, the states that were noted or shown with their marks, and the last
+/// state that the participant signed. Once each participant has a mark, the states are the held chain.
+#[derive(Drop)]
+pub struct Kept {
+    pub channel: Name,
+    pub me: u8,
+    pub chain: Chain,
+    pub last: Option<State>,
+}
+
+fn mover_of(fixed: &Fixed, state: &State) -> usize
+    ensures value { result ≡ mover (people fixed.now) state.now.turn }
+    ensures there { result < people fixed.now }
+{
+    (state.turn() % fixed.keys().len() as u64) as usize
+}
+
+fn is_signed_well(fixed: &Fixed, signed: &Signed) -> bool
+    ensures { result ≡ is_signed_well real fixed.now signed.now }
+{
+    let mover = mover_of(fixed, &signed.state);
+    signs_state(fixed, mover, &signed.state, signed.signature.as_slice())
+}
+
+fn are_final(states: &[State]) -> bool
+    ensures { result ≡ list_all (λ s. s.is_final) states.now }
+{
+    states.iter().all(|state| state.is_final())
+}
+
+fn copy_last(last: &Option<State>) -> Result<Option<State>, NoMemory>
+    ensures { IfOk result (λ o. o ≡ last.now) }
+{
+    match last {
+        None => Ok(None),
+        Some(state) => {
+            let copy = state.copy()?;
+            Ok(Some(copy))
+        }
+    }
+}
+
+impl Kept {
+    /// Whether a chain is held: each participant has a mark.
+    pub(crate) fn is_held(&self) -> bool
+        ensures { result ≡ is_held self.now }
+    {
+        self.chain.fixed.keys().len() <= self.chain.marks.as_slice().len()
+    }
+
+    /// Whether the states of the held chain are all final.
+    fn is_ended(&self) -> bool
+        ensures { result ≡ is_ended self.now }
+    {
+        self.is_held() && are_final(self.chain.states.as_slice())
+    }
+
+    /// The newest state.
+    pub(crate) fn latest(&self) -> Option<&State>
+        ensures { option_map (λ m. m.now) result ≡ newest self.now.chain.states }
+    {
+        newest(self.chain.states.as_slice())
+    }
+
+    /// The turn that comes next.
+    pub(crate) fn next(&self) -> u64
+        ensures { result ≡ next_of self.now }
+    {
+        match self.latest() {
+            None => 0,
+            Some(latest) => latest.turn() + 1,
+        }
+    }
+
+    /// Whether the state follows from the newest one, if there is one.
+    fn follow(&self, state: &State) -> Result<(), StepFault>
+        ensures { result_err result ≡ step_of real self.now state.now }
+    {
+        match self.latest() {
+            None => Ok(()),
+            Some(latest) => {
+                let people = people_of(&self.chain.fixed);
+                step(&self.chain.fixed, people.as_slice(), latest, state)
+            }
+        }
+    }
+
+    /// Why the state isn't noted, if it isn't.
+    pub(crate) fn check(&self, signed: &Signed) -> Result<(), NoteFault>
+        ensures { result_err result ≡ note_fault real self.now signed.now }
+    {
+        if self.is_ended() {
+            return Err(NoteFault::NotNext(0));
+        }
+        let next = self.next();
+        if signed.state.turn() != next {
+            return Err(NoteFault::NotNext(next));
+        }
+        if !is_signed_well(&self.chain.fixed, signed) {
+            return Err(NoteFault::BadSignature);
+        }
+        if let Err(fault) = self.follow(&signed.state) {
+            return Err(NoteFault::BadStep(fault));
+        }
+        Ok(())
+    }
+
+    /// The last state that the participant signed, once this one is noted.
+    fn last_after(&self, state: &State) -> Result<Option<State>, NoMemory>
+        ensures { IfOk result (λ o. o ≡ last_after self.now state.now) }
+    {
+        if mover_of(&self.chain.fixed, state) == self.me as usize {
+            let copy = state.copy()?;
+            Ok(Some(copy))
+        } else {
+            copy_last(&self.last)
+        }
+    }
+
+    /// What is kept with the state noted.
+    pub(crate) fn noted(&self, signed: Signed) -> Result<Kept, NoMemory>
+        ensures { IfOk result (λ k. k ≡ noted self.now signed) }
+    {
+        let last = self.last_after(&signed.state)?;
+        let chain = self.chain.copy()?;
+        let chain = answered(&self.chain.fixed, chain, signed)?;
+        Ok(Kept {
+            channel: self.channel,
+            me: self.me,
+            chain,
+            last,
+        })
+    }
+
+    /// What is kept with this chain in place of the other.
+    pub(crate) fn with_chain(&self, chain: Chain) -> Result<Kept, NoMemory>
+        ensures { IfOk result (λ k. k ≡ record self.now { chain = chain }) }
+    {
+        let last = copy_last(&self.last)?;
+        Ok(Kept {
+            channel: self.channel,
+            me: self.me,
+            chain,
+            last,
+        })
+    }
+
+    /// Whether the chain is supported, and none is held or the held one is older.
+    pub(crate) fn is_newer(&self, shown: &Chain) -> bool
+        ensures { result ≡ is_newer real self.now shown.now }
+    {
+        supports(shown).is_ok()
+            && (!self.is_held()
+                || top_turn(self.chain.states.as_slice()) < top_turn(shown.states.as_slice()))
+    }
+}
