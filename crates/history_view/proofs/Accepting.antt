@@ -218,7 +218,7 @@ refute_tells r h fixed next accepted =
     not_false (is_challenged (mode r (r.named fixed) h)) (passes (not (is_challenged (mode r (r.named fixed) h))) NoChallenge second v.0 v.1).0
 
 -- an accepted turning call of a channel
-pub tells : (r : Rules) (channel : List ℕ) (h : List Entry) (op : Op) → is_named r channel (fixed_of op) ≡ true → is_accepted (reply_to r h op) ≡ true → Tells r channel h op
+tells : (r : Rules) (channel : List ℕ) (h : List Entry) (op : Op) → is_named r channel (fixed_of op) ≡ true → is_accepted (reply_to r h op) ≡ true → Tells r channel h op
 unfolding reply_to
 tells r channel h (ops.Call (Challenge chain who signature)) named accepted =
     subst (λ (name : List ℕ). ShowsNewer r name h chain) (same_bytes (r.named chain.fixed) channel named) (challenge_tells r h chain who signature accepted)

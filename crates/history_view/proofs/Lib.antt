@@ -1,7 +1,7 @@
 pub mod Accepting
 pub mod Viewing
-pub mod Turning
+pub mod Turns
 pub mod Showing
-pub mod Balances
+pub mod Funds
 pub mod Resting
 pub mod Stands

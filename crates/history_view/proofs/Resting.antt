@@ -34,7 +34,7 @@ use Rattle.channel_calls.proofs.Names.{same_bytes}
 use Rattle.channel_calls.proofs.Payouts.{rest_more}
 use Rattle.history_view.specs.Views.{view_of, views_with, channel_paid, views_paid}
 use Rattle.history_view.proofs.Accepting.{not_false, not_both, passes, turned_still, turning_names, turning_tells, was_still}
-use Rattle.history_view.proofs.Turning.{turned_view}
+use Rattle.history_view.proofs.Turns.{turned_view}
 use Rattle.history_view.proofs.Viewing.{view_with}
 
 -- ---- rests
@@ -42,7 +42,7 @@ use Rattle.history_view.proofs.Viewing.{view_with}
 rest_same : (p q : ℕ → ℕ → ℕ) (outcome : List AssetOutcome) → ((asset place : ℕ) → p asset place ≡ q asset place) → rest_outcome p outcome ≡ rest_outcome q outcome
 rest_same p q outcome same = ap (λ (paid : ℕ → ℕ → ℕ). rest_outcome paid outcome) (fun_ext (λ asset. fun_ext (λ place. same asset place)))
 
-pub rest_same_if_any : (p q : ℕ → ℕ → ℕ) (outcome : Option (List AssetOutcome)) → ((asset place : ℕ) → p asset place ≡ q asset place)
+rest_same_if_any : (p q : ℕ → ℕ → ℕ) (outcome : Option (List AssetOutcome)) → ((asset place : ℕ) → p asset place ≡ q asset place)
     → option_map (rest_outcome p) outcome ≡ option_map (rest_outcome q) outcome
 rest_same_if_any p q None same = refl
 rest_same_if_any p q (Some outcome) same = ap (λ (rest : List AssetOutcome). Some rest) (rest_same p q outcome same)
@@ -181,7 +181,7 @@ rest_paid_one payment channel paid outcome v before = go (bytes_eq payment.chann
     go true e = ap (option_map lower) before ∙ lowered e outcome
     go false e = before ∙ rest_same_if_any paid more outcome (λ asset place. omega (arith, at false e asset place))
 
-pub rest_paid : (payments : List Payment) (views : List ChannelView) (channel : List ℕ) (paid : ℕ → ℕ → ℕ) (outcome : Option (List AssetOutcome)) → (view_of views channel).rest ≡ option_map (rest_outcome paid) outcome
+rest_paid : (payments : List Payment) (views : List ChannelView) (channel : List ℕ) (paid : ℕ → ℕ → ℕ) (outcome : Option (List AssetOutcome)) → (view_of views channel).rest ≡ option_map (rest_outcome paid) outcome
     → (view_of (views_paid payments views) channel).rest ≡ option_map (rest_outcome (λ asset place. paid_of_item payments channel asset place + paid asset place)) outcome
 rest_paid [] views channel paid outcome before =
     before ∙ rest_same_if_any paid (λ asset place. paid_of_item [] channel asset place + paid asset place) outcome (λ asset place. omega arith)

@@ -25,7 +25,7 @@ use Rattle.channel_calls.proofs.Names.{same_bytes}
 use Rattle.history_view.specs.Views.{newer_shown, with_answer, shown_after}
 use Rattle.history_view.specs.Standing.{newer, newest_shown, IsChainOf}
 use Rattle.history_view.proofs.Accepting.{not_below, some_of, challenged_is_still, still_before, challenged_before, ended_now, ShowsNewer, Answers, Tells, turning_names, turning_tells, time_up}
-use Rattle.history_view.proofs.Turning.{turned_view}
+use Rattle.history_view.proofs.Turns.{turned_view}
 
 -- ---- newer chains
 
@@ -34,7 +34,7 @@ abbrev pub turn_shown : Option Marked → ℕ
 turn_shown None = 0
 turn_shown (Some w) = top_turn w.states
 
-pub newer_nothing : (o : Option Marked) → newer nothing o ≡ o
+newer_nothing : (o : Option Marked) → newer nothing o ≡ o
 newer_nothing None = refl
 newer_nothing (Some w) = refl
 

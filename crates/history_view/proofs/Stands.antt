@@ -17,9 +17,9 @@ use Rattle.history_view.specs.Views.{view_of, held_amount, views_moved, views_pa
 use Rattle.history_view.specs.Standing.{IsChainOf, KnowsChannel, StandsFor, UnseenStands, FollowingKeepsStanding}
 use Rattle.history_view.proofs.Accepting.{is_challenged_is}
 use Rattle.history_view.proofs.Viewing.{held_turned, IsBesideHeld, kept_moved, IsBesideRest, kept_paid}
-use Rattle.history_view.proofs.Turning.{turned_views, turned_view, view_turned, turn_turned, deadline_turned, settled_turned}
+use Rattle.history_view.proofs.Turns.{turned_views, turned_view, view_turned, turn_turned, deadline_turned, settled_turned}
 use Rattle.history_view.proofs.Showing.{IsShownSo, shown_turned}
-use Rattle.history_view.proofs.Balances.{can_move, amount_moved, paid_follows, have_room}
+use Rattle.history_view.proofs.Funds.{can_move, amount_moved, paid_follows, have_room}
 use Rattle.history_view.proofs.Resting.{rest_turned, rest_follows}
 
 pub unseen_stands : UnseenStands

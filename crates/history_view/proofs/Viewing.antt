@@ -39,7 +39,7 @@ view_with change name channel views keeps = go (bytes_eq name channel) refl
         (ap (λ (n : List ℕ). bytes_eq n channel) (keeps (unknown name)) ∙ other)
 
 -- a part of the views that a change leaves
-pub kept_with : {A : Type 0} (part : ChannelView → A) (change : ChannelView → ChannelView) (name channel : List ℕ) (views : List ChannelView) → KeepsName change
+kept_with : {A : Type 0} (part : ChannelView → A) (change : ChannelView → ChannelView) (name channel : List ℕ) (views : List ChannelView) → KeepsName change
     → ((v : ChannelView) → part (change v) ≡ part v) → part (view_of (views_with change name views) channel) ≡ part (view_of views channel)
 kept_with part change name channel views keeps same = ap part (view_with change name channel views keeps) ∙ either (bytes_eq name channel)
   where
@@ -58,13 +58,13 @@ held_turned named op (Some f) (Some told) views channel = kept_with (λ (v : Cha
 abbrev pub IsBesideHeld : {A : Type 0} → (ChannelView → A) → Type 0
 IsBesideHeld part = (v : ChannelView) (held : List (ℕ × ℕ)) → part (record v { held = held }) ≡ part v
 
-pub kept_gave : {A : Type 0} (part : ChannelView → A) (from : Option (List ℕ)) (asset amount : ℕ) (views : List ChannelView) (channel : List ℕ) → IsBesideHeld part
+kept_gave : {A : Type 0} (part : ChannelView → A) (from : Option (List ℕ)) (asset amount : ℕ) (views : List ChannelView) (channel : List ℕ) → IsBesideHeld part
     → part (view_of (views_gave from asset amount views) channel) ≡ part (view_of views channel)
 kept_gave part None asset amount views channel beside = refl
 kept_gave part (Some source) asset amount views channel beside =
     kept_with part (channel_gave asset amount) source channel views (λ v. refl) (λ v. beside v (held_with (λ n. n - amount) asset v.held))
 
-pub kept_got : {A : Type 0} (part : ChannelView → A) (to : Dest) (asset amount : ℕ) (views : List ChannelView) (channel : List ℕ) → IsBesideHeld part
+kept_got : {A : Type 0} (part : ChannelView → A) (to : Dest) (asset amount : ℕ) (views : List ChannelView) (channel : List ℕ) → IsBesideHeld part
     → part (view_of (views_got to asset amount views) channel) ≡ part (view_of views channel)
 kept_got part (Person person) asset amount views channel beside = refl
 kept_got part (Channel target) asset amount views channel beside =

@@ -39,7 +39,7 @@ more : (b : Bool) (k n : ℕ) → cond b (k + n) k ≡ k + cond b n 0
 more true k n = refl
 more false k n = omega arith
 
-pub amount_gave : (from : Option (List ℕ)) (asset n : ℕ) (views : List ChannelView) (channel : List ℕ) (kind : ℕ)
+amount_gave : (from : Option (List ℕ)) (asset n : ℕ) (views : List ChannelView) (channel : List ℕ) (kind : ℕ)
     → amount_of (views_gave from asset n views) channel kind ≡ amount_of views channel kind - cond (comes_from channel from) (cond (asset == kind) n 0) 0
 amount_gave None asset n views channel kind = omega arith
 amount_gave (Some source) asset n views channel kind =
@@ -52,7 +52,7 @@ amount_gave (Some source) asset n views channel kind =
     either true = amount_with (λ k. k - n) asset kind old.held ∙ less (asset == kind) (held_amount old.held kind) n
     either false = omega arith
 
-pub amount_got : (to : Dest) (asset n : ℕ) (views : List ChannelView) (channel : List ℕ) (kind : ℕ)
+amount_got : (to : Dest) (asset n : ℕ) (views : List ChannelView) (channel : List ℕ) (kind : ℕ)
     → amount_of (views_got to asset n views) channel kind ≡ amount_of views channel kind + cond (is_same to (Channel channel)) (cond (asset == kind) n 0) 0
 amount_got (Person person) asset n views channel kind = omega arith
 amount_got (Channel target) asset n views channel kind =
@@ -127,7 +127,7 @@ paid_one (Person who) asset n paid person kind = balance_with (λ k. k + n) who 
     go true false = omega arith
     go false b = omega arith
 
-pub paid_moved_by : (moved : List Flow) (paid : List (List ℕ × ℕ × ℕ)) (person : List ℕ) (kind : ℕ) → paid_amount (paid_moved moved paid) person kind ≡ paid_amount paid person kind + into moved (Person person) kind
+paid_moved_by : (moved : List Flow) (paid : List (List ℕ × ℕ × ℕ)) (person : List ℕ) (kind : ℕ) → paid_amount (paid_moved moved paid) person kind ≡ paid_amount paid person kind + into moved (Person person) kind
 paid_moved_by [] paid person kind = omega arith
 paid_moved_by (f ∷ moved) paid person kind =
     omega (
@@ -153,7 +153,7 @@ all_of to asset n = ap (λ (b : Bool). cond b (cond (asset == asset) n 0) 0) (sa
 
 -- Where views and balances say what the flows so far do, and with one flow more nothing is above the largest amount, there
 -- is room for it.
-pub has_room : (flows : List Flow) (from : Option (List ℕ)) (to : Dest) (asset n : ℕ) (views : List ChannelView) (paid : List (List ℕ × ℕ × ℕ)) → AreCovered flows → HasSource flows from asset n
+has_room : (flows : List Flow) (from : Option (List ℕ)) (to : Dest) (asset n : ℕ) (views : List ChannelView) (paid : List (List ℕ × ℕ × ℕ)) → AreCovered flows → HasSource flows from asset n
     → AreWithinAmounts (record { from = from; to = to; asset = asset; amount = n } ∷ flows)
     → ((channel : List ℕ) (kind : ℕ) → amount_of views channel kind ≡ held_in flows channel kind) → ((person : List ℕ) (kind : ℕ) → paid_amount paid person kind ≡ paid_in flows person kind)
     → HasRoom to asset n (views_gave from asset n views) paid
