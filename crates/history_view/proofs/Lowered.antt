@@ -1,10 +1,10 @@
 -- An item lowered at its place; an outcome with one item lowered is an outcome.
-use Rattle.std.proofs.Common.{◌≡◌, ℕ, zero, suc, ◌+◌, ◌-◌, ◌<◌, ◌≤◌, ◌^◌, List, [], ◌∷◌, ◌++◌, Bool, true, false, cond, length, set, get_or, refl, sym, ◌∙◌, ap, subst, arith}
+use Rattle.std.proofs.Common.{◌≡◌, ℕ, zero, suc, ◌+◌, ◌-◌, ◌<◌, ◌≤◌, List, [], ◌∷◌, ◌++◌, Bool, true, false, cond, length, set, get_or, refl, sym, ◌∙◌, ap, arith}
 use Rattle.std.specs.Prelude.{◌==◌, ◌||◌, take}
 use Rattle.std.proofs.lemmas.List.{take_more}
 use Rattle.std.proofs.lemmas.List.Sums.{sum_by-cons}
 use Rattle.std.specs.List.{AllByRecursion, list_any}
-use Rattle.nitro_bytes.specs.Outcomes.{pays_same, total, is_unordered, AreApart, AreItems, AreAssets, IsItem, IsShape, IsAssetOutcome, IsOutcome}
+use Rattle.nitro_bytes.specs.Outcomes.{pays_same, total, is_unordered, AreApart, AreItems, IsItem, IsShape, IsAssetOutcome, IsOutcome}
 use Rattle.nitro_bytes.specs.declared.value.AssetOutcome.{AssetOutcome}
 use Rattle.nitro_bytes.specs.declared.value.Item.{Item}
 use Rattle.nitro_bytes.specs.declared.value.Shape.{Shape}

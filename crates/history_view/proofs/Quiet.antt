@@ -4,7 +4,7 @@ use Rattle.std.specs.Prelude.{Option}
 use Rattle.nitro_bytes.specs.Parts.{FixedParts}
 use Rattle.channel_calls.specs.Told.{told_row}
 use Rattle.channel_calls.specs.Rows.{fixed_of}
-use Rattle.channel_calls.specs.History.{flow_of, listed_dest, place_in}
+use Rattle.channel_calls.specs.History.{flow_of}
 use Rattle.channel_calls.specs.declared.call.Call.TheVariants.{Deposit, Challenge, Respond, Refute, Checkpoint, Conclude, Transfer, Claim}
 use Rattle.channel_calls.specs.declared.call.Op.{Op}
 use Rattle.channel_calls.specs.declared.call.Op.TheVariants as ops

@@ -1,4 +1,4 @@
-use Rattle.std.proofs.Common.{ℕ, ◌<◌, List, length, arith, sym, ◌∙◌, ap}
+use Rattle.std.proofs.Common.{ℕ, ◌<◌, length, arith, sym, ◌∙◌, ap}
 use Rattle.std.proofs.lemmas.List.{get_or_read}
 use Rattle.std.proofs.lemmas.List.Sums.{position_or_len_is}
 use Rattle.std.specs.Str.{bytes_eq}
