@@ -5,3 +5,9 @@ pub mod Showing
 pub mod Funds
 pub mod Resting
 pub mod Stands
+pub mod Placed
+pub mod Amounts
+pub mod Known
+pub mod Lowered
+pub mod Quiet
+pub mod Rooms

@@ -1,4 +1,20 @@
 //! What a caller knows of the adjudicator's history: a view, and how it follows one more entry.
 #![tactic(auto)]
 
+mod balances;
+mod channels;
+mod flows;
+mod following;
 pub mod laws;
+mod lowering;
+mod payments;
+mod readers;
+mod room;
+mod turning;
+
+pub use following::{follow, unseen};
+pub use readers::{held_amount, paid_amount, view_of};
+pub use room::can_follow;
+
+#[cfg(test)]
+mod tests;

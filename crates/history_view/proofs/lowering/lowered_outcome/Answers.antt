@@ -1,0 +1,12 @@
+use Rattle.std.proofs.Common.{List, sym, ◌∙◌, ap, subst}
+use Rattle.nitro_bytes.specs.Outcomes.{IsOutcome}
+use Rattle.nitro_bytes.specs.declared.value.AssetOutcome.{AssetOutcome}
+use Rattle.channel_calls.specs.Rest.{lower_outcome}
+use Rattle.history_view.proofs.Lowered.{lowered_is_outcome}
+use Rattle.history_view.proofs.lowering.lowered_outcome.Goals as goal
+
+pub outcome_of-requires : goal.outcome_of-requires
+outcome_of-requires c =
+    subst (λ (os : List AssetOutcome). IsOutcome os)
+    (sym (c.in_ok-assets.ensures ∙ ap (λ (os : List AssetOutcome). lower_outcome os c.args.asset c.args.place c.args.amount) c.assets.ensures.value))
+    (lowered_is_outcome c.args.outcome.now c.args.asset c.args.place c.args.amount c.assets.ensures.valid)

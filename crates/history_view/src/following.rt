@@ -1,0 +1,88 @@
+//! What one more entry makes of a view.
+
+ghost use Rattle.std.specs.Prelude.{◌≡◌, OnOk};
+ghost use Rattle.channel_calls.specs.History.{flow_of, payment_of};
+ghost use Rattle.channel_calls.specs.Rows.{fixed_of};
+ghost use Rattle.channel_calls.specs.Told.{told_row};
+ghost use Rattle.history_view.specs.Naming.{name_of};
+ghost use Rattle.history_view.specs.Views.{views_turned, views_moved, views_paid, paid_moved, followed, unseen, HaveRoom, CanFollow};
+
+use crate::flows::move_funds;
+use crate::payments::{pay_item, payment_of};
+use crate::turning::turn_channel;
+use channel_calls::{ChannelView, Entry, WorldView, flow_of, time_set};
+use nitro_bytes::{Listed, Name, NoMemory};
+use std::alloc::Global;
+use std::mem;
+
+/// Moves the funds of an accepted call, if it moves any.
+fn follow_flow(
+    views: &mut Vec<ChannelView>,
+    paid: &mut Listed<(Name, u32, u64)>,
+    entry: &Entry,
+) -> Result<(), NoMemory>
+    requires { HaveRoom (flow_of entry.now.op entry.now.reply) views.old.items paid.old }
+    ensures views { OnOk result (views.new.items ≡ views_moved (flow_of entry.now.op entry.now.reply) views.old.items) }
+    ensures paid { OnOk result (paid.new ≡ paid_moved (flow_of entry.now.op entry.now.reply) paid.old) }
+{
+    match flow_of(&entry.op, &entry.reply) {
+        Some(flow) => move_funds(views, paid, flow),
+        None => Ok(()),
+    }
+}
+
+/// Lowers the item that an accepted call pays, if it pays any.
+fn follow_payment(views: &mut Vec<ChannelView>, entry: &Entry) -> Result<(), NoMemory>
+    ensures { OnOk result (views.new.items ≡ views_paid (payment_of entry.now.op entry.now.reply) views.old.items) }
+{
+    match payment_of(&entry.op, &entry.reply) {
+        Some(payment) => pay_item(views, payment),
+        None => Ok(()),
+    }
+}
+
+/// What the entry makes of what is known of channels and of payments. The time is that before it.
+fn follow_calls(
+    views: &mut Vec<ChannelView>,
+    paid: &mut Listed<(Name, u32, u64)>,
+    now: u64,
+    entry: &Entry,
+) -> Result<(), NoMemory>
+    requires { HaveRoom (flow_of entry.now.op entry.now.reply) views.old.items paid.old }
+    ensures views { OnOk result (views.new.items ≡ views_paid (payment_of entry.now.op entry.now.reply) (views_moved (flow_of entry.now.op entry.now.reply)
+        (views_turned name_of entry.now.op (fixed_of entry.now.op) (told_row now entry.now.op entry.now.reply) views.old.items))) }
+    ensures paid { OnOk result (paid.new ≡ paid_moved (flow_of entry.now.op entry.now.reply) paid.old) }
+{
+    turn_channel(views, now, entry)?;
+    follow_flow(views, paid, entry)?;
+    follow_payment(views, entry)
+}
+
+/// Brings the view forward by the entry that follows on what it has seen. After `NoMemory` it isn't used again.
+pub fn follow(view: &mut WorldView, entry: &Entry) -> Result<(), NoMemory>
+    requires { CanFollow entry.now view.old }
+    ensures { OnOk result (view.new ≡ followed name_of entry.now view.old) }
+{
+    let now = view.now;
+    let none = Listed::make(Vec::new(view.channels.allocator()));
+    let mut channels = mem::replace(&mut view.channels, none).into_vec();
+    follow_calls(&mut channels, &mut view.paid, now, entry)?;
+    view.channels = Listed::make(channels);
+    if let Some(to) = time_set(entry) {
+        view.now = to;
+    }
+    view.count = entry.number;
+    Ok(())
+}
+
+/// The view of no entry.
+pub fn unseen(alloc: Global) -> WorldView
+    ensures { result ≡ unseen }
+{
+    WorldView {
+        now: 0,
+        count: 0,
+        channels: Listed::make(Vec::new(alloc)),
+        paid: Listed::make(Vec::new(alloc)),
+    }
+}

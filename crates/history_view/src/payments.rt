@@ -1,0 +1,155 @@
+//! What a payment makes of what is left of its channel's outcome.
+
+ghost use Rattle.std.specs.Prelude.{◌≡◌, ◌≤◌, length, Some, OnOk};
+ghost use Rattle.std.specs.List.{AllByRecursion};
+ghost use Rattle.std.specs.Option.{option_map, option_to_list};
+ghost use Rattle.nitro_bytes.specs.Outcomes.{is_same, IsShape, IsAssetOutcome};
+ghost use Rattle.channel_model.specs.Items.{place_of};
+ghost use Rattle.channel_calls.specs.Dues.{shape_in};
+ghost use Rattle.channel_calls.specs.History.{listed_dest, place_in, payment_of};
+ghost use Rattle.history_view.specs.Views.{channel_paid, views_with};
+
+use crate::channels::place_for;
+use crate::lowering::lowered_outcome;
+use channel_calls::{Call, ChannelView, Op, Payment, Reply, shape_in};
+use nitro_bytes::{AssetOutcome, Dest, Item, NoMemory, Outcome, Shape};
+
+/// Whom a claim by a guarantee pays.
+fn listed_dest(shape: Option<&Shape>, position: u8) -> Option<Dest>
+    ensures { result ≡ listed_dest (option_map (λ s. s.now) shape.entry) position }
+{
+    match shape {
+        Some(Shape::Guarantee(_, list)) => match list.as_slice().get(position as usize) {
+            Some(to) => Some(*to),
+            None => None,
+        },
+        _ => None,
+    }
+}
+
+fn is_for(item: &Item, to: &Dest) -> bool
+    ensures { result ≡ is_same item.now.to to.now }
+{
+    item.to == *to
+}
+
+/// The place of a destination's item, or the length where it has none.
+fn place_of(items: &[Item], to: &Dest) -> usize
+    ensures value { result ≡ place_of items.now to.now }
+    ensures within { result ≤ length items.now }
+{
+    for (place, item) in items.iter().enumerate() {
+        if is_for(item, to) {
+            return place;
+        }
+    }
+    items.len()
+}
+
+/// The place of a destination's item in a shape.
+fn place_within(shape: &Shape, to: &Dest) -> usize
+    requires { IsShape shape.now }
+    ensures value { result ≡ place_in (Some shape.now) (Some to.now) }
+    ensures fits { result ≤ 16 }
+{
+    match shape {
+        Shape::Allocation(items) => place_of(items.as_slice(), to),
+        Shape::Guarantee(_, _) => 0,
+    }
+}
+
+/// The place of a destination's item among those of an asset.
+fn place_among(assets: &[AssetOutcome], asset: u32, to: &Dest) -> usize
+    requires { AllByRecursion IsAssetOutcome assets.now }
+    ensures value { result ≡ place_in (shape_in assets.now asset) (Some to.now) }
+    ensures fits { result ≤ 16 }
+{
+    match assets {
+        [] => 0,
+        [first, ..] if first.asset == asset => place_within(&first.shape, to),
+        [_, rest @ ..] => place_among(rest, asset, to),
+    }
+}
+
+/// The place of the item of which an accepted claim pays.
+fn claimed_place(
+    guarantor_outcome: &Outcome,
+    target_outcome: &Outcome,
+    asset: u32,
+    position: u8,
+) -> u8
+    ensures { result ≡ place_in (shape_in target_outcome.now asset) (listed_dest (shape_in guarantor_outcome.now asset) position) }
+{
+    match listed_dest(shape_in(guarantor_outcome, asset), position) {
+        Some(to) => place_among(target_outcome.assets(), asset, &to) as u8,
+        None => 0,
+    }
+}
+
+/// What an accepted transfer or claim pays of an item.
+pub(crate) fn payment_of(op: &Op, reply: &Reply) -> Option<Payment>
+    ensures { option_to_list result ≡ payment_of op.now reply.now }
+{
+    match (op, reply) {
+        (
+            Op::Call(
+                Call::Transfer {
+                    channel,
+                    asset,
+                    index,
+                    ..
+                },
+            ),
+            Reply::Paid(amount),
+        ) => Some(Payment {
+            channel: *channel,
+            asset: *asset,
+            place: *index,
+            amount: *amount,
+        }),
+        (
+            Op::Call(
+                Call::Claim {
+                    guarantor_outcome,
+                    target,
+                    target_outcome,
+                    asset,
+                    position,
+                    ..
+                },
+            ),
+            Reply::Paid(amount),
+        ) => Some(Payment {
+            channel: *target,
+            asset: *asset,
+            place: claimed_place(guarantor_outcome, target_outcome, *asset, *position),
+            amount: *amount,
+        }),
+        _ => None,
+    }
+}
+
+fn lower_rest(view: &mut ChannelView, payment: Payment) -> Result<(), NoMemory>
+    ensures { OnOk result (view.new ≡ channel_paid payment view.old) }
+{
+    let alloc = view.held.allocator();
+    if let Some(rest) = view.rest.take() {
+        let lowered = lowered_outcome(
+            alloc,
+            &rest,
+            payment.asset,
+            usize::from(payment.place),
+            payment.amount,
+        )?;
+        view.rest = Some(lowered);
+    }
+    Ok(())
+}
+
+/// Lowers what is left of the item that was paid.
+pub(crate) fn pay_item(views: &mut Vec<ChannelView>, payment: Payment) -> Result<(), NoMemory>
+    ensures { OnOk result (views.new.items ≡ views_with (channel_paid payment) payment.channel views.old.items) }
+{
+    let place = place_for(views, &payment.channel)?;
+    lower_rest(&mut views[place], payment)
+}

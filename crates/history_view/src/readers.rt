@@ -1,0 +1,43 @@
+//! What a view tells.
+
+ghost use Rattle.std.specs.Prelude.{◌≡◌, MatchOption};
+ghost use Rattle.std.specs.List.{find};
+ghost use Rattle.std.specs.Option.{option_map};
+ghost use Rattle.history_view.specs.Views.{unknown, is_of, view_of, held_amount, paid_amount};
+
+use crate::balances::{amount_held, amount_paid};
+use crate::channels::place_of;
+use channel_calls::{ChannelView, WorldView};
+use nitro_bytes::Name;
+
+/// What is known of the channel, if anything is.
+#[tactic(auto, using(crate::proofs::Known::find_there, crate::proofs::Known::find_past, crate::proofs::Known::view_there, crate::proofs::Known::view_past))]
+pub fn view_of<'a>(view: &'a WorldView, channel: &Name) -> Option<&'a ChannelView>
+    ensures found { option_map (λ v. v.now) result ≡ find (is_of channel.now) view.entry.now.channels }
+    ensures meant { MatchOption result (view_of view.entry.now.channels channel.now ≡ unknown channel.now) (λ v. view_of view.entry.now.channels channel.now ≡ v.now) }
+{
+    let views = view.channels.as_slice();
+    let place = place_of(views, channel);
+    if place < views.len() {
+        Some(&views[place])
+    } else {
+        None
+    }
+}
+
+/// What the channel holds of the asset.
+pub fn held_amount(view: &WorldView, channel: &Name, asset: u32) -> u64
+    ensures { result ≡ held_amount (view_of view.entry.now.channels channel.now).held asset }
+{
+    match view_of(view, channel) {
+        Some(known) => amount_held(known.held.as_slice(), asset),
+        None => 0,
+    }
+}
+
+/// What the person was paid of the asset.
+pub fn paid_amount(view: &WorldView, person: &Name, asset: u32) -> u64
+    ensures { result ≡ paid_amount view.entry.now.paid person.now asset }
+{
+    amount_paid(view.paid.as_slice(), person, asset)
+}

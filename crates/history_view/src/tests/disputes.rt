@@ -1,0 +1,127 @@
+//! Turning calls, and entries that are refused.
+
+use super::*;
+
+/// The second person's challenge on these states. The first marked the last one, the second the first.
+fn challenge_on(alloc: Global, parts: &[Parts]) -> Result<Op, Fail> {
+    let chain = chain_of(alloc, parts, &[1, 0])?;
+    Ok(Op::Call(Call::Challenge {
+        chain,
+        challenger: 1,
+        signature: Listed::make(Vec::new(alloc)),
+    }))
+}
+
+fn checkpoint_on(alloc: Global, parts: &[Parts]) -> Result<Op, Fail> {
+    let chain = chain_of(alloc, parts, &[])?;
+    Ok(Op::Call(Call::Checkpoint { chain }))
+}
+
+fn respond_with(alloc: Global, from: Parts, next: Parts) -> Result<Op, Fail> {
+    Ok(Op::Call(Call::Respond {
+        fixed: fixed_of(alloc)?,
+        from: state_of(alloc, from)?,
+        next: Signed {
+            state: state_of(alloc, next)?,
+            signature: Listed::make(Vec::new(alloc)),
+        },
+    }))
+}
+
+fn refute_with(alloc: Global, next: Parts) -> Result<Op, Fail> {
+    Ok(Op::Call(Call::Refute {
+        fixed: fixed_of(alloc)?,
+        next: Signed {
+            state: state_of(alloc, next)?,
+            signature: Listed::make(Vec::new(alloc)),
+        },
+    }))
+}
+
+/// A challenge settles an outcome; its answer opens the channel again, and is shown from its first marked state on.
+#[test]
+fn a_respond_lengthens_what_is_shown(rt: HostRuntime) -> Result<(), Fail> {
+    let alloc = rt.alloc();
+    let c = channel(alloc)?;
+    let mut view = unseen(alloc);
+    assert!(rt; after(&mut view, challenge_on(alloc, &[S3, S4])?, Reply::Until(10))?);
+    let wanted = Some((4, Some(10), Some((2, 4, 2)), Some((4, 4)), Some((4, 4))));
+    assert!(rt; row(&view, &c) == wanted);
+    assert!(rt; after(&mut view, respond_with(alloc, S4, S5)?, Reply::Opened(5))?);
+    let wanted = Some((5, None, Some((2, 5, 2)), Some((4, 4)), Some((4, 4))));
+    assert!(rt; row(&view, &c) == wanted);
+    Ok(())
+}
+
+/// A refute opens the channel at its turn and shows nothing. The same turn may be challenged again.
+#[test]
+fn a_later_chain_of_the_same_turn_is_shown(rt: HostRuntime) -> Result<(), Fail> {
+    let alloc = rt.alloc();
+    let c = channel(alloc)?;
+    let mut view = unseen(alloc);
+    assert!(rt;
+        after(
+            &mut view,
+            checkpoint_on(alloc, &[S2, S3, S4])?,
+            Reply::Opened(4)
+        )?
+    );
+    assert!(rt; row(&view, &c) == Some((4, None, Some((3, 4, 0)), None, None)));
+    assert!(rt; after(&mut view, challenge_on(alloc, &[S3, S4])?, Reply::Until(10))?);
+    let wanted = Some((4, Some(10), Some((2, 4, 2)), Some((4, 4)), Some((4, 4))));
+    assert!(rt; row(&view, &c) == wanted);
+    assert!(rt; after(&mut view, refute_with(alloc, S5)?, Reply::Opened(4))?);
+    let wanted = Some((4, None, Some((2, 4, 2)), Some((4, 4)), Some((4, 4))));
+    assert!(rt; row(&view, &c) == wanted);
+    // No legal history has this one: what is shown stays, since it is newer.
+    assert!(rt;
+        after(
+            &mut view,
+            checkpoint_on(alloc, &[S2, S3])?,
+            Reply::Opened(3)
+        )?
+    );
+    let wanted = Some((3, None, Some((2, 4, 2)), Some((4, 4)), Some((4, 4))));
+    assert!(rt; row(&view, &c) == wanted);
+    Ok(())
+}
+
+#[test]
+fn a_conclude_ends_at_the_time_before_it(rt: HostRuntime) -> Result<(), Fail> {
+    let alloc = rt.alloc();
+    let c = channel(alloc)?;
+    let mut view = unseen(alloc);
+    assert!(rt; after(&mut view, Op::Time(6), Reply::Now(6))?);
+    assert_eq!(rt; view.now, 6);
+    assert!(rt; after(&mut view, conclude_on(alloc, &[S5])?, Reply::Concluded(5))?);
+    assert!(rt; row(&view, &c) == Some((5, Some(6), Some((1, 5, 0)), Some((4, 4)), Some((4, 4)))));
+    Ok(())
+}
+
+#[test]
+fn refused_entries_are_only_counted(rt: HostRuntime) -> Result<(), Fail> {
+    let alloc = rt.alloc();
+    let c = channel(alloc)?;
+    let mut view = unseen(alloc);
+    assert!(rt; after(&mut view, Op::Time(2), Reply::Now(2))?);
+    assert!(rt; after(&mut view, challenge_on(alloc, &[S3, S4])?, Reply::Until(12))?);
+    assert!(rt; after(&mut view, deposit(c, 0, 8), Reply::Held(8))?);
+    let wanted = Some((4, Some(12), Some((2, 4, 2)), Some((4, 4)), Some((4, 4))));
+    assert!(rt; row(&view, &c) == wanted);
+    let stale = Reply::No(Refusal::Stale(4));
+    assert!(rt; after(&mut view, challenge_on(alloc, &[S2, S3])?, stale)?);
+    let stale = Reply::No(Refusal::NotNewer(4));
+    assert!(rt; after(&mut view, checkpoint_on(alloc, &[S2, S3])?, stale)?);
+    let wrong = Reply::No(Refusal::WrongState);
+    assert!(rt; after(&mut view, respond_with(alloc, S2, S5)?, wrong)?);
+    let open = Reply::No(Refusal::NotFinal(c));
+    let outcome = people_have(alloc, 4, 4)?;
+    assert!(rt; after(&mut view, transfer(c, outcome, 0), open)?);
+    assert!(rt; after(&mut view, deposit(c, 0, 0), Reply::No(Refusal::Zero))?);
+    assert!(rt; after(&mut view, Op::Time(1), Reply::No(Refusal::Backwards(2)))?);
+    assert!(rt; row(&view, &c) == wanted);
+    assert_eq!(rt; held_amount(&view, &c, 0), 8);
+    assert_eq!(rt; view.now, 2);
+    assert_eq!(rt; view.count, 9);
+    Ok(())
+}
