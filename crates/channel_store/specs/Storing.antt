@@ -1,5 +1,5 @@
 -- What the calls of a store answer and make of what it keeps.
-use Rattle.std.specs.Prelude.{◌≡◌, ◌≢◌, ℕ, Bool, true, false, List, [], slice_set, Option, Some, None, Result, Ok, Err, if◌then◌else◌}
+use Rattle.std.specs.Prelude.{◌≡◌, ℕ, Bool, true, false, List, [], slice_set, Option, Some, None, IsSome, Result, Ok, Err, if◌then◌else◌}
 use Rattle.std.specs.List.{slice_get, position_or_len}
 use Rattle.std.specs.Str.{bytes_eq}
 use Rattle.nitro_bytes.specs.Parts.{FixedParts}
@@ -51,10 +51,15 @@ note_at r next kept place (Some k) = note_unless (note_fault r k next) (slice_se
 abbrev pub note_of : Rules → List ℕ → Signed → List Kept → Result (List Kept) NoteFault
 note_of r channel next kept = note_at r next kept (place_of channel kept) (kept_of channel kept)
 
--- the call did what was wanted, or refused as was wanted; a refused call did nothing, also for want of memory
+-- the fault of a call that should come to this: its own, or want of memory for a state that would be noted
+abbrev pub fault_of : Result (List Kept) NoteFault → NoteFault
+fault_of (Ok kept) = faults.NoMemory
+fault_of (Err fault) = fault
+
+-- the call did what was wanted, or told that fault and changed nothing
 abbrev pub Notes : {A : Type 0} → Result A NoteFault → Result (List Kept) NoteFault → List Kept → List Kept → Type 0
 Notes (Ok done) wanted old new = wanted ≡ Ok new
-Notes (Err fault) wanted old new = (fault ≢ faults.NoMemory → wanted ≡ Err fault) × (new ≡ old)
+Notes (Err fault) wanted old new = (fault ≡ fault_of wanted) × (new ≡ old)
 
 -- ---- adopting
 
@@ -66,7 +71,8 @@ adopt_at r shown kept place (Some k) = if is_newer r k shown then Some (slice_se
 abbrev pub adopt_of : Rules → Chain → List Kept → Option (List Kept)
 adopt_of r shown kept = adopt_at r shown kept (place_with shown.fixed kept) (slice_get kept (place_with shown.fixed kept))
 
+-- the call adopted the chain or left things as they were, as was wanted; memory is wanted only for a chain to be adopted
 abbrev pub Adopts : Result Bool NoMemory → Option (List Kept) → List Kept → List Kept → Type 0
 Adopts (Ok true) wanted old new = wanted ≡ Some new
 Adopts (Ok false) wanted old new = (wanted ≡ None) × (new ≡ old)
-Adopts (Err e) wanted old new = new ≡ old
+Adopts (Err e) wanted old new = IsSome wanted × (new ≡ old)

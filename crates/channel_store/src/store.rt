@@ -162,7 +162,7 @@ impl Store {
     }
 
     /// Notes the next state of a channel, which its mover signed, or says why not.
-    #[tactic(auto, using(crate::proofs::Calls::unknown, crate::proofs::Calls::refused, crate::proofs::Calls::notes, std::proofs::lemmas::Option::slice_get_within))]
+    #[tactic(auto, using(crate::proofs::Calls::unknown, crate::proofs::Calls::refused, crate::proofs::Calls::notes, crate::proofs::Calls::wants_memory, std::proofs::lemmas::Option::slice_get_within))]
     pub fn note(&mut self, channel: &Name, signed: Signed) -> Result<(), NoteFault>
         ensures { Notes result (note_of real channel.now signed self.old) self.old self.new }
     {
@@ -178,7 +178,7 @@ impl Store {
 
     /// Adopts a shown chain where its channel is kept, the chain is supported and none is held or the held one is older,
     /// and tells whether it did.
-    #[tactic(auto, using(crate::proofs::Calls::adopts_nothing, crate::proofs::Calls::keeps, crate::proofs::Calls::adopts, std::proofs::lemmas::Option::slice_get_within))]
+    #[tactic(auto, using(crate::proofs::Calls::adopts_nothing, crate::proofs::Calls::keeps, crate::proofs::Calls::adopts, crate::proofs::Calls::would_adopt, std::proofs::lemmas::Option::slice_get_within))]
     pub fn adopt(&mut self, shown: Chain) -> Result<bool, NoMemory>
         ensures { Adopts result (adopt_of real shown self.old) self.old self.new }
     {
