@@ -4,3 +4,11 @@ pub mod Known
 pub mod Lowered
 pub mod Quiet
 pub mod Rooms
+pub mod Accepting
+pub mod Viewing
+pub mod Turns
+pub mod Showing
+pub mod Funds
+pub mod Resting
+pub mod Stands
+pub mod Named

@@ -22,13 +22,17 @@ abbrev pub newest_shown : Rules → List ℕ → List Entry → Option Marked
 newest_shown r channel [] = None
 newest_shown r channel (e ∷ past) = newer (shown r channel past e) (newest_shown r channel past)
 
--- what is known of a channel is so
+-- there is a chain of the channel, with these states and marks
+abbrev pub IsChainOf : Rules → List ℕ → Marked → Option Chain → Type 0
+IsChainOf r channel w shown = (chain : Chain) × (shown ≡ Some chain) × (r.named chain.fixed ≡ channel) × (marked_of chain ≡ w)
+
+-- what is known of a channel is so; and while it is challenged, the chain that is shown is the challenged one
 pub record KnowsChannel (r : Rules) (channel : List ℕ) (h : List Entry) (v : ChannelView) : Type 0 where
   pub turn : v.turn ≡ (row r channel h).turn
   pub deadline : v.deadline ≡ (row r channel h).deadline
   pub held : (asset : ℕ) → held_amount v.held asset ≡ held_of h channel asset
   pub shown : option_map marked_of v.shown ≡ newest_shown r channel h
-  pub challenged : mode r channel h ≡ Challenged → (chain : Chain) × (v.shown ≡ Some chain) × (r.named chain.fixed ≡ channel) × (marked_of chain ≡ challenged r channel h)
+  pub challenged : mode r channel h ≡ Challenged → IsChainOf r channel (challenged r channel h) v.shown
   pub settled : v.settled ≡ settled r channel h
   pub rest : v.rest ≡ rest_of_channel r channel h
 

@@ -5,6 +5,7 @@ mod balances;
 mod channels;
 mod flows;
 mod following;
+pub mod laws;
 mod lowering;
 mod payments;
 mod readers;
