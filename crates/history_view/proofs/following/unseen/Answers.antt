@@ -1,4 +1,4 @@
-use Rattle.std.proofs.Common.{◌≡◌, List, [], subst}
+use Rattle.std.proofs.Common.{◌≡◌, [], subst}
 use Rattle.channel_calls.specs.declared.view.WorldView.{WorldView}
 use Rattle.history_view.specs.Standing.{StandsFor}
 use Rattle.history_view.specs.Views.{unseen}
