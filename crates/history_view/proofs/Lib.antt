@@ -1,3 +1,9 @@
+pub mod Placed
+pub mod Amounts
+pub mod Known
+pub mod Lowered
+pub mod Quiet
+pub mod Rooms
 pub mod Accepting
 pub mod Viewing
 pub mod Turns
@@ -5,9 +11,4 @@ pub mod Showing
 pub mod Funds
 pub mod Resting
 pub mod Stands
-pub mod Placed
-pub mod Amounts
-pub mod Known
-pub mod Lowered
-pub mod Quiet
-pub mod Rooms
+pub mod Named

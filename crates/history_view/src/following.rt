@@ -1,10 +1,13 @@
 //! What one more entry makes of a view.
 
-ghost use Rattle.std.specs.Prelude.{◌≡◌, OnOk};
-ghost use Rattle.channel_calls.specs.History.{flow_of, payment_of};
+ghost use Rattle.std.specs.Prelude.{◌≡◌, List, [], ◌∷◌, OnOk};
+ghost use Rattle.channel_model.specs.Rules.{Rules};
+ghost use Rattle.channel_calls.specs.History.{flow_of, payment_of, Legal};
 ghost use Rattle.channel_calls.specs.Rows.{fixed_of};
 ghost use Rattle.channel_calls.specs.Told.{told_row};
-ghost use Rattle.history_view.specs.Naming.{name_of};
+ghost use Rattle.channel_calls.specs.declared.entry.Entry.{Entry as AnEntry};
+ghost use Rattle.history_view.specs.Naming.{name_of, NamesChannels};
+ghost use Rattle.history_view.specs.Standing.{StandsFor};
 ghost use Rattle.history_view.specs.Views.{views_turned, views_moved, views_paid, paid_moved, followed, unseen, HaveRoom, CanFollow};
 
 use crate::flows::move_funds;
@@ -58,9 +61,8 @@ fn follow_calls(
     follow_payment(views, entry)
 }
 
-/// Brings the view forward by the entry that follows on what it has seen. After `NoMemory` it isn't used again.
-pub fn follow(view: &mut WorldView, entry: &Entry) -> Result<(), NoMemory>
-    requires { CanFollow entry.now view.old }
+fn follow_entry(view: &mut WorldView, entry: &Entry) -> Result<(), NoMemory>
+    requires { HaveRoom (flow_of entry.now.op entry.now.reply) view.old.channels view.old.paid }
     ensures { OnOk result (view.new ≡ followed name_of entry.now view.old) }
 {
     let now = view.now;
@@ -75,9 +77,21 @@ pub fn follow(view: &mut WorldView, entry: &Entry) -> Result<(), NoMemory>
     Ok(())
 }
 
+/// Brings the view forward by the entry that follows on what it has seen. After `NoMemory` it isn't used again.
+pub fn follow(view: &mut WorldView, entry: &Entry) -> Result<(), NoMemory>
+    requires { CanFollow entry.now view.old }
+    ensures followed { OnOk result (view.new ≡ followed name_of entry.now view.old) }
+
+    // Where the entry makes a longer legal history of the one that the view stands for.
+    ensures stands { (r : Rules) (h : List AnEntry) → NamesChannels r → StandsFor r h view.old → Legal r (entry.now ∷ h) → OnOk result (StandsFor r (entry.now ∷ h) view.new) }
+{
+    follow_entry(view, entry)
+}
+
 /// The view of no entry.
 pub fn unseen(alloc: Global) -> WorldView
-    ensures { result ≡ unseen }
+    ensures unseen { result ≡ unseen }
+    ensures stands { (r : Rules) → StandsFor r [] result }
 {
     WorldView {
         now: 0,
