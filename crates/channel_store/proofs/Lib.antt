@@ -2,3 +2,5 @@ pub mod Placing
 pub mod Held
 pub mod Calls
 pub mod Good
+pub mod Places
+pub mod Alone

@@ -1,6 +1,6 @@
 //! A store keeps what the definition of held chains says. Each function is empty: its contract is the law.
 
-ghost use Rattle.channel_store.specs.Laws.{NotingExtends, AdoptingAdopts, KeptAreGood, HeldAreSupported, BytesTellChannels};
+ghost use Rattle.channel_store.specs.Laws.{NotingExtends, AdoptingAdopts, KeptAreGood, HeldAreSupported, BytesTellChannels, NotingIsAlone, AdoptingIsAlone};
 
 /// What is kept of each channel is always its first round so far, each state with its mover's mark, or a supported chain:
 /// so it is of an added channel, and a noted state and an adopted chain keep it so.
@@ -27,4 +27,14 @@ pub fn adopting_adopts()
 /// Fixed parts with the same bytes are the same, so a shown chain is adopted for its own channel alone.
 pub fn bytes_tell_channels()
     ensures { BytesTellChannels }
+{}
+
+/// A noted state changes what is kept of its own channel alone.
+pub fn noting_is_alone()
+    ensures { NotingIsAlone }
+{}
+
+/// An adopted chain changes what is kept of its own channel alone.
+pub fn adopting_is_alone()
+    ensures { AdoptingIsAlone }
 {}
