@@ -21,6 +21,8 @@ const S4: Parts = (4, 4, 4);
 
 const S5: Parts = (5, 4, 4);
 
+const S6: Parts = (6, 3, 5);
+
 const FIRST: Name = [1; 32];
 
 const SECOND: Name = [2; 32];

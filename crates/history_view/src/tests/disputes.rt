@@ -86,6 +86,98 @@ fn a_later_chain_of_the_same_turn_is_shown(rt: HostRuntime) -> Result<(), Fail> 
     Ok(())
 }
 
+/// The second person's challenge is refuted, entered again, and responded to, with refused answers between. With each
+/// entry stand its reply and the turn and the deadline that are then recorded.
+fn refuted_and_responded(alloc: Global) -> Result<Vec<(Op, Reply, u64, Option<u64>)>, Fail> {
+    let mut rows = Vec::new(alloc);
+    rows.push((
+        challenge_on(alloc, &[S3, S4])?,
+        Reply::Until(10),
+        4,
+        Some(10),
+    ))?;
+    rows.push((
+        refute_with(alloc, S3)?,
+        Reply::No(Refusal::NotNewer(4)),
+        4,
+        Some(10),
+    ))?;
+    rows.push((
+        refute_with(alloc, S6)?,
+        Reply::No(Refusal::NotChallengers),
+        4,
+        Some(10),
+    ))?;
+    rows.push((refute_with(alloc, S5)?, Reply::Opened(4), 4, None))?;
+    rows.push((
+        challenge_on(alloc, &[S3, S4])?,
+        Reply::Until(10),
+        4,
+        Some(10),
+    ))?;
+    rows.push((
+        respond_with(alloc, S3, S5)?,
+        Reply::No(Refusal::WrongState),
+        4,
+        Some(10),
+    ))?;
+    rows.push((
+        respond_with(alloc, S4, S6)?,
+        Reply::No(Refusal::WrongTurn(5)),
+        4,
+        Some(10),
+    ))?;
+    rows.push((respond_with(alloc, S4, S5)?, Reply::Opened(5), 5, None))?;
+    rows.push((
+        respond_with(alloc, S4, S5)?,
+        Reply::No(Refusal::NoChallenge),
+        5,
+        None,
+    ))?;
+    Ok(rows)
+}
+
+#[test]
+fn refutes_and_responds_are_followed(rt: HostRuntime) -> Result<(), Fail> {
+    let alloc = rt.alloc();
+    let c = channel(alloc)?;
+    let mut view = unseen(alloc);
+    for (op, reply, turn, deadline) in refuted_and_responded(alloc)? {
+        assert!(rt; after(&mut view, op, reply)?);
+        let wanted = Some((
+            turn,
+            deadline,
+            Some((2, turn, 2)),
+            Some((4, 4)),
+            Some((4, 4)),
+        ));
+        assert!(rt; row(&view, &c) == wanted);
+    }
+    Ok(())
+}
+
+/// A challenge is answered by a newer chain, which is shown from then on; the same challenge again is refused.
+#[test]
+fn a_checkpoint_is_followed(rt: HostRuntime) -> Result<(), Fail> {
+    let alloc = rt.alloc();
+    let c = channel(alloc)?;
+    let mut view = unseen(alloc);
+    assert!(rt; after(&mut view, challenge_on(alloc, &[S3, S4])?, Reply::Until(10))?);
+    assert!(rt;
+        after(
+            &mut view,
+            checkpoint_on(alloc, &[S5, S6])?,
+            Reply::Opened(6)
+        )?
+    );
+    let wanted = Some((6, None, Some((2, 6, 0)), Some((4, 4)), Some((4, 4))));
+    assert!(rt; row(&view, &c) == wanted);
+    let stale = Reply::No(Refusal::Stale(6));
+    assert!(rt; after(&mut view, challenge_on(alloc, &[S3, S4])?, stale)?);
+    assert!(rt; row(&view, &c) == wanted);
+    Ok(())
+}
+
 #[test]
 fn a_conclude_ends_at_the_time_before_it(rt: HostRuntime) -> Result<(), Fail> {
     let alloc = rt.alloc();
