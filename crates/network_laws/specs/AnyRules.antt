@@ -1,0 +1,21 @@
+-- What the laws say of a history and a journal under any rules that keep final states.
+use Rattle.std.specs.Prelude.{ℕ, List}
+use Rattle.channel_model.specs.Rules.{Rules, KeepsFinal}
+use Rattle.channel_calls.specs.History.{Legal}
+use Rattle.channel_calls.specs.declared.entry.Entry.{Entry}
+use Rattle.net_model.specs.Journals.{Line}
+use Rattle.net_model.specs.Premises.{Unforged, NoCollision, InTime}
+use Rattle.net_model.specs.Honest.{Honest}
+use Rattle.net_model.specs.Safety.{IsSafe, HasStepsAfterLast, FewAreCleared}
+
+abbrev pub AnyOutcomesAreNotOlder : List Entry → List Line → Type 0
+AnyOutcomesAreNotOlder h journal =
+    (r : Rules) (key : List ℕ) → KeepsFinal r → Legal r h → Honest r key h journal → Unforged r key h journal → NoCollision r h journal → InTime r h journal → IsSafe r key h journal
+
+abbrev pub AnyChainsHaveTheSteps : List Entry → List Line → Type 0
+AnyChainsHaveTheSteps h journal =
+    (r : Rules) (key : List ℕ) → KeepsFinal r → Legal r h → Honest r key h journal → Unforged r key h journal → NoCollision r h journal → HasStepsAfterLast r key h journal
+
+abbrev pub FewOfAnyChallengesAreCleared : List Entry → List Line → Type 0
+FewOfAnyChallengesAreCleared h journal =
+    (r : Rules) (key : List ℕ) → KeepsFinal r → Legal r h → Honest r key h journal → Unforged r key h journal → NoCollision r h journal → FewAreCleared r key h journal
