@@ -9,3 +9,4 @@ pub mod Fixeds
 pub mod Chains
 pub mod Format
 pub mod Formats
+pub mod Fronts

@@ -6,14 +6,14 @@ use Rattle.nitro_bytes.specs.Parts.{FixedParts, StateParts, IsFixed, IsState, fi
 use Rattle.nitro_bytes.specs.Spelling.{fixed, state}
 
 abbrev pub state_parts : states.Inside → StateParts
-state_parts s = state_with s.turn s.is_final s.outcome s.app_bytes.items
+state_parts s = state_with s.parts.turn s.parts.is_final s.parts.outcome s.parts.app_bytes.items
 
 -- the parts are those of a state, and the bytes are its spelling
 abbrev pub KeepsState : states.Inside → Type 0
 KeepsState s = IsState (state_parts s) × (s.bytes.items ≡ state (state_parts s))
 
 abbrev pub fixed_parts : fixeds.Inside → FixedParts
-fixed_parts f = fixed_with f.keys.items f.nonce f.app f.duration
+fixed_parts f = fixed_with f.parts.keys.items f.parts.nonce f.parts.app f.parts.duration
 
 -- the parts are those of a fixed part, and the bytes are its spelling
 abbrev pub KeepsFixed : fixeds.Inside → Type 0

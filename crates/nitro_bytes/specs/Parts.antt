@@ -48,4 +48,5 @@ abbrev pub fixed_with : List (List ℕ) → ℕ → ℕ → ℕ → FixedParts
 fixed_with keys nonce app duration = record { keys = keys; nonce = nonce; app = app; duration = duration }
 
 abbrev pub state_with : ℕ → Bool → List AssetOutcome → List ℕ → StateParts
-state_with turn is_final outcome app_bytes = record { turn = turn; is_final = is_final; outcome = outcome; app_bytes = app_bytes }
+state_with turn is_final outcome app_bytes =
+    record { turn = turn; is_final = is_final; outcome = outcome; app_bytes = app_bytes }

@@ -46,7 +46,9 @@ byte_at whole [] = Err (faults.Cut whole)
 byte_at whole (b ∷ rest) = Ok (b, rest)
 
 abbrev pub number_at : ℕ → Width → List ℕ → Result (ℕ × List ℕ) ByteFault
-number_at whole w bytes = if nat_lt (length bytes) (byte_len w) then Err (faults.Cut whole) else Ok (from_be_bytes w (take (byte_len w) bytes), drop (byte_len w) bytes)
+number_at whole w bytes =
+    if nat_lt (length bytes) (byte_len w) then Err (faults.Cut whole)
+    else Ok (from_be_bytes w (take (byte_len w) bytes), drop (byte_len w) bytes)
 
 -- as many bytes as are asked for
 abbrev pub front_at : ℕ → ℕ → List ℕ → Result (List ℕ × List ℕ) ByteFault
@@ -62,10 +64,13 @@ tagged whole make bytes = name_at whole bytes >>= λ name. Ok (make name.0, name
 unfoldable pub dest_at : ℕ → List ℕ → Result (Dest × List ℕ) ByteFault
 dest_at whole bytes = do
   tag ← byte_at whole bytes
-  if tag.0 == 1 then tagged whole (λ n. Person n) tag.1 else (if tag.0 == 2 then tagged whole (λ n. Channel n) tag.1 else Err (faults.BadTag (whole - length bytes)))
+  if tag.0 == 1 then tagged whole (λ n. Person n) tag.1
+      else (if tag.0 == 2 then tagged whole (λ n. Channel n) tag.1
+      else Err (faults.BadTag (whole - length bytes)))
 
 -- Count values one after the other, behind those seen. What may stand next depends on them.
-unfoldable pub many_at : {X : Type 0} → (List X → List ℕ → Result (X × List ℕ) ByteFault) → List X → ℕ → List ℕ → Result (List X × List ℕ) ByteFault
+unfoldable pub many_at : {X : Type 0}
+    → (List X → List ℕ → Result (X × List ℕ) ByteFault) → List X → ℕ → List ℕ → Result (List X × List ℕ) ByteFault
 many_at one seen zero bytes = Ok (seen, bytes)
 many_at one seen (suc n) bytes = do
   next ← one seen bytes
@@ -109,7 +114,9 @@ guarantee_at whole bytes = do
 unfoldable pub shape_at : ℕ → List ℕ → Result (Shape × List ℕ) ByteFault
 shape_at whole bytes = do
   kind ← byte_at whole bytes
-  if kind.0 == 1 then allocation_at whole kind.1 else (if kind.0 == 2 then guarantee_at whole kind.1 else Err (faults.BadTag (whole - length bytes)))
+  if kind.0 == 1 then allocation_at whole kind.1
+      else (if kind.0 == 2 then guarantee_at whole kind.1
+      else Err (faults.BadTag (whole - length bytes)))
 
 -- the outcome of an asset after those seen
 unfoldable pub asset_at : ℕ → List AssetOutcome → List ℕ → Result (AssetOutcome × List ℕ) ByteFault
@@ -136,7 +143,9 @@ turn_at whole bytes = do
 unfoldable pub flag_at : ℕ → List ℕ → Result (Bool × List ℕ) ByteFault
 flag_at whole bytes = do
   flag ← byte_at whole bytes
-  if flag.0 == 0 then Ok (false, flag.1) else (if flag.0 == 1 then Ok (true, flag.1) else Err (faults.BadTag (whole - length bytes)))
+  if flag.0 == 0 then Ok (false, flag.1)
+      else (if flag.0 == 1 then Ok (true, flag.1)
+      else Err (faults.BadTag (whole - length bytes)))
 
 -- a length of two bytes, at most a limit, and that many bytes
 unfoldable pub sized_at : ℕ → ℕ → List ℕ → Result (List ℕ × List ℕ) ByteFault

@@ -50,7 +50,9 @@ state s = to_be_bytes w64 s.turn ++ (flag s.is_final ++ (outcome s.outcome ++ si
 
 -- a count, the keys, a nonce, an application and a duration
 unfoldable pub fixed : FixedParts → List ℕ
-fixed f = count (length f.keys) ∷ (flat_map (λ key. key) f.keys ++ (to_be_bytes w64 f.nonce ++ (f.app ∷ to_be_bytes w32 f.duration)))
+fixed f =
+    count (length f.keys) ∷ (flat_map (λ key. key) f.keys
+    ++ (to_be_bytes w64 f.nonce ++ (f.app ∷ to_be_bytes w32 f.duration)))
 
 -- a state, and a signature behind its length
 unfoldable pub signed : Signed → List ℕ
@@ -61,4 +63,6 @@ mark m = m.place ∷ sized m.signature
 
 -- a fixed part, the states behind their count, and the marks behind theirs
 unfoldable pub chain : Chain → List ℕ
-chain c = fixed c.fixed ++ (count (length c.states) ∷ (flat_map state c.states ++ (count (length c.marks) ∷ flat_map mark c.marks)))
+chain c =
+    fixed c.fixed ++ (count (length c.states) ∷ (flat_map state c.states
+    ++ (count (length c.marks) ∷ flat_map mark c.marks)))

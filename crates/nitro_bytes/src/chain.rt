@@ -1,6 +1,6 @@
 //! Signed states, and chains of states with the marks of their signers.
 
-ghost use Rattle.std.specs.Prelude.{◌≡◌, ◌≤◌, ◌++◌, [], length, IfOk, OnOk, Ok};
+ghost use Rattle.std.specs.Prelude.{◌≡◌, ◌≤◌, ◌++◌, [], length, IfOk, OnOk, OnErr, Ok};
 ghost use Rattle.std.specs.List.{flat_map, AllByRecursion};
 ghost use Rattle.nitro_bytes.specs.declared.chain.Signed.{Signed as SignedParts};
 ghost use Rattle.nitro_bytes.specs.declared.chain.Chain.{Chain as ChainParts};
@@ -9,9 +9,10 @@ ghost use Rattle.nitro_bytes.specs.Chains.{IsSignature, IsSigned, IsMark, IsChai
 ghost use Rattle.nitro_bytes.specs.Spelling.{state, signed, mark, chain};
 ghost use Rattle.nitro_bytes.specs.Reading.{Gives, sized_at, many_at, next_state_at, mark_at, states_at, marks_at, signed_at, signed_of, chain_at, chain_of};
 
-use crate::cursor::{place_of, take_byte, take_count, take_sized};
+use crate::cursor::{ended, take_byte, take_count, take_sized};
 use crate::fault::{ByteFault, NoMemory};
 use crate::fixed::{Fixed, take_fixed};
+use crate::limits::{MOST_MARKS, MOST_SIGNATURE_BYTES, MOST_STATES};
 use crate::listed::Listed;
 use crate::state::{State, take_state};
 use crate::writing::{put_count, put_sized};
@@ -111,7 +112,7 @@ pub fn take_signature(
 ) -> Result<(Listed<u8>, &[u8]), ByteFault>
     ensures { Gives (λ x. (x.0, x.1.now)) result (sized_at whole 9004 bytes.now) }
 {
-    let (front, rest) = take_sized(whole, 9004, bytes)?;
+    let (front, rest) = take_sized(whole, MOST_SIGNATURE_BYTES as u16, bytes)?;
     let items = Vec::from_slice(alloc, front)?;
     Ok((Listed::make(items), rest))
 }
@@ -184,7 +185,7 @@ fn take_states(
 ) -> Result<(Listed<State>, &[u8]), ByteFault>
     ensures { Gives (λ x. (x.0, x.1.now)) result (states_at whole bytes.now) }
 {
-    let (count, rest) = take_count(whole, 4, bytes)?;
+    let (count, rest) = take_count(whole, MOST_STATES as u8, bytes)?;
     let (states, rest) = take_many_states(alloc, whole, count, rest)?;
     Ok((Listed::make(states), rest))
 }
@@ -193,7 +194,7 @@ fn take_states(
 fn take_marks(alloc: Global, whole: usize, bytes: &[u8]) -> Result<(Listed<Mark>, &[u8]), ByteFault>
     ensures { Gives (λ x. (x.0, x.1.now)) result (marks_at whole bytes.now) }
 {
-    let (count, rest) = take_count(whole, 4, bytes)?;
+    let (count, rest) = take_count(whole, MOST_MARKS as u8, bytes)?;
     let (marks, rest) = take_many_marks(alloc, whole, count, rest)?;
     Ok((Listed::make(marks), rest))
 }
@@ -222,10 +223,7 @@ fn signed_from(alloc: Global, bytes: &[u8]) -> Result<Signed, ByteFault>
 {
     let whole = bytes.len();
     let (signed, rest) = take_signed(alloc, whole, bytes)?;
-    if !rest.is_empty() {
-        return Err(ByteFault::Trailing(place_of(whole, rest)));
-    }
-    Ok(signed)
+    ended(whole, signed, rest)
 }
 
 /// The signed state that the bytes spell, all of the bytes, or the first fault.
@@ -246,10 +244,7 @@ fn chain_from(alloc: Global, bytes: &[u8]) -> Result<Chain, ByteFault>
 {
     let whole = bytes.len();
     let (chain, rest) = take_chain(alloc, whole, bytes)?;
-    if !rest.is_empty() {
-        return Err(ByteFault::Trailing(place_of(whole, rest)));
-    }
-    Ok(chain)
+    ended(whole, chain, rest)
 }
 
 /// The chain that the bytes spell, all of the bytes, or the first fault.
@@ -266,15 +261,27 @@ pub fn read_chain(alloc: Global, bytes: &[u8]) -> Result<Chain, ByteFault>
     chain_from(alloc, bytes)
 }
 
-/// Appends the one spelling.
 #[tactic(auto, unfolding(crate::specs::Spelling::signed))]
-pub fn write_signed(value: &Signed, out: &mut Vec<u8>) -> Result<(), NoMemory>
+fn put_signed(out: &mut Vec<u8>, value: &Signed) -> Result<(), NoMemory>
     requires { length value.now.signature ≤ 9004 }
-    ensures written { OnOk result (out.new.items ≡ out.old.items ++ signed value.now) }
+    ensures put { OnOk result (out.new.items ≡ out.old.items ++ signed value.now) }
     ensures valid { OnOk result (IsSigned value.now) }
 {
     out.extend_from_slice(value.state.bytes())?;
     put_sized(out, value.signature.as_slice())
+}
+
+/// Appends the one spelling, or nothing.
+pub fn write_signed(value: &Signed, out: &mut Vec<u8>) -> Result<(), NoMemory>
+    requires { length value.now.signature ≤ 9004 }
+    ensures written { OnOk result (out.new.items ≡ out.old.items ++ signed value.now) }
+    ensures kept { OnErr result (out.new.items ≡ out.old.items) }
+    ensures valid { OnOk result (IsSigned value.now) }
+{
+    let mut text = Vec::new(*out.allocator());
+    put_signed(&mut text, value)?;
+    out.extend_from_slice(&text)?;
+    Ok(())
 }
 
 fn put_states(out: &mut Vec<u8>, states: &[State]) -> Result<(), NoMemory>
@@ -305,11 +312,10 @@ fn put_marks(out: &mut Vec<u8>, marks: &[Mark]) -> Result<(), NoMemory>
     Ok(())
 }
 
-/// Appends the one spelling.
 #[tactic(auto, unfolding(crate::specs::Spelling::chain))]
-pub fn write_chain(value: &Chain, out: &mut Vec<u8>) -> Result<(), NoMemory>
+fn put_chain(out: &mut Vec<u8>, value: &Chain) -> Result<(), NoMemory>
     requires { KeepsLimits value.now }
-    ensures written { OnOk result (out.new.items ≡ out.old.items ++ chain value.now) }
+    ensures put { OnOk result (out.new.items ≡ out.old.items ++ chain value.now) }
     ensures valid { OnOk result (IsChain value.now) }
 {
     let states = value.states.as_slice();
@@ -319,4 +325,17 @@ pub fn write_chain(value: &Chain, out: &mut Vec<u8>) -> Result<(), NoMemory>
     put_states(out, states)?;
     put_count(out, marks.len())?;
     put_marks(out, marks)
+}
+
+/// Appends the one spelling, or nothing.
+pub fn write_chain(value: &Chain, out: &mut Vec<u8>) -> Result<(), NoMemory>
+    requires { KeepsLimits value.now }
+    ensures written { OnOk result (out.new.items ≡ out.old.items ++ chain value.now) }
+    ensures kept { OnErr result (out.new.items ≡ out.old.items) }
+    ensures valid { OnOk result (IsChain value.now) }
+{
+    let mut text = Vec::new(*out.allocator());
+    put_chain(&mut text, value)?;
+    out.extend_from_slice(&text)?;
+    Ok(())
 }

@@ -5,7 +5,7 @@
 
 ghost use Rattle.std.specs.Prelude.{◌≡◌, ◌≤◌, ◌-◌, length, IfOk};
 ghost use Rattle.std.specs.Int.{w16, w32, w64};
-ghost use Rattle.nitro_bytes.specs.Reading.{Tells, byte_at, number_at, front_at, name_at, count_at, sized_at};
+ghost use Rattle.nitro_bytes.specs.Reading.{Gives, Tells, ended, byte_at, number_at, front_at, name_at, count_at, sized_at};
 
 use crate::fault::ByteFault;
 use crate::value::{Key, Name};
@@ -15,6 +15,18 @@ pub fn place_of(whole: usize, bytes: &[u8]) -> usize
     ensures { result ≡ whole - length bytes.now }
 {
     whole.saturating_sub(bytes.len())
+}
+
+/// The value, where nothing stands behind it, and else where something does.
+pub fn ended<T: Drop>(whole: usize, value: T, rest: &[u8]) -> Result<T, ByteFault>
+    ensures tells { Tells (λ x. x) result (ended whole (value, rest.now)) }
+    ensures gives { Gives (λ x. x) result (ended whole (value, rest.now)) }
+{
+    if rest.is_empty() {
+        Ok(value)
+    } else {
+        Err(ByteFault::Trailing(place_of(whole, rest)))
+    }
 }
 
 pub fn take_byte(whole: usize, bytes: &[u8]) -> Result<(u8, &[u8]), ByteFault>

@@ -1,26 +1,33 @@
 //! Fixed parts of channels, which are valid by their type.
 
-ghost use Rattle.std.specs.Prelude.{◌≡◌, ◌≤◌, ◌++◌, [], IfOk, OnOk, Ok};
+ghost use Rattle.std.specs.Prelude.{◌≡◌, ◌≤◌, ◌++◌, [], IfOk, OnOk, OnErr, Ok};
 ghost use Rattle.std.specs.List.{list_any};
 ghost use Rattle.std.specs.Str.{bytes_eq};
 ghost use Rattle.nitro_bytes.specs.Parts.{FixedParts, IsFixed, fixed_with};
 ghost use Rattle.nitro_bytes.specs.Spelling.{fixed};
 ghost use Rattle.nitro_bytes.specs.Reading.{Gives, Tells, many_at, people_at, key_at, app_at, duration_at, fixed_at, fixed_of};
 
-use crate::cursor::{place_of, take_byte, take_raw_key, take_u32, take_u64};
+use crate::cursor::{ended, place_of, take_byte, take_raw_key, take_u32, take_u64};
 use crate::fault::{ByteFault, NoMemory};
+use crate::limits::MOST_PEOPLE;
 use crate::value::Key;
 use crate::writing::put_fixed;
 use std::alloc::Global;
 use std::marker::Model;
 
-/// The fixed part of a channel. Contracts see its parts.
+/// The parts of a fixed part, valid or not.
 #[derive(Drop)]
-pub struct Fixed {
+struct Parts {
     keys: Vec<Key>,
     nonce: u64,
     app: u8,
     duration: u32,
+}
+
+/// The fixed part of a channel. Contracts see its parts.
+#[derive(Drop)]
+pub struct Fixed {
+    parts: Parts,
     bytes: Vec<u8>,
 }
 
@@ -47,7 +54,8 @@ impl Fixed {
     ) -> Result<Fixed, ByteFault>
         ensures made { IfOk result (λ f. f ≡ fixed_with keys.items nonce app duration) }
         ensures exact { Gives (λ f. f) result (fixed_of (fixed (fixed_with keys.items nonce app duration))) }
-        ensures only { IsFixed (fixed_with keys.items nonce app duration) → Gives (λ f. f) result (Ok (fixed_with keys.items nonce app duration)) }
+        ensures only { IsFixed (fixed_with keys.items nonce app duration)
+            → Gives (λ f. f) result (Ok (fixed_with keys.items nonce app duration)) }
     {
         let mut bytes = Vec::new(alloc);
         put_fixed(&mut bytes, &keys, nonce, app, duration)?;
@@ -59,29 +67,29 @@ impl Fixed {
         ensures { IfOk result (λ f. f ≡ self.now) }
     {
         let alloc = *self.bytes.allocator();
-        let keys = Vec::from_slice(alloc, &self.keys)?;
+        let keys = Vec::from_slice(alloc, &self.parts.keys)?;
         let bytes = Vec::from_slice(alloc, &self.bytes)?;
-        Ok(Fixed {
+        let parts = Parts {
             keys,
-            nonce: self.nonce,
-            app: self.app,
-            duration: self.duration,
-            bytes,
-        })
+            nonce: self.parts.nonce,
+            app: self.parts.app,
+            duration: self.parts.duration,
+        };
+        Ok(Fixed { parts, bytes })
     }
 
     pub fn keys(&self) -> &[Key]
         ensures value { result.now ≡ self.now.keys }
         ensures valid { IsFixed self.now }
     {
-        self.keys.as_slice()
+        self.parts.keys.as_slice()
     }
 
     pub fn nonce(&self) -> u64
         ensures value { result ≡ self.now.nonce }
         ensures valid { IsFixed self.now }
     {
-        self.nonce
+        self.parts.nonce
     }
 
     /// The application: 0 consensus, 1 payment, 2 fixed.
@@ -89,7 +97,7 @@ impl Fixed {
         ensures value { result ≡ self.now.app }
         ensures valid { IsFixed self.now }
     {
-        self.app
+        self.parts.app
     }
 
     /// How long a challenge stands open, in units of time.
@@ -97,7 +105,7 @@ impl Fixed {
         ensures value { result ≡ self.now.duration }
         ensures valid { IsFixed self.now }
     {
-        self.duration
+        self.parts.duration
     }
 
     /// The canonical bytes.
@@ -115,7 +123,7 @@ fn take_people(whole: usize, bytes: &[u8]) -> Result<(u8, &[u8]), ByteFault>
     ensures { Tells (λ x. (x.0, x.1.now)) result (people_at whole bytes.now) }
 {
     let (people, rest) = take_byte(whole, bytes)?;
-    if people < 2 || people > 4 {
+    if people < 2 || people > MOST_PEOPLE as u8 {
         return Err(ByteFault::OverLimit(place_of(whole, bytes)));
     }
     Ok((people, rest))
@@ -186,18 +194,10 @@ fn take_duration(whole: usize, bytes: &[u8]) -> Result<(u32, &[u8]), ByteFault>
     Ok((duration, rest))
 }
 
-/// The parts of a fixed part, before they are known to be one.
-#[derive(Drop)]
-struct Parts {
-    keys: Vec<Key>,
-    nonce: u64,
-    app: u8,
-    duration: u32,
-}
-
 #[tactic(auto, unfolding(crate::specs::Reading::fixed_at))]
 fn take_parts(alloc: Global, whole: usize, bytes: &[u8]) -> Result<(Parts, &[u8]), ByteFault>
-    ensures { Gives (λ x. (fixed_with x.0.keys.items x.0.nonce x.0.app x.0.duration, x.1.now)) result (fixed_at whole bytes.now) }
+    ensures { Gives (λ x. (fixed_with x.0.keys.items x.0.nonce x.0.app x.0.duration, x.1.now)) result
+        (fixed_at whole bytes.now) }
 {
     let (people, rest) = take_people(whole, bytes)?;
     let (keys, rest) = take_keys(alloc, whole, people, rest)?;
@@ -221,13 +221,7 @@ pub fn take_fixed(alloc: Global, whole: usize, bytes: &[u8]) -> Result<(Fixed, &
 {
     let (parts, rest) = take_parts(alloc, whole, bytes)?;
     let kept = Vec::from_slice(alloc, &bytes[..bytes.len() - rest.len()])?;
-    let fixed = Fixed {
-        keys: parts.keys,
-        nonce: parts.nonce,
-        app: parts.app,
-        duration: parts.duration,
-        bytes: kept,
-    };
+    let fixed = Fixed { parts, bytes: kept };
     Ok((fixed, rest))
 }
 
@@ -237,10 +231,7 @@ fn fixed_from(alloc: Global, bytes: &[u8]) -> Result<Fixed, ByteFault>
 {
     let whole = bytes.len();
     let (fixed, rest) = take_fixed(alloc, whole, bytes)?;
-    if !rest.is_empty() {
-        return Err(ByteFault::Trailing(place_of(whole, rest)));
-    }
-    Ok(fixed)
+    ended(whole, fixed, rest)
 }
 
 /// The fixed part that the bytes spell, all of the bytes, or the first fault.
@@ -255,9 +246,10 @@ pub fn read_fixed(alloc: Global, bytes: &[u8]) -> Result<Fixed, ByteFault>
     fixed_from(alloc, bytes)
 }
 
-/// Appends the one spelling.
+/// Appends the one spelling, or nothing.
 pub fn write_fixed(value: &Fixed, out: &mut Vec<u8>) -> Result<(), NoMemory>
-    ensures { OnOk result (out.new.items ≡ out.old.items ++ fixed value.now) }
+    ensures written { OnOk result (out.new.items ≡ out.old.items ++ fixed value.now) }
+    ensures kept { OnErr result (out.new.items ≡ out.old.items) }
 {
     out.extend_from_slice(&value.bytes)?;
     Ok(())

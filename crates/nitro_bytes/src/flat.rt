@@ -6,8 +6,9 @@ ghost use Rattle.nitro_bytes.specs.Outcomes.{is_same, pays_same, total};
 ghost use Rattle.nitro_bytes.specs.Flat.{shape_of, asset_of, assets_of};
 ghost use Rattle.nitro_bytes.specs.Reading.{Tells, dest_at, item_at, many_at, listed_at, allocation_at, guarantee_at, shape_at, asset_at, outcome_at, outcome_of};
 
-use crate::cursor::{place_of, take_byte, take_count, take_name, take_u32, take_u64};
+use crate::cursor::{ended, place_of, take_byte, take_count, take_name, take_u32, take_u64};
 use crate::fault::ByteFault;
+use crate::limits::{MOST_ASSETS, MOST_ITEMS};
 use crate::value::{Dest, Item, Name};
 use arrayvec::ArrayVec;
 
@@ -30,22 +31,16 @@ fn take_dest(whole: usize, bytes: &[u8]) -> Result<(Dest, &[u8]), ByteFault>
     }
 }
 
-fn same(a: &Dest, b: &Dest) -> bool
-    ensures { result ≡ is_same a.now b.now }
-{
-    a == b
-}
-
 fn is_paid(seen: &[Item], to: &Dest) -> bool
     ensures { result ≡ list_any (λ i. is_same i.to to.now) seen.now }
 {
-    seen.iter().any(|item| same(&item.to, to))
+    seen.iter().any(|item| item.to.is(to))
 }
 
 fn is_listed(seen: &[Dest], to: &Dest) -> bool
     ensures { result ≡ list_any (λ d. is_same d to.now) seen.now }
 {
-    seen.iter().any(|dest| same(dest, to))
+    seen.iter().any(|dest| dest.is(to))
 }
 
 /// An item after those seen, whose amounts add up to the sum so far. The new sum comes with it.
@@ -91,8 +86,8 @@ fn take_listed<'a>(
 /// A shape that takes no memory.
 #[derive(Drop)]
 pub(crate) enum FlatShape {
-    Allocation(ArrayVec<Item, 16>),
-    Guarantee(Name, ArrayVec<Dest, 16>),
+    Allocation(ArrayVec<Item, MOST_ITEMS>),
+    Guarantee(Name, ArrayVec<Dest, MOST_ITEMS>),
 }
 
 /// The outcome of an asset, which takes no memory.
@@ -115,7 +110,7 @@ fn take_items(
     whole: usize,
     count: u8,
     bytes: &[u8],
-) -> Result<(ArrayVec<Item, 16>, &[u8]), ByteFault>
+) -> Result<(ArrayVec<Item, MOST_ITEMS>, &[u8]), ByteFault>
     requires { count ≤ 16 }
     ensures { Tells (λ x. (x.0.items, x.1.now)) result (many_at (item_at whole) [] count bytes.now) }
 {
@@ -135,7 +130,7 @@ fn take_dests(
     whole: usize,
     count: u8,
     bytes: &[u8],
-) -> Result<(ArrayVec<Dest, 16>, &[u8]), ByteFault>
+) -> Result<(ArrayVec<Dest, MOST_ITEMS>, &[u8]), ByteFault>
     requires { count ≤ 16 }
     ensures { Tells (λ x. (x.0.items, x.1.now)) result (many_at (listed_at whole) [] count bytes.now) }
 {
@@ -153,7 +148,7 @@ fn take_dests(
 fn take_allocation(whole: usize, bytes: &[u8]) -> Result<(FlatShape, &[u8]), ByteFault>
     ensures { Tells (λ x. (shape_of x.0, x.1.now)) result (allocation_at whole bytes.now) }
 {
-    let (count, rest) = take_count(whole, 16, bytes)?;
+    let (count, rest) = take_count(whole, MOST_ITEMS as u8, bytes)?;
     let (items, rest) = take_items(whole, count, rest)?;
     Ok((FlatShape::Allocation(items), rest))
 }
@@ -163,7 +158,7 @@ fn take_guarantee(whole: usize, bytes: &[u8]) -> Result<(FlatShape, &[u8]), Byte
     ensures { Tells (λ x. (shape_of x.0, x.1.now)) result (guarantee_at whole bytes.now) }
 {
     let (target, rest) = take_name(whole, bytes)?;
-    let (count, rest) = take_count(whole, 16, rest)?;
+    let (count, rest) = take_count(whole, MOST_ITEMS as u8, rest)?;
     let (dests, rest) = take_dests(whole, count, rest)?;
     Ok((FlatShape::Guarantee(target, dests), rest))
 }
@@ -213,7 +208,7 @@ fn take_assets(
     whole: usize,
     count: u8,
     bytes: &[u8],
-) -> Result<(ArrayVec<FlatAsset, 4>, &[u8]), ByteFault>
+) -> Result<(ArrayVec<FlatAsset, MOST_ASSETS>, &[u8]), ByteFault>
     requires { count ≤ 4 }
     ensures { Tells (λ x. (assets_of x.0.items, x.1.now)) result (many_at (asset_at whole) [] count bytes.now) }
 {
@@ -232,22 +227,19 @@ fn take_assets(
 pub(crate) fn take_flat(
     whole: usize,
     bytes: &[u8],
-) -> Result<(ArrayVec<FlatAsset, 4>, &[u8]), ByteFault>
+) -> Result<(ArrayVec<FlatAsset, MOST_ASSETS>, &[u8]), ByteFault>
     ensures { Tells (λ x. (assets_of x.0.items, x.1.now)) result (outcome_at whole bytes.now) }
 {
-    let (count, rest) = take_count(whole, 4, bytes)?;
+    let (count, rest) = take_count(whole, MOST_ASSETS as u8, bytes)?;
     take_assets(whole, count, rest)
 }
 
 /// The outcome that all of the bytes spell.
 #[tactic(auto, unfolding(crate::specs::Reading::all_of))]
-pub(crate) fn flat_outcome(bytes: &[u8]) -> Result<ArrayVec<FlatAsset, 4>, ByteFault>
+pub(crate) fn flat_outcome(bytes: &[u8]) -> Result<ArrayVec<FlatAsset, MOST_ASSETS>, ByteFault>
     ensures { Tells (λ x. assets_of x.items) result (outcome_of bytes.now) }
 {
     let whole = bytes.len();
     let (assets, rest) = take_flat(whole, bytes)?;
-    if !rest.is_empty() {
-        return Err(ByteFault::Trailing(place_of(whole, rest)));
-    }
-    Ok(assets)
+    ended(whole, assets, rest)
 }

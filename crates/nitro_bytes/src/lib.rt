@@ -7,6 +7,7 @@ mod fault;
 mod fixed;
 mod flat;
 mod laws;
+mod limits;
 mod listed;
 mod outcome;
 mod state;
@@ -18,12 +19,16 @@ pub use chain::{
     write_chain, write_signed,
 };
 pub use cursor::{
-    place_of, take_byte, take_count, take_name, take_sized, take_u16, take_u32, take_u64,
+    ended, place_of, take_byte, take_count, take_name, take_sized, take_u16, take_u32, take_u64,
 };
 pub use fault::{ByteFault, NoMemory, StepFault, SupportFault};
 pub use fixed::{Fixed, read_fixed, take_fixed, write_fixed};
 pub use laws::{
     laws_of_chains, laws_of_fixed_parts, laws_of_outcomes, laws_of_signed_states, laws_of_states,
+};
+pub use limits::{
+    MOST_APP_BYTES, MOST_ASSETS, MOST_ITEMS, MOST_MARKS, MOST_PEOPLE, MOST_SIGNATURE_BYTES,
+    MOST_STATES,
 };
 pub use listed::{Label, Listed};
 pub use outcome::{

@@ -1,6 +1,6 @@
 //! Outcomes, which are valid by their type.
 
-ghost use Rattle.std.specs.Prelude.{◌≡◌, ◌++◌, ◌↔◌, IsTrue, IfOk, OnOk, Ok, None, false, List, is_ok};
+ghost use Rattle.std.specs.Prelude.{◌≡◌, ◌++◌, ◌↔◌, IsTrue, IfOk, OnOk, OnErr, Ok, None, false, List, is_ok};
 ghost use Rattle.nitro_bytes.specs.declared.value.AssetOutcome.{AssetOutcome};
 ghost use Rattle.nitro_bytes.specs.Outcomes.{IsOutcome};
 ghost use Rattle.nitro_bytes.specs.Flat.{shape_of, assets_of};
@@ -8,7 +8,7 @@ ghost use Rattle.nitro_bytes.specs.Items.{item_at_place, item_of};
 ghost use Rattle.nitro_bytes.specs.Spelling.{outcome};
 ghost use Rattle.nitro_bytes.specs.Reading.{Gives, outcome_at, outcome_of};
 
-use crate::cursor::place_of;
+use crate::cursor::ended;
 use crate::fault::{ByteFault, NoMemory};
 use crate::flat::{FlatAsset, FlatShape, flat_outcome, take_flat};
 use crate::listed::Listed;
@@ -141,10 +141,7 @@ fn outcome_from(alloc: Global, bytes: &[u8]) -> Result<Outcome, ByteFault>
 {
     let whole = bytes.len();
     let (outcome, rest) = take_outcome(alloc, whole, bytes)?;
-    if !rest.is_empty() {
-        return Err(ByteFault::Trailing(place_of(whole, rest)));
-    }
-    Ok(outcome)
+    ended(whole, outcome, rest)
 }
 
 /// The outcome that the bytes spell, all of the bytes, or the first fault.
@@ -159,9 +156,10 @@ pub fn read_outcome(alloc: Global, bytes: &[u8]) -> Result<Outcome, ByteFault>
     outcome_from(alloc, bytes)
 }
 
-/// Appends the one spelling.
+/// Appends the one spelling, or nothing.
 pub fn write_outcome(value: &Outcome, out: &mut Vec<u8>) -> Result<(), NoMemory>
-    ensures { OnOk result (out.new.items ≡ out.old.items ++ outcome value.now) }
+    ensures written { OnOk result (out.new.items ≡ out.old.items ++ outcome value.now) }
+    ensures kept { OnErr result (out.new.items ≡ out.old.items) }
 {
     out.extend_from_slice(&value.bytes)?;
     Ok(())
@@ -182,7 +180,7 @@ pub fn outcome_is(value: &Outcome, bytes: &[u8]) -> bool
     value.bytes.as_slice() == bytes
 }
 
-fn item_at(shape: &FlatShape, place: usize) -> Option<Item>
+fn item_at_place(shape: &FlatShape, place: usize) -> Option<Item>
     ensures { result ≡ item_at_place place (shape_of shape.now) }
 {
     match shape {
@@ -196,7 +194,7 @@ fn item_among(assets: &[FlatAsset], asset: u32, place: usize) -> Option<Item>
 {
     match assets {
         [] => None,
-        [first, _rest @ ..] if first.asset == asset => item_at(&first.shape, place),
+        [first, _rest @ ..] if first.asset == asset => item_at_place(&first.shape, place),
         [_, rest @ ..] => item_among(rest, asset, place),
     }
 }

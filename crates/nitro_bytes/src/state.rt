@@ -1,24 +1,31 @@
 //! States, which are valid by their type.
 
-ghost use Rattle.std.specs.Prelude.{◌≡◌, ◌++◌, IfOk, OnOk, Ok};
+ghost use Rattle.std.specs.Prelude.{◌≡◌, ◌++◌, IfOk, OnOk, OnErr, Ok};
 ghost use Rattle.nitro_bytes.specs.Parts.{StateParts, IsState, state_with};
 ghost use Rattle.nitro_bytes.specs.Spelling.{state};
 ghost use Rattle.nitro_bytes.specs.Reading.{Gives, Tells, turn_at, flag_at, state_at, state_of};
 
-use crate::cursor::{place_of, take_byte, take_sized, take_u64};
+use crate::cursor::{ended, place_of, take_byte, take_sized, take_u64};
 use crate::fault::{ByteFault, NoMemory};
+use crate::limits::MOST_APP_BYTES;
 use crate::outcome::{Outcome, take_outcome};
 use crate::writing::put_state;
 use std::alloc::Global;
 use std::marker::Model;
 
-/// A state of a channel. Contracts see its parts.
+/// The parts of a state, valid or not.
 #[derive(Drop)]
-pub struct State {
+struct Parts {
     turn: u64,
     is_final: bool,
     outcome: Outcome,
     app_bytes: Vec<u8>,
+}
+
+/// A state of a channel. Contracts see its parts.
+#[derive(Drop)]
+pub struct State {
+    parts: Parts,
     bytes: Vec<u8>,
 }
 
@@ -45,7 +52,8 @@ impl State {
     ) -> Result<State, ByteFault>
         ensures made { IfOk result (λ s. s ≡ state_with turn is_final outcome app_bytes.items) }
         ensures exact { Gives (λ s. s) result (state_of (state (state_with turn is_final outcome app_bytes.items))) }
-        ensures only { IsState (state_with turn is_final outcome app_bytes.items) → Gives (λ s. s) result (Ok (state_with turn is_final outcome app_bytes.items)) }
+        ensures only { IsState (state_with turn is_final outcome app_bytes.items)
+            → Gives (λ s. s) result (Ok (state_with turn is_final outcome app_bytes.items)) }
     {
         let mut bytes = Vec::new(alloc);
         put_state(&mut bytes, turn, is_final, &outcome, &app_bytes)?;
@@ -57,44 +65,44 @@ impl State {
         ensures { IfOk result (λ s. s ≡ self.now) }
     {
         let alloc = *self.bytes.allocator();
-        let outcome = self.outcome.copy()?;
-        let app_bytes = Vec::from_slice(alloc, &self.app_bytes)?;
+        let outcome = self.parts.outcome.copy()?;
+        let app_bytes = Vec::from_slice(alloc, &self.parts.app_bytes)?;
         let bytes = Vec::from_slice(alloc, &self.bytes)?;
-        Ok(State {
-            turn: self.turn,
-            is_final: self.is_final,
+        let parts = Parts {
+            turn: self.parts.turn,
+            is_final: self.parts.is_final,
             outcome,
             app_bytes,
-            bytes,
-        })
+        };
+        Ok(State { parts, bytes })
     }
 
     pub fn turn(&self) -> u64
         ensures value { result ≡ self.now.turn }
         ensures valid { IsState self.now }
     {
-        self.turn
+        self.parts.turn
     }
 
     pub fn is_final(&self) -> bool
         ensures value { result ≡ self.now.is_final }
         ensures valid { IsState self.now }
     {
-        self.is_final
+        self.parts.is_final
     }
 
     pub fn outcome(&self) -> &Outcome
         ensures value { result.now ≡ self.now.outcome }
         ensures valid { IsState self.now }
     {
-        &self.outcome
+        &self.parts.outcome
     }
 
     pub fn app_bytes(&self) -> &[u8]
         ensures value { result.now ≡ self.now.app_bytes }
         ensures valid { IsState self.now }
     {
-        self.app_bytes.as_slice()
+        self.parts.app_bytes.as_slice()
     }
 
     /// The canonical bytes.
@@ -129,23 +137,15 @@ fn take_flag(whole: usize, bytes: &[u8]) -> Result<(bool, &[u8]), ByteFault>
     }
 }
 
-/// The parts of a state, before they are known to be one.
-#[derive(Drop)]
-struct Parts {
-    turn: u64,
-    is_final: bool,
-    outcome: Outcome,
-    app_bytes: Vec<u8>,
-}
-
 #[tactic(auto, unfolding(crate::specs::Reading::state_at))]
 fn take_parts(alloc: Global, whole: usize, bytes: &[u8]) -> Result<(Parts, &[u8]), ByteFault>
-    ensures { Gives (λ x. (state_with x.0.turn x.0.is_final x.0.outcome x.0.app_bytes.items, x.1.now)) result (state_at whole bytes.now) }
+    ensures { Gives (λ x. (state_with x.0.turn x.0.is_final x.0.outcome x.0.app_bytes.items, x.1.now)) result
+        (state_at whole bytes.now) }
 {
     let (turn, rest) = take_turn(whole, bytes)?;
     let (is_final, rest) = take_flag(whole, rest)?;
     let (outcome, rest) = take_outcome(alloc, whole, rest)?;
-    let (data, rest) = take_sized(whole, 4096, rest)?;
+    let (data, rest) = take_sized(whole, MOST_APP_BYTES as u16, rest)?;
     let app_bytes = Vec::from_slice(alloc, data)?;
     Ok((
         Parts {
@@ -164,13 +164,7 @@ pub fn take_state(alloc: Global, whole: usize, bytes: &[u8]) -> Result<(State, &
 {
     let (parts, rest) = take_parts(alloc, whole, bytes)?;
     let kept = Vec::from_slice(alloc, &bytes[..bytes.len() - rest.len()])?;
-    let state = State {
-        turn: parts.turn,
-        is_final: parts.is_final,
-        outcome: parts.outcome,
-        app_bytes: parts.app_bytes,
-        bytes: kept,
-    };
+    let state = State { parts, bytes: kept };
     Ok((state, rest))
 }
 
@@ -180,10 +174,7 @@ fn state_from(alloc: Global, bytes: &[u8]) -> Result<State, ByteFault>
 {
     let whole = bytes.len();
     let (state, rest) = take_state(alloc, whole, bytes)?;
-    if !rest.is_empty() {
-        return Err(ByteFault::Trailing(place_of(whole, rest)));
-    }
-    Ok(state)
+    ended(whole, state, rest)
 }
 
 /// The state that the bytes spell, all of the bytes, or the first fault.
@@ -198,9 +189,10 @@ pub fn read_state(alloc: Global, bytes: &[u8]) -> Result<State, ByteFault>
     state_from(alloc, bytes)
 }
 
-/// Appends the one spelling.
+/// Appends the one spelling, or nothing.
 pub fn write_state(value: &State, out: &mut Vec<u8>) -> Result<(), NoMemory>
-    ensures { OnOk result (out.new.items ≡ out.old.items ++ state value.now) }
+    ensures written { OnOk result (out.new.items ≡ out.old.items ++ state value.now) }
+    ensures kept { OnErr result (out.new.items ≡ out.old.items) }
 {
     out.extend_from_slice(&value.bytes)?;
     Ok(())

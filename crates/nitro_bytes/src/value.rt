@@ -1,6 +1,7 @@
 //! What outcomes are made of.
 
-ghost use Rattle.std.specs.Prelude.{◌≡◌, IfOk};
+ghost use Rattle.std.specs.Prelude.{◌≡◌, ◌↔◌, IsTrue, IfOk};
+ghost use Rattle.nitro_bytes.specs.Outcomes.{is_same};
 
 use crate::fault::NoMemory;
 use crate::listed::Listed;
@@ -16,6 +17,16 @@ pub type Key = [u8; 56];
 pub enum Dest {
     Person(Name),
     Channel(Name),
+}
+
+impl Dest {
+    /// Whether both are the same destination: of the same kind, with the same name.
+    pub fn is(&self, other: &Dest) -> bool
+        ensures value { result ≡ is_same self.now other.now }
+        ensures exact { IsTrue result ↔ (self.now ≡ other.now) }
+    {
+        self == other
+    }
 }
 
 impl Default for Dest {

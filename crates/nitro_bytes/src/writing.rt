@@ -140,7 +140,8 @@ pub(crate) fn put_state(
     ends: &Outcome,
     app_bytes: &[u8],
 ) -> Result<(), NoMemory>
-    ensures put { OnOk result (out.new.items ≡ out.old.items ++ state (state_with turn is_final ends.now app_bytes.now)) }
+    ensures put { OnOk result (out.new.items
+        ≡ out.old.items ++ state (state_with turn is_final ends.now app_bytes.now)) }
     ensures outcome_fits { OnOk result (IsOutcome ends.now) }
     ensures data_fit { OnOk result (AreBytes app_bytes.now) }
 {
@@ -169,7 +170,8 @@ fn put_keys(out: &mut Vec<u8>, keys: &[Key]) -> Result<(), NoMemory>
 }
 
 fn put_terms(out: &mut Vec<u8>, nonce: u64, app: u8, duration: u32) -> Result<(), NoMemory>
-    ensures { OnOk result (out.new.items ≡ out.old.items ++ (to_be_bytes w64 nonce ++ (app ∷ to_be_bytes w32 duration))) }
+    ensures { OnOk result (out.new.items
+        ≡ out.old.items ++ (to_be_bytes w64 nonce ++ (app ∷ to_be_bytes w32 duration))) }
 {
     out.extend_from_slice(&nonce.to_be_bytes())?;
     out.push(app)?;

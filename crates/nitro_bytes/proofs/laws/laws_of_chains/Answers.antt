@@ -1,5 +1,6 @@
 use Rattle.nitro_bytes.proofs.Format.{spelled_once, all_takes, valid_again, fronts_fail, trailing_fails}
 use Rattle.nitro_bytes.proofs.Formats.{chain_format}
+use Rattle.nitro_bytes.proofs.Fronts.{chain_on, fronts_cut}
 use Rattle.nitro_bytes.proofs.laws.laws_of_chains.Goals as goal
 
 pub returns-clause-once : goal.returns-clause-once
@@ -13,6 +14,9 @@ returns-clause-again c = valid_again chain_format
 
 pub returns-clause-fronts : goal.returns-clause-fronts
 returns-clause-fronts c bytes v n fits read lt = fronts_fail chain_format bytes v n fits read lt
+
+pub returns-clause-cut : goal.returns-clause-cut
+returns-clause-cut c v n valid lt = fronts_cut chain_format chain_on v n valid lt
 
 pub returns-clause-trailing : goal.returns-clause-trailing
 returns-clause-trailing c v b more valid = trailing_fails chain_format v b more valid
