@@ -1,13 +1,15 @@
 //! The consensus move of a participant that works toward an outcome.
 
-ghost use Rattle.std.specs.Prelude.{◌≡◌, ◌≤◌, ◌<◌, ◌+◌, ◌^◌, length, IfOk};
+ghost use Rattle.std.specs.Prelude.{◌≡◌, ◌≤◌, ◌<◌, ◌+◌, ◌^◌, length, IfOk, IfErr, Ok};
 ghost use Rattle.std.specs.Option.{option_copied};
+ghost use Rattle.nitro_bytes.specs.declared.fault.ByteFault.TheVariants as faults;
+ghost use Rattle.nitro_bytes.specs.Outcomes.{IsOutcome};
 ghost use Rattle.nitro_bytes.specs.Spelling.{outcome};
 ghost use Rattle.app_rules.specs.Ballots.{Ballot, data_of};
 ghost use Rattle.app_rules.specs.Toward as rules;
 
 use crate::consensus::{is_same_outcome, vote_bytes, votes_of};
-use nitro_bytes::{NoMemory, Outcome, State};
+use nitro_bytes::{ByteFault, NoMemory, Outcome, State};
 use std::alloc::Global;
 
 const LAST_TURN: u64 = 0xffff_ffff_ffff;
@@ -28,7 +30,29 @@ fn is_settled(n: usize, target: &Outcome, own_last: Option<&State>) -> bool
     }
 }
 
+/// What a state's making answered, where nothing but memory was wanting.
+fn unless_memory(made: Result<State, ByteFault>) -> Result<State, NoMemory>
+    requires { IfErr made (λ fault. fault ≡ faults.NoMemory) }
+    ensures { IfOk result (λ s. made ≡ Ok s) }
+{
+    match made {
+        Ok(state) => Ok(state),
+        Err(ByteFault::NoMemory) => Err(NoMemory),
+        Err(_) => unreachable!(),
+    }
+}
+
+/// A copy of an outcome, which is one.
+fn copied(outcome: &Outcome) -> Result<Outcome, NoMemory>
+    ensures value { IfOk result (λ o. o ≡ outcome.now) }
+    ensures valid { IsOutcome outcome.now }
+{
+    let _ = outcome.assets();
+    outcome.copy()
+}
+
 /// The state after the latest that has this outcome, and asks for these votes for a proposal.
+#[tactic(auto, using(crate::proofs::Making::fault_of_memory))]
 fn next_state(
     alloc: Global,
     latest: &State,
@@ -37,10 +61,13 @@ fn next_state(
     proposal: &Outcome,
 ) -> Result<State, NoMemory>
     requires { latest.now.turn + 1 < 2 ^ 48 }
-    ensures { IfOk result (λ s. s ≡ rules.moved latest.now (record { outcome = ends.now; ballot = record { votes = votes; proposal = outcome proposal.now } })) }
+    ensures { IfOk result (λ s. s ≡ rules.moved latest.now
+        (record { outcome = ends.now; ballot = record { votes = votes; proposal = outcome proposal.now } })) }
 {
     let app_bytes = vote_bytes(alloc, votes, proposal)?;
-    State::make(alloc, latest.turn() + 1, false, ends.copy()?, app_bytes).map_err(|_| NoMemory)
+    let ends = copied(ends)?;
+    let made = State::make(alloc, latest.turn() + 1, false, ends, app_bytes);
+    unless_memory(made)
 }
 
 /// The state that is wanted next toward the target, of `n` participants, after the latest.

@@ -1,34 +1,18 @@
 //! What answers a challenge: a respond and a refute.
 
-ghost use Rattle.std.specs.Prelude.{◌≡◌, ◌<◌, ◌^◌, IfOk};
+ghost use Rattle.std.specs.Prelude.{◌≡◌, ◌<◌, ◌^◌, false, length, slice_index_or, IfOk};
 ghost use Rattle.std.specs.Option.{option_map};
 ghost use Rattle.std.specs.Result.{result_err};
-ghost use Rattle.channel_model.specs.Chains.{mover};
-ghost use Rattle.channel_model.specs.Rules.{people, is_signed_well};
 ghost use Rattle.channel_calls.specs.Rows.{row_or_blank};
 ghost use Rattle.channel_calls.specs.Replies as replies;
 ghost use Rattle.support_chain.specs.Real.{real};
+ghost use Rattle.challenge_rules.specs.Values.{answer_values};
 
-use crate::top::{digest_of, found};
-use channel_calls::{Refusal, Row};
+use crate::top::digest_of;
+use channel_calls::{Refusal, Row, row_or_blank};
 use deadline_clock::{Standing, mode};
 use nitro_bytes::{Fixed, Signed, State, StepFault};
-use support_chain::{people_of, signs_state, step};
-
-/// The position of the participant whose turn it is.
-fn mover_of(fixed: &Fixed, state: &State) -> usize
-    ensures { result ≡ mover (people fixed.now) state.now.turn }
-{
-    (state.turn() % fixed.keys().len() as u64) as usize
-}
-
-/// Whether the mover's key verifies the state.
-fn is_signed_well(fixed: &Fixed, next: &Signed) -> bool
-    ensures { result ≡ is_signed_well real fixed.now next.now }
-{
-    let mover = mover_of(fixed, &next.state);
-    signs_state(fixed, mover, &next.state, next.signature.as_slice())
-}
+use support_chain::{is_signed_well, mover_at, people_of, step};
 
 /// Whether a state follows from another.
 fn follows(fixed: &Fixed, from: &State, to: &State) -> Result<(), StepFault>
@@ -38,36 +22,19 @@ fn follows(fixed: &Fixed, from: &State, to: &State) -> Result<(), StepFault>
     step(fixed, people.as_slice(), from, to)
 }
 
-/// Answers a challenge with the state after the challenged one, which its mover signed: the channel stands open at
-/// that state's turn.
-pub fn respond(
-    row: Option<&Row>,
-    now: u64,
-    fixed: &Fixed,
-    from: &State,
-    next: &Signed,
-) -> Result<Row, Refusal>
-    requires { (row_or_blank (option_map (λ m. m.now) row)).turn < 2 ^ 48 }
-    ensures answer { result ≡ replies.respond real (row_or_blank (option_map (λ m. m.now) row.entry)) now fixed.now from.now next.now }
-    ensures small { IfOk result (λ new. new.turn < 2 ^ 48) }
-{
-    respond_with(row, now, fixed, from, next, is_signed_well(fixed, next))
-}
-
-/// As `respond`, where `signed` says whether the mover's signature verifies.
-pub fn respond_with(
-    row: Option<&Row>,
+/// The respond, where `signed` says whether the mover's signature verifies.
+fn responded(
+    row: Row,
     now: u64,
     fixed: &Fixed,
     from: &State,
     next: &Signed,
     signed: bool,
 ) -> Result<Row, Refusal>
-    requires { (row_or_blank (option_map (λ m. m.now) row)).turn < 2 ^ 48 }
-    ensures answer { result ≡ replies.respond_with real (row_or_blank (option_map (λ m. m.now) row.entry)) now fixed.now from.now next.now signed }
+    requires { row.turn < 2 ^ 48 }
+    ensures answer { result ≡ replies.respond_with real row now fixed.now from.now next.now signed }
     ensures small { IfOk result (λ new. new.turn < 2 ^ 48) }
 {
-    let row = found(row);
     if mode(row.deadline, now) != Standing::Challenged {
         return Err(Refusal::NoChallenge);
     }
@@ -91,34 +58,57 @@ pub fn respond_with(
     })
 }
 
-/// Answers a challenge with a newer state that the challenger itself signed: the recorded turn stays, and the channel
-/// stands open.
-pub fn refute(row: Option<&Row>, now: u64, fixed: &Fixed, next: &Signed) -> Result<Row, Refusal>
-    ensures answer { result ≡ replies.refute real (row_or_blank (option_map (λ m. m.now) row.entry)) now fixed.now next.now }
-    ensures kept { IfOk result (λ new. new.turn ≡ (row_or_blank (option_map (λ m. m.now) row.entry)).turn) }
-{
-    refute_with(row, now, fixed, next, is_signed_well(fixed, next))
-}
-
-/// As `refute`, where `signed` says whether the mover's signature verifies.
-pub fn refute_with(
+/// Answers a challenge with the state after the challenged one, which its mover signed: the channel stands open at
+/// that state's turn.
+pub fn respond(
     row: Option<&Row>,
     now: u64,
     fixed: &Fixed,
+    from: &State,
     next: &Signed,
-    signed: bool,
 ) -> Result<Row, Refusal>
-    ensures answer { result ≡ replies.refute_with (row_or_blank (option_map (λ m. m.now) row.entry)) now fixed.now next.now signed }
-    ensures kept { IfOk result (λ new. new.turn ≡ (row_or_blank (option_map (λ m. m.now) row.entry)).turn) }
+    requires { (row_or_blank (option_map (λ m. m.now) row)).turn < 2 ^ 48 }
+    ensures answer { result ≡ replies.respond real (row_or_blank (option_map (λ m. m.now) row.entry)) now
+        fixed.now from.now next.now }
+    ensures small { IfOk result (λ new. new.turn < 2 ^ 48) }
 {
-    let row = found(row);
+    let signed = is_signed_well(fixed, next);
+    responded(row_or_blank(row), now, fixed, from, next, signed)
+}
+
+/// As `respond`, where the one value of `verified` says whether the mover's signature verifies.
+pub fn respond_with(
+    row: Option<&Row>,
+    now: u64,
+    fixed: &Fixed,
+    from: &State,
+    next: &Signed,
+    verified: &[bool],
+) -> Result<Row, Refusal>
+    requires small { (row_or_blank (option_map (λ m. m.now) row)).turn < 2 ^ 48 }
+    requires one { length verified.now ≡ 1 }
+    ensures answer { result ≡ replies.respond_with real (row_or_blank (option_map (λ m. m.now) row.entry)) now
+        fixed.now from.now next.now (slice_index_or verified.now 0 false) }
+    ensures checked { verified.now ≡ answer_values real fixed.now next.now
+        → result ≡ replies.respond real (row_or_blank (option_map (λ m. m.now) row.entry)) now
+        fixed.now from.now next.now }
+    ensures small { IfOk result (λ new. new.turn < 2 ^ 48) }
+{
+    responded(row_or_blank(row), now, fixed, from, next, verified[0])
+}
+
+/// The refute, where `signed` says whether the mover's signature verifies.
+fn refuted(row: Row, now: u64, fixed: &Fixed, next: &Signed, signed: bool) -> Result<Row, Refusal>
+    ensures answer { result ≡ replies.refute_with row now fixed.now next.now signed }
+    ensures kept { IfOk result (λ new. new.turn ≡ row.turn) }
+{
     if mode(row.deadline, now) != Standing::Challenged {
         return Err(Refusal::NoChallenge);
     }
     if next.state.turn() <= row.turn {
         return Err(Refusal::NotNewer(row.turn));
     }
-    if mover_of(fixed, &next.state) != row.challenger as usize {
+    if mover_at(fixed, next.state.turn()) != row.challenger as usize {
         return Err(Refusal::NotChallengers);
     }
     if !signed {
@@ -129,4 +119,38 @@ pub fn refute_with(
         ..row
     };
     Ok(opened)
+}
+
+/// Answers a challenge with a newer state that the challenger itself signed: the recorded turn stays, and the channel
+/// stands open.
+pub fn refute(row: Option<&Row>, now: u64, fixed: &Fixed, next: &Signed) -> Result<Row, Refusal>
+    ensures answer { result ≡ replies.refute real (row_or_blank (option_map (λ m. m.now) row.entry)) now
+        fixed.now next.now }
+    ensures kept { IfOk result (λ new. new.turn ≡ (row_or_blank (option_map (λ m. m.now) row.entry)).turn) }
+{
+    refuted(
+        row_or_blank(row),
+        now,
+        fixed,
+        next,
+        is_signed_well(fixed, next),
+    )
+}
+
+/// As `refute`, where the one value of `verified` says whether the mover's signature verifies.
+pub fn refute_with(
+    row: Option<&Row>,
+    now: u64,
+    fixed: &Fixed,
+    next: &Signed,
+    verified: &[bool],
+) -> Result<Row, Refusal>
+    requires { length verified.now ≡ 1 }
+    ensures answer { result ≡ replies.refute_with (row_or_blank (option_map (λ m. m.now) row.entry)) now
+        fixed.now next.now (slice_index_or verified.now 0 false) }
+    ensures checked { verified.now ≡ answer_values real fixed.now next.now
+        → result ≡ replies.refute real (row_or_blank (option_map (λ m. m.now) row.entry)) now fixed.now next.now }
+    ensures kept { IfOk result (λ new. new.turn ≡ (row_or_blank (option_map (λ m. m.now) row.entry)).turn) }
+{
+    refuted(row_or_blank(row), now, fixed, next, verified[0])
 }

@@ -1,15 +1,17 @@
 //! Challenges.
 
-ghost use Rattle.std.specs.Prelude.{◌≡◌, ◌≤◌, ◌<◌, ◌^◌, Bool, List, Some, length, IfOk};
+ghost use Rattle.std.specs.Prelude.{◌≡◌, ◌+◌, ◌≤◌, ◌<◌, ◌^◌, Bool, false, List, Some, take, length, slice_index_or, IfOk};
 ghost use Rattle.std.specs.Option.{option_map};
 ghost use Rattle.channel_model.specs.Rules.{newest};
 ghost use Rattle.channel_model.specs.Support.{support_of};
+ghost use Rattle.deadline_clock.specs.Mode.{mode_at, is_final};
 ghost use Rattle.channel_calls.specs.Rows.{row_or_blank, is_stale, after_challenge};
 ghost use Rattle.channel_calls.specs.Replies as replies;
 ghost use Rattle.support_chain.specs.Real.{real};
+ghost use Rattle.challenge_rules.specs.Values.{challenge_values};
 
-use crate::top::{digest_of, digest_of_outcome, found, is_challenge_signed};
-use channel_calls::{Refusal, Row, newest};
+use crate::top::{digest_of, digest_of_outcome, is_challenge_signed, is_over};
+use channel_calls::{Refusal, Row, newest, row_or_blank};
 use deadline_clock::{Standing, mode};
 use nitro_bytes::{Chain, State, SupportFault};
 use support_chain::{supports, supports_with};
@@ -40,7 +42,8 @@ fn after_challenge(now: u64, chain: &Chain, last: &State, challenger: u8) -> Row
     }
 }
 
-/// The challenge, where `support` is what the chain supports and `signed` says whether the challenger signed.
+/// The challenge of a channel that isn't final, where `support` is what the chain supports and `signed` says whether
+/// the challenger signed.
 fn challenged(
     row: Row,
     now: u64,
@@ -49,21 +52,19 @@ fn challenged(
     support: Result<u64, SupportFault>,
     signed: bool,
 ) -> Result<Row, Refusal>
-    requires { now ≤ 2 ^ 62 }
-    ensures answer { (verified : List Bool) → support ≡ support_of real chain.now verified → result ≡ replies.challenge_with real row now chain.now challenger verified signed }
+    requires soon { now ≤ 2 ^ 62 }
+    requires still { is_final (mode_at row.deadline now) ≡ false }
+    ensures answer { (verified : List Bool) → support ≡ support_of real chain.now verified
+        → result ≡ replies.challenge_with real row now chain.now challenger verified signed }
     ensures small { IfOk result (λ new. new.turn < 2 ^ 48) }
 {
-    let standing = mode(row.deadline, now);
-    if standing == Standing::Final {
-        return Err(Refusal::IsFinal);
-    }
     if let Err(fault) = support {
         return Err(Refusal::NotSupported(fault));
     }
     let Some(last) = newest(chain.states.as_slice()) else {
         return Err(Refusal::NotSupported(SupportFault::Length));
     };
-    if is_stale(standing, row.turn, last.turn()) {
+    if is_stale(mode(row.deadline, now), row.turn, last.turn()) {
         return Err(Refusal::Stale(row.turn));
     }
     if !signed {
@@ -83,27 +84,43 @@ pub fn challenge(
     signature: &[u8],
 ) -> Result<Row, Refusal>
     requires { now ≤ 2 ^ 62 }
-    ensures answer { result ≡ replies.challenge real (row_or_blank (option_map (λ m. m.now) row.entry)) now chain.now challenger signature.now }
+    ensures answer { result ≡ replies.challenge real (row_or_blank (option_map (λ m. m.now) row.entry)) now
+        chain.now challenger signature.now }
     ensures small { IfOk result (λ new. new.turn < 2 ^ 48) }
 {
+    let row = row_or_blank(row);
+    if is_over(&row, now) {
+        return Err(Refusal::IsFinal);
+    }
     let signed = is_challenge_signed(chain, challenger, signature);
-    challenged(found(row), now, chain, challenger, supports(chain), signed)
+    challenged(row, now, chain, challenger, supports(chain), signed)
 }
 
-/// As `challenge`, where `verified` says which marks verify and `signed` whether the challenger's signature does.
+/// As `challenge`, where `verified` says of each mark whether it verifies, and last whether the challenger's signature
+/// does.
 pub fn challenge_with(
     row: Option<&Row>,
     now: u64,
     chain: &Chain,
     challenger: u8,
+    signature: &[u8],
     verified: &[bool],
-    signed: bool,
 ) -> Result<Row, Refusal>
     requires soon { now ≤ 2 ^ 62 }
-    requires each { length verified.now ≡ length chain.now.marks }
-    ensures answer { result ≡ replies.challenge_with real (row_or_blank (option_map (λ m. m.now) row.entry)) now chain.now challenger verified.now signed }
+    requires each { length verified.now ≡ length chain.now.marks + 1 }
+    ensures answer { result ≡ replies.challenge_with real (row_or_blank (option_map (λ m. m.now) row.entry)) now
+        chain.now challenger
+        (take (length chain.now.marks) verified.now) (slice_index_or verified.now (length chain.now.marks) false) }
+    ensures checked { verified.now ≡ challenge_values real chain.now challenger signature.now
+        → result ≡ replies.challenge real (row_or_blank (option_map (λ m. m.now) row.entry)) now
+        chain.now challenger signature.now }
     ensures small { IfOk result (λ new. new.turn < 2 ^ 48) }
 {
-    let support = supports_with(chain, verified);
-    challenged(found(row), now, chain, challenger, support, signed)
+    let row = row_or_blank(row);
+    if is_over(&row, now) {
+        return Err(Refusal::IsFinal);
+    }
+    let marks = chain.marks.as_slice().len();
+    let support = supports_with(chain, &verified[..marks]);
+    challenged(row, now, chain, challenger, support, verified[marks])
 }

@@ -1,16 +1,16 @@
 //! What a supported chain alone brings about: a checkpoint and a conclude.
 
-ghost use Rattle.std.specs.Prelude.{◌≡◌, ◌+◌, ◌<◌, ◌^◌, Bool, List, Some, length, IfOk};
+ghost use Rattle.std.specs.Prelude.{◌≡◌, ◌+◌, ◌<◌, ◌^◌, Bool, false, List, Some, length, IfOk};
 ghost use Rattle.std.specs.Option.{option_map};
 ghost use Rattle.channel_model.specs.Rules.{newest};
-ghost use Rattle.channel_model.specs.Support.{support_of};
+ghost use Rattle.channel_model.specs.Support.{support_of, verified_marks};
+ghost use Rattle.deadline_clock.specs.Mode.{mode_at, is_final};
 ghost use Rattle.channel_calls.specs.Rows.{row_or_blank, after_conclude};
 ghost use Rattle.channel_calls.specs.Replies as replies;
 ghost use Rattle.support_chain.specs.Real.{real};
 
-use crate::top::{digest_of, digest_of_outcome, found};
-use channel_calls::{Refusal, Row, newest};
-use deadline_clock::{Standing, mode};
+use crate::top::{digest_of, digest_of_outcome, is_over};
+use channel_calls::{Refusal, Row, newest, row_or_blank};
 use nitro_bytes::{Chain, State, SupportFault};
 use support_chain::{supports, supports_with};
 
@@ -43,19 +43,18 @@ fn after_conclude(row: &Row, now: u64, chain: &Chain, last: &State) -> Row
     }
 }
 
-/// The checkpoint, where `support` is what the chain supports.
+/// The checkpoint of a channel that isn't final, where `support` is what the chain supports.
 fn checkpointed(
     row: Row,
     now: u64,
     chain: &Chain,
     support: Result<u64, SupportFault>,
 ) -> Result<Row, Refusal>
-    ensures answer { (verified : List Bool) → support ≡ support_of real chain.now verified → result ≡ replies.checkpoint_with real row now chain.now verified }
+    requires { is_final (mode_at row.deadline now) ≡ false }
+    ensures answer { (verified : List Bool) → support ≡ support_of real chain.now verified
+        → result ≡ replies.checkpoint_with real row now chain.now verified }
     ensures small { IfOk result (λ new. new.turn < 2 ^ 48) }
 {
-    if mode(row.deadline, now) == Standing::Final {
-        return Err(Refusal::IsFinal);
-    }
     if let Err(fault) = support {
         return Err(Refusal::NotSupported(fault));
     }
@@ -75,10 +74,15 @@ fn checkpointed(
 /// Records a newer supported turn: the channel stands open.
 #[tactic(auto, unfolding(channel_model::specs::Support::supports))]
 pub fn checkpoint(row: Option<&Row>, now: u64, chain: &Chain) -> Result<Row, Refusal>
-    ensures answer { result ≡ replies.checkpoint real (row_or_blank (option_map (λ m. m.now) row.entry)) now chain.now }
+    ensures answer { result ≡ replies.checkpoint real (row_or_blank (option_map (λ m. m.now) row.entry)) now
+        chain.now }
     ensures small { IfOk result (λ new. new.turn < 2 ^ 48) }
 {
-    checkpointed(found(row), now, chain, supports(chain))
+    let row = row_or_blank(row);
+    if is_over(&row, now) {
+        return Err(Refusal::IsFinal);
+    }
+    checkpointed(row, now, chain, supports(chain))
 }
 
 /// As `checkpoint`, where `verified` says which marks verify.
@@ -89,25 +93,31 @@ pub fn checkpoint_with(
     verified: &[bool],
 ) -> Result<Row, Refusal>
     requires { length verified.now ≡ length chain.now.marks }
-    ensures answer { result ≡ replies.checkpoint_with real (row_or_blank (option_map (λ m. m.now) row.entry)) now chain.now verified.now }
+    ensures answer { result ≡ replies.checkpoint_with real (row_or_blank (option_map (λ m. m.now) row.entry)) now
+        chain.now verified.now }
+    ensures checked { verified.now ≡ verified_marks real chain.now
+        → result ≡ replies.checkpoint real (row_or_blank (option_map (λ m. m.now) row.entry)) now chain.now }
     ensures small { IfOk result (λ new. new.turn < 2 ^ 48) }
 {
-    checkpointed(found(row), now, chain, supports_with(chain, verified))
+    let row = row_or_blank(row);
+    if is_over(&row, now) {
+        return Err(Refusal::IsFinal);
+    }
+    checkpointed(row, now, chain, supports_with(chain, verified))
 }
 
-/// The conclude, where `support` is what the chain supports.
+/// The conclude of a channel that isn't final, where `support` is what the chain supports.
 fn concluded(
     row: Row,
     now: u64,
     chain: &Chain,
     support: Result<u64, SupportFault>,
 ) -> Result<Row, Refusal>
-    ensures answer { (verified : List Bool) → support ≡ support_of real chain.now verified → result ≡ replies.conclude_with real row now chain.now verified }
+    requires { is_final (mode_at row.deadline now) ≡ false }
+    ensures answer { (verified : List Bool) → support ≡ support_of real chain.now verified
+        → result ≡ replies.conclude_with real row now chain.now verified }
     ensures small { IfOk result (λ new. new.turn < 2 ^ 48) }
 {
-    if mode(row.deadline, now) == Standing::Final {
-        return Err(Refusal::IsFinal);
-    }
     if let Err(fault) = support {
         return Err(Refusal::NotSupported(fault));
     }
@@ -124,10 +134,15 @@ fn concluded(
 /// Ends the channel at once with a supported chain of final states.
 #[tactic(auto, unfolding(channel_model::specs::Support::supports))]
 pub fn conclude(row: Option<&Row>, now: u64, chain: &Chain) -> Result<Row, Refusal>
-    ensures answer { result ≡ replies.conclude real (row_or_blank (option_map (λ m. m.now) row.entry)) now chain.now }
+    ensures answer { result ≡ replies.conclude real (row_or_blank (option_map (λ m. m.now) row.entry)) now
+        chain.now }
     ensures small { IfOk result (λ new. new.turn < 2 ^ 48) }
 {
-    concluded(found(row), now, chain, supports(chain))
+    let row = row_or_blank(row);
+    if is_over(&row, now) {
+        return Err(Refusal::IsFinal);
+    }
+    concluded(row, now, chain, supports(chain))
 }
 
 /// As `conclude`, where `verified` says which marks verify.
@@ -138,8 +153,15 @@ pub fn conclude_with(
     verified: &[bool],
 ) -> Result<Row, Refusal>
     requires { length verified.now ≡ length chain.now.marks }
-    ensures answer { result ≡ replies.conclude_with real (row_or_blank (option_map (λ m. m.now) row.entry)) now chain.now verified.now }
+    ensures answer { result ≡ replies.conclude_with real (row_or_blank (option_map (λ m. m.now) row.entry)) now
+        chain.now verified.now }
+    ensures checked { verified.now ≡ verified_marks real chain.now
+        → result ≡ replies.conclude real (row_or_blank (option_map (λ m. m.now) row.entry)) now chain.now }
     ensures small { IfOk result (λ new. new.turn < 2 ^ 48) }
 {
-    concluded(found(row), now, chain, supports_with(chain, verified))
+    let row = row_or_blank(row);
+    if is_over(&row, now) {
+        return Err(Refusal::IsFinal);
+    }
+    concluded(row, now, chain, supports_with(chain, verified))
 }

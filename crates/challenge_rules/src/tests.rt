@@ -143,7 +143,7 @@ fn calls_with_a_chain(rt: HostRuntime) -> Result<(), Fail> {
         let open = chain(rt.alloc(), turn, false)?;
         let ended = chain(rt.alloc(), turn, true)?;
         let all = [true, true];
-        let challenged = challenge_with(Some(&row), NOW, &open, 1, &all, true);
+        let challenged = challenge_with(Some(&row), NOW, &open, 1, &[], &[true; 3]);
         let checkpointed = checkpoint_with(Some(&row), NOW, &open, &all);
         let concluded = conclude_with(Some(&row), NOW, &ended, &all);
         assert_eq!(rt; told(challenged), by_challenge, "challenge at {turn}");
@@ -174,8 +174,8 @@ fn answers_to_a_challenge(rt: HostRuntime) -> Result<(), Fail> {
     for (deadline, turn, by_respond, by_refute) in NEXTS {
         let row = recorded(digest, deadline);
         let next = signed(rt.alloc(), turn)?;
-        let responded = respond_with(Some(&row), NOW, &fixed, &from, &next, true);
-        let refuted = refute_with(Some(&row), NOW, &fixed, &next, true);
+        let responded = respond_with(Some(&row), NOW, &fixed, &from, &next, &[true]);
+        let refuted = refute_with(Some(&row), NOW, &fixed, &next, &[true]);
         assert_eq!(rt; told(responded), by_respond, "respond at {turn}");
         assert_eq!(rt; told(refuted), by_refute, "refute at {turn}");
     }
@@ -191,15 +191,15 @@ fn what_isnt_signed_is_refused(rt: HostRuntime) -> Result<(), Fail> {
     let newest = chain(rt.alloc(), 6, false)?;
     let digest = state_digest(&channel_name(fixed.bytes()), from.bytes());
     let row = recorded(digest, LATER);
-    let respond = respond_with(Some(&row), NOW, &fixed, &from, &next, false);
+    let respond = respond_with(Some(&row), NOW, &fixed, &from, &next, &[false]);
     assert_eq!(rt; told(respond), Answer::No(Refusal::BadSignature));
-    let respond = respond_with(Some(&row), NOW, &fixed, &next.state, &next, true);
+    let respond = respond_with(Some(&row), NOW, &fixed, &next.state, &next, &[true]);
     assert_eq!(rt; told(respond), Answer::No(Refusal::WrongState));
-    let refute = refute_with(Some(&row), NOW, &fixed, &next, false);
+    let refute = refute_with(Some(&row), NOW, &fixed, &next, &[false]);
     assert_eq!(rt; told(refute), Answer::No(Refusal::BadSignature));
-    let refute = refute_with(Some(&row), NOW, &fixed, &by_another, true);
+    let refute = refute_with(Some(&row), NOW, &fixed, &by_another, &[true]);
     assert_eq!(rt; told(refute), Answer::No(Refusal::NotChallengers));
-    let challenge = challenge_with(Some(&row), NOW, &newest, 1, &[true, true], false);
+    let challenge = challenge_with(Some(&row), NOW, &newest, 1, &[], &[true, true, false]);
     assert_eq!(rt; told(challenge), Answer::No(Refusal::BadChallenger));
     let conclude = conclude_with(Some(&row), NOW, &newest, &[true, true]);
     assert_eq!(rt; told(conclude), Answer::No(Refusal::NotFinalState(0)));

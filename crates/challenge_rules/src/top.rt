@@ -1,31 +1,21 @@
-//! The row that there is, and what is signed of a chain's last state.
+//! Whether a channel is final, and what is signed of a chain's last state.
 
-ghost use Rattle.std.specs.Prelude.{◌≡◌, Some};
-ghost use Rattle.std.specs.Option.{option_map};
-ghost use Rattle.nitro_bytes.specs.Parts.{StateParts};
-ghost use Rattle.channel_model.specs.Rules.{newest, signs_challenge};
-ghost use Rattle.channel_calls.specs.Rows.{row_or_blank};
+ghost use Rattle.std.specs.Prelude.{◌≡◌};
+ghost use Rattle.deadline_clock.specs.Mode.{mode_at, is_final};
+ghost use Rattle.channel_model.specs.Rules.{signs_challenge};
 ghost use Rattle.support_chain.specs.Real.{real};
 
 use channel_calls::{Row, newest};
 use channel_name::{challenge_message, channel_name, outcome_digest, state_digest};
+use deadline_clock::{Standing, mode};
 use lms_verify::verifies;
 use nitro_bytes::{Chain, Fixed, Name, Outcome, State};
 
-/// The row that there is, or that of a channel without one.
-pub(crate) fn found(row: Option<&Row>) -> Row
-    ensures { result ≡ row_or_blank (option_map (λ m. m.now) row.entry) }
+/// Whether the channel of this row is final.
+pub(crate) fn is_over(row: &Row, now: u64) -> bool
+    ensures { result ≡ is_final (mode_at row.now.deadline now) }
 {
-    match row {
-        Some(row) => *row,
-        None => Row {
-            turn: 0,
-            deadline: None,
-            state_digest: [0; 32],
-            outcome_digest: [0; 32],
-            challenger: 0,
-        },
-    }
+    mode(row.deadline, now) == Standing::Final
 }
 
 /// The digest of a state of the channel.
@@ -42,10 +32,10 @@ pub(crate) fn digest_of_outcome(outcome: &Outcome) -> Name
     outcome_digest(outcome.bytes())
 }
 
-/// Whether the key at the challenger's position verifies a challenge with the chain. A chain of no state is challenged
-/// with by nobody.
-pub(crate) fn is_challenge_signed(chain: &Chain, challenger: u8, signature: &[u8]) -> bool
-    ensures { (last : StateParts) → newest chain.now.states ≡ Some last → result ≡ signs_challenge real chain.now.fixed chain.now.states challenger signature.now }
+/// Whether the key at the challenger's position verifies a challenge with the chain. Nobody challenges with a chain of
+/// no state, and a participant that isn't there signs nothing.
+pub fn is_challenge_signed(chain: &Chain, challenger: u8, signature: &[u8]) -> bool
+    ensures { result ≡ signs_challenge real chain.now.fixed chain.now.states challenger signature.now }
 {
     let Some(last) = newest(chain.states.as_slice()) else {
         return false;

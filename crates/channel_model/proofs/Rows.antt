@@ -12,8 +12,8 @@ use Rattle.nitro_bytes.specs.declared.fault.SupportFault.TheVariants as faults
 use Rattle.channel_model.specs.Words.{fault_if, ◌⊳◌}
 use Rattle.channel_model.specs.Chains.{mover, first_between, last_of, turn_fault, last_turn, is_late, marks_fault, turn_unless, marked_row}
 use Rattle.channel_model.specs.Rules.{Rules}
-use Rattle.channel_model.specs.Support.{link_fault, row_fault, row_of, verified_from, supports}
-use Rattle.channel_model.specs.Supported.{Rises, AreSteps, FromMark, IsSupported, SupportTells, SupportIsByMarks}
+use Rattle.channel_model.specs.Support.{link_fault, row_fault, row_of}
+use Rattle.channel_model.specs.Supported.{Rises, AreSteps, FromMark, IsSupported, SupportTells}
 use Rattle.channel_model.proofs.Lines.{both_none, unbroken, not_not, and_true, or_false}
 use Rattle.channel_model.proofs.Turns.{last_turn_greatest}
 
@@ -52,7 +52,7 @@ record Tail (r : Rules) (f : FixedParts) (s x : StateParts) (xs ts : List StateP
   few : length ts ≤ length xs
   last : last_of s ts ≡ last_of x xs
 
-same_some : {A : Type 0} (x y : A) → Some x ≡ Some y → x ≡ y
+pub same_some : {A : Type 0} (x y : A) → Some x ≡ Some y → x ≡ y
 same_some x y e = cc
 
 tail_at : (r : Rules) (f : FixedParts) (place : ℕ) (x : StateParts) (xs : List StateParts) (s : StateParts) → slice_get (x ∷ xs) place ≡ Some s → AreSteps r f x xs → Rises x xs → Tail r f s x xs (drop (suc place) (x ∷ xs))
@@ -169,13 +169,3 @@ module _ (r : Rules) (f : FixedParts) (marks : List Mark) (verified : List Bool)
 
 pub support_tells : SupportTells
 support_tells r chain verified turn h = in_row r chain.fixed chain.marks verified turn chain.states h
-
--- ---- truth values
-
-as_many : (r : Rules) (f : FixedParts) (states : List StateParts) (j : ℕ) (marks : List Mark) → length (verified_from r f states j marks) ≡ length marks
-as_many r f states j [] = refl
-as_many r f states j (mark ∷ marks) = ap suc (as_many r f states (j + 1) marks)
-
-pub support_is_by_marks : SupportIsByMarks
-unfolding supports
-support_is_by_marks r chain = (as_many r chain.fixed chain.states 0 chain.marks, refl)

@@ -62,12 +62,19 @@ signs_state r f j s signature = signs r (slice_get f.keys j) (message_of_state (
 abbrev pub is_signed_well : Rules → FixedParts → Signed → Bool
 is_signed_well r f next = signs_state r f (mover (people f) next.state.turn) next.state next.signature
 
+-- participant who's key verifies a challenge on the state; where there is none, nobody challenges
+abbrev pub signs_challenge_on : Rules → FixedParts → Option StateParts → ℕ → List ℕ → Bool
+signs_challenge_on r f None who signature = false
+signs_challenge_on r f (Some s) who signature =
+    signs r (slice_get f.keys who) (message_of_challenge (r.digest (r.named f) s) who) signature
+
 -- the challenger's key verifies the challenge on a chain's last state
 abbrev pub signs_challenge : Rules → FixedParts → List StateParts → ℕ → List ℕ → Bool
-signs_challenge r f states who signature = signs r (slice_get f.keys who) (message_of_challenge (top_digest r f states) who) signature
+signs_challenge r f states who signature = signs_challenge_on r f (newest states) who signature
 
 -- what every step keeps, whichever the application
 pub record KeepsFinal (r : Rules) : Type 0 where
   pub stays : (f : FixedParts) (s t : StateParts) → r.step f s t ≡ None → s.is_final ≡ true → t.is_final ≡ true
-  pub same : (f : FixedParts) (s t : StateParts) → IsState s → IsState t → r.step f s t ≡ None → t.is_final ≡ true → t.outcome ≡ s.outcome
+  pub same : (f : FixedParts) (s t : StateParts) → IsState s → IsState t → r.step f s t ≡ None
+      → t.is_final ≡ true → t.outcome ≡ s.outcome
   pub late : (f : FixedParts) (s t : StateParts) → r.step f s t ≡ None → t.is_final ≡ true → 2 * people f ≤ t.turn

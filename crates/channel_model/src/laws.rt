@@ -1,7 +1,7 @@
 //! Laws over the definitions alone. Each function is empty: its contract is the law.
 
 ghost use Rattle.channel_model.specs.LastTurn.{LastTurnIsGreatest};
-ghost use Rattle.channel_model.specs.Supported.{SupportTells, SupportIsByMarks};
+ghost use Rattle.channel_model.specs.Supported.{SupportTells, SupportIsExact, SupportIsByMarks};
 
 /// The last turn of a participant is the greatest that is its own.
 pub fn last_turn_is_greatest()
@@ -13,7 +13,12 @@ pub fn support_tells()
     ensures { SupportTells }
 {}
 
-/// What a chain supports is what it supports with the truth values of its marks.
+/// A chain supports a turn exactly where its states and marks meet the conditions.
+pub fn support_is_exact()
+    ensures { SupportIsExact }
+{}
+
+/// What a chain supports is what it supports with the truth values of its marks, whoever found them.
 pub fn support_is_by_marks()
     ensures { SupportIsByMarks }
 {}

@@ -1,20 +1,21 @@
-//! Which marks are signatures of their states.
+//! Whose signatures verify.
 
-ghost use Rattle.std.specs.Prelude.{◌≡◌};
+ghost use Rattle.std.specs.Prelude.{◌≡◌, ◌<◌};
 ghost use Rattle.std.specs.List.{slice_get};
 ghost use Rattle.nitro_bytes.specs.Spelling.{fixed as spelling, state as body};
 ghost use Rattle.channel_name.specs.Digests.{name_of_channel, digest_of_state};
 ghost use Rattle.channel_name.specs.Messages.{message_of_state};
-ghost use Rattle.channel_model.specs.Rules.{signs_state};
+ghost use Rattle.channel_model.specs.Chains.{mover};
+ghost use Rattle.channel_model.specs.Rules.{people, signs_state, is_signed_well};
 ghost use Rattle.channel_model.specs.Support.{is_marked_well};
 ghost use Rattle.support_chain.specs.Real.{real};
 
 use channel_name::{channel_name, state_digest, state_message};
 use lms_verify::verifies;
-use nitro_bytes::{Fixed, Mark, State};
+use nitro_bytes::{Fixed, Mark, Signed, State};
 
 /// What is signed for a state of the channel.
-fn message_of(fixed: &Fixed, state: &State) -> [u8; 33]
+pub(crate) fn message_of(fixed: &Fixed, state: &State) -> [u8; 33]
     ensures { result ≡ message_of_state (digest_of_state (name_of_channel (spelling fixed.now)) (body state.now)) }
 {
     let channel = channel_name(fixed.bytes());
@@ -31,12 +32,28 @@ pub fn signs_state(fixed: &Fixed, j: usize, state: &State, signature: &[u8]) -> 
     verifies(key, &message_of(fixed, state), signature)
 }
 
-/// Whether key `j` verifies the state that the mark stands on.
-pub(crate) fn mark_verifies(fixed: &Fixed, states: &[State], j: usize, mark: &Mark) -> bool
+/// Whether key `j` verifies the state at the mark's place. A mark on no state verifies nothing.
+pub fn mark_verifies(fixed: &Fixed, states: &[State], j: usize, mark: &Mark) -> bool
     ensures { result ≡ is_marked_well real fixed.now j mark.now.signature (slice_get states.now mark.now.place) }
 {
     let Some(state) = states.get(mark.place as usize) else {
         return false;
     };
     signs_state(fixed, j, state, mark.signature.as_slice())
+}
+
+/// The position of the participant who moves to this turn.
+pub fn mover_at(fixed: &Fixed, turn: u64) -> usize
+    ensures value { result ≡ mover (people fixed.now) turn }
+    ensures there { result < people fixed.now }
+{
+    (turn % fixed.keys().len() as u64) as usize
+}
+
+/// Whether the mover's key verifies the state.
+pub fn is_signed_well(fixed: &Fixed, signed: &Signed) -> bool
+    ensures { result ≡ is_signed_well real fixed.now signed.now }
+{
+    let mover = mover_at(fixed, signed.state.turn());
+    signs_state(fixed, mover, &signed.state, signed.signature.as_slice())
 }

@@ -4,6 +4,7 @@ ghost use Rattle.std.specs.Prelude.{◌≡◌};
 ghost use Rattle.std.specs.Result.{result_err};
 ghost use Rattle.support_chain.specs.Steps.{persons, repeat_fault, step_fault};
 
+use crate::signature::mover_at;
 use app_rules::{app_step, is_same_outcome};
 use nitro_bytes::{Fixed, Name, State, StepFault};
 
@@ -36,6 +37,6 @@ pub fn step(fixed: &Fixed, people: &[Name], from: &State, to: &State) -> Result<
     if is_set_up || to.is_final() {
         return repeat(from, to);
     }
-    let mover = (to.turn() % n as u64) as usize;
+    let mover = mover_at(fixed, to.turn());
     app_step(fixed.app(), people, mover, from, to)
 }

@@ -1,6 +1,6 @@
 //! When a chain supports the turn of its last state.
 
-ghost use Rattle.std.specs.Prelude.{◌≡◌, ◌+◌, ◌<◌, ◌^◌, length};
+ghost use Rattle.std.specs.Prelude.{◌≡◌, ◌+◌, ◌<◌, ◌≤◌, ◌^◌, length, IfOk};
 ghost use Rattle.std.specs.List.{slice_get};
 ghost use Rattle.std.specs.Result.{result_err};
 ghost use Rattle.channel_model.specs.Chains as rows;
@@ -12,7 +12,7 @@ use crate::signature::mark_verifies;
 use crate::steps::step;
 use arrayvec::ArrayVec;
 use channel_name::person_name;
-use nitro_bytes::{Chain, Fixed, Mark, Name, State, SupportFault};
+use nitro_bytes::{Chain, Fixed, MOST_MARKS, MOST_PEOPLE, Mark, Name, State, SupportFault};
 
 /// Whether each state of a row has the turn after its predecessor's. The first of the rest has place `i`.
 fn turns_rise(i: usize, before: &State, rest: &[State]) -> Result<(), SupportFault>
@@ -85,7 +85,7 @@ fn is_late(n: u64, turn: u64, j: u64, states: &[State], place: u8) -> bool
 }
 
 /// The persons of the keys.
-pub fn people_of(fixed: &Fixed) -> ArrayVec<Name, 4>
+pub fn people_of(fixed: &Fixed) -> ArrayVec<Name, MOST_PEOPLE>
     ensures { result.items ≡ persons fixed.now }
 {
     let mut people = ArrayVec::new();
@@ -97,7 +97,8 @@ pub fn people_of(fixed: &Fixed) -> ArrayVec<Name, 4>
 
 /// The turn of the last state of a row of states.
 fn row_turn(fixed: &Fixed, states: &[State], marks: usize) -> Result<u64, SupportFault>
-    ensures { result ≡ model.row_of real fixed.now states.now marks }
+    ensures value { result ≡ model.row_of real fixed.now states.now marks }
+    ensures few { IfOk result (λ _. marks ≤ 4) }
 {
     let n = fixed.keys().len();
     let [first, rest @ ..] = states else {
@@ -106,58 +107,43 @@ fn row_turn(fixed: &Fixed, states: &[State], marks: usize) -> Result<u64, Suppor
     if states.len() > n || marks != n {
         return Err(SupportFault::Length);
     }
-    if let Err(fault) = turns_rise(1, first, rest) {
-        return Err(fault);
-    }
+    turns_rise(1, first, rest)?;
     let turn = turn_of_last(first, rest);
     if turn < n as u64 - 1 {
         return Err(SupportFault::Length);
     }
     let people = people_of(fixed);
-    if let Err(fault) = states_follow(fixed, people.as_slice(), 1, first, rest) {
-        return Err(fault);
-    }
+    states_follow(fixed, people.as_slice(), 1, first, rest)?;
     Ok(turn)
 }
 
-/// Whether each participant's mark does, where `verified` says which marks verify.
-fn marks_hold(
-    n: u64,
-    turn: u64,
-    states: &[State],
-    marks: &[Mark],
-    verified: &[bool],
-) -> Result<(), SupportFault>
-    requires several { 0 < n }
-    requires each { length verified.now ≡ length marks.now }
-    ensures { result_err result ≡ rows.marks_fault n turn states.now 0 marks.now verified.now }
+/// The turn, unless a mark doesn't do, where `verified` says which marks verify.
+fn marked_turn(chain: &Chain, turn: u64, verified: &[bool]) -> Result<u64, SupportFault>
+    requires { length verified.now ≡ length chain.now.marks }
+    ensures { result ≡ rows.turn_unless turn
+        (rows.marks_fault (length chain.now.fixed.keys) turn chain.now.states 0 chain.now.marks verified.now) }
 {
-    for (j, mark) in marks.iter().enumerate() {
+    let n = chain.fixed.keys().len() as u64;
+    let states = chain.states.as_slice();
+    for (j, mark) in chain.marks.as_slice().iter().enumerate() {
         if !verified[j] || !is_late(n, turn, j as u64, states, mark.place) {
             return Err(SupportFault::Signature(j));
         }
     }
-    Ok(())
+    Ok(turn)
 }
 
-/// Whether each participant's mark does.
-fn signed_marks_hold(
-    fixed: &Fixed,
-    turn: u64,
-    states: &[State],
-    marks: &[Mark],
-) -> Result<(), SupportFault>
-    ensures { result_err result ≡ rows.marks_fault (length fixed.now.keys) turn states.now 0 marks.now (model.verified_from real fixed.now states.now 0 marks.now) }
+/// Of each of at most four marks whether it verifies.
+fn verify_marks(fixed: &Fixed, states: &[State], marks: &[Mark]) -> ArrayVec<bool, MOST_MARKS>
+    requires { length marks.now ≤ 4 }
+    ensures each { result.items ≡ model.verified_from real fixed.now states.now 0 marks.now }
+    ensures as_many { length result.items ≡ length marks.now }
 {
-    let n = fixed.keys().len() as u64;
+    let mut verified = ArrayVec::new();
     for (j, mark) in marks.iter().enumerate() {
-        if !mark_verifies(fixed, states, j, mark)
-            || !is_late(n, turn, j as u64, states, mark.place)
-        {
-            return Err(SupportFault::Signature(j));
-        }
+        verified.push(mark_verifies(fixed, states, j, mark));
     }
-    Ok(())
+    verified
 }
 
 /// The turn that the chain supports, or its first fault, where `verified` says which marks verify.
@@ -165,14 +151,9 @@ pub fn supports_with(chain: &Chain, verified: &[bool]) -> Result<u64, SupportFau
     requires { length verified.now ≡ length chain.now.marks }
     ensures { result ≡ model.support_of real chain.now verified.now }
 {
-    let states = chain.states.as_slice();
-    let marks = chain.marks.as_slice();
-    let turn = row_turn(&chain.fixed, states, marks.len())?;
-    let n = chain.fixed.keys().len() as u64;
-    if let Err(fault) = marks_hold(n, turn, states, marks, verified) {
-        return Err(fault);
-    }
-    Ok(turn)
+    let marks = chain.marks.as_slice().len();
+    let turn = row_turn(&chain.fixed, chain.states.as_slice(), marks)?;
+    marked_turn(chain, turn, verified)
 }
 
 /// The turn that the chain supports, or its first fault.
@@ -183,8 +164,6 @@ pub fn supports(chain: &Chain) -> Result<u64, SupportFault>
     let states = chain.states.as_slice();
     let marks = chain.marks.as_slice();
     let turn = row_turn(&chain.fixed, states, marks.len())?;
-    if let Err(fault) = signed_marks_hold(&chain.fixed, turn, states, marks) {
-        return Err(fault);
-    }
-    Ok(turn)
+    let verified = verify_marks(&chain.fixed, states, marks);
+    marked_turn(chain, turn, verified.as_slice())
 }

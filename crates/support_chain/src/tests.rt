@@ -1,6 +1,7 @@
 //! Steps and chains worked out by hand.
 
 mod chains;
+mod signed;
 mod steps;
 
 use channel_name::person_name;
