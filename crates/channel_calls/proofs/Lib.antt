@@ -9,3 +9,4 @@ pub mod Formats
 pub mod Tabled
 pub mod Telling
 pub mod LoweredMarks
+pub mod Sames

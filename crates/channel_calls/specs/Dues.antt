@@ -13,7 +13,8 @@ use Rattle.channel_calls.specs.declared.funds.Due.{Due}
 use Rattle.channel_calls.specs.declared.refusal.Refusal.{Refusal}
 use Rattle.channel_calls.specs.declared.refusal.Refusal.TheVariants.{NoAsset, WrongKind, WrongTarget, NotListed, NoItem, NothingDue}
 
--- the rest of each item, and of each destination of a guarantee's list in its target; `paid` is what was paid of each place
+-- the rest of each item, and of each destination of a guarantee's list in its target; `paid` is what was paid of each
+-- place
 abbrev pub rest_at : (ℕ → ℕ) → List Item → ℕ → ℕ
 rest_at paid items place = amount_at items place - paid place
 
@@ -26,7 +27,8 @@ shape_in [] asset = None
 shape_in (o ∷ os) asset = if o.asset == asset then Some o.shape else shape_in os asset
 
 abbrev pub pay : Dest → ℕ → ℕ → ℕ → Result Due Refusal
-pay to place held amount = refuse_if (amount == 0) (NothingDue held) (Ok (record { to = to; place = place; amount = amount }))
+pay to place held amount =
+    refuse_if (amount == 0) (NothingDue held) (Ok (record { to = to; place = place; amount = amount }))
 
 -- what a transfer of an asset's shape pays
 abbrev pub transfer_of : (ℕ → ℕ) → ℕ → Option Shape → ℕ → Result Due Refusal
@@ -41,7 +43,8 @@ abbrev pub claim_of_items : (ℕ → ℕ) → ℕ → List Dest → List Item �
 claim_of_items paid held list items position =
     refuse_if (nat_le (length list) position) NotListed (
     refuse_if (nat_le (length items) (place_of items (dest_at list position))) NoItem (
-    pay (dest_at list position) (place_of items (dest_at list position)) held (due (rest_of paid items list) position held)))
+    pay (dest_at list position) (place_of items (dest_at list position)) held
+    (due (rest_of paid items list) position held)))
 
 -- what a claim on the shapes of the guarantor and of its target pays
 abbrev pub claim_of : (ℕ → ℕ) → ℕ → Option Shape → List ℕ → Option Shape → ℕ → Result Due Refusal
@@ -56,4 +59,5 @@ abbrev pub transfer_due : (ℕ → ℕ) → ℕ → List AssetOutcome → ℕ �
 transfer_due paid held outcome asset index = transfer_of paid held (shape_in outcome asset) index
 
 abbrev pub claim_due : (ℕ → ℕ) → ℕ → List AssetOutcome → List ℕ → List AssetOutcome → ℕ → ℕ → Result Due Refusal
-claim_due paid held promise target outcome asset position = claim_of paid held (shape_in promise asset) target (shape_in outcome asset) position
+claim_due paid held promise target outcome asset position =
+    claim_of paid held (shape_in promise asset) target (shape_in outcome asset) position

@@ -98,17 +98,22 @@ paid_to_all flows asset = sum_by (λ person. paid_in flows person asset) (distin
 abbrev pub AreConserved : List Flow → Type 0
 AreConserved flows = (asset : ℕ) → deposited_in flows asset ≡ held_by_all flows asset + paid_to_all flows asset
 
--- A flow more changes these balances: of its source, of its destination, and where it comes from outside what was deposited.
+-- A flow more changes these balances: of its source, of its destination, and where it comes from outside what was
+-- deposited.
 -- Where a channel pays itself, what it holds stays.
 pub record HasMoved (old : List Flow) (flow : Flow) (new : List Flow) : Type 0 where
-  pub held : (channel : List ℕ) (asset : ℕ) → held_in new channel asset ≡ (held_in old channel asset + brings (Channel channel) asset flow) - takes channel asset flow
-  pub paid : (person : List ℕ) (asset : ℕ) → paid_in new person asset ≡ paid_in old person asset + brings (Person person) asset flow
+  pub held : (channel : List ℕ) (asset : ℕ)
+      → held_in new channel asset
+      ≡ (held_in old channel asset + brings (Channel channel) asset flow) - takes channel asset flow
+  pub paid : (person : List ℕ) (asset : ℕ)
+      → paid_in new person asset ≡ paid_in old person asset + brings (Person person) asset flow
   pub deposited : (asset : ℕ) → deposited_in new asset ≡ deposited_in old asset + enters asset flow
 
 -- what was paid of an item
 abbrev pub pays : List ℕ → ℕ → ℕ → Payment → ℕ
 pays channel asset place payment =
-    if bytes_eq payment.channel channel && ((payment.asset == asset) && (payment.place == place)) then payment.amount else 0
+    if bytes_eq payment.channel channel && ((payment.asset == asset) && (payment.place == place))
+    then payment.amount else 0
 
 abbrev pub paid_of_item : List Payment → List ℕ → ℕ → ℕ → ℕ
 paid_of_item payments channel asset place = sum_by (pays channel asset place) payments

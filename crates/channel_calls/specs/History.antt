@@ -1,4 +1,5 @@
--- Histories, the newest entry first: time, rows, flows, balances, what was paid of items, replies, and which histories are legal.
+-- Histories, the newest entry first: time, rows, flows, balances, what was paid of items, replies, and which histories
+-- are legal.
 use Rattle.std.specs.Prelude.{◌≡◌, ◌≤◌, ℕ, suc, ◌+◌, Bool, true, false, ◌&&◌, List, [], ◌∷◌, ◌++◌, length, reverse, slice_get, Option, Some, None, if◌then◌else◌}
 use Rattle.std.specs.Option.{option_map}
 use Rattle.std.specs.Str.{bytes_eq}
@@ -65,7 +66,8 @@ turning r channel e = is_accepted e.reply && is_named r channel (fixed_of e.op)
 
 abbrev pub row : Rules → List ℕ → List Entry → Row
 row r channel [] = blank
-row r channel (e ∷ past) = if turning r channel e then turned r (now_of past) e.op (row r channel past) else row r channel past
+row r channel (e ∷ past) =
+    if turning r channel e then turned r (now_of past) e.op (row r channel past) else row r channel past
 
 -- whether there is a row
 abbrev pub is_recorded : Rules → List ℕ → List Entry → Bool
@@ -86,7 +88,8 @@ settles _ before = before
 
 abbrev pub settled : Rules → List ℕ → List Entry → Option (List AssetOutcome)
 settled r channel [] = None
-settled r channel (e ∷ past) = if turning r channel e then settles e.op (settled r channel past) else settled r channel past
+settled r channel (e ∷ past) =
+    if turning r channel e then settles e.op (settled r channel past) else settled r channel past
 
 -- ---- flows
 
@@ -106,8 +109,10 @@ flow_to from (Some to) asset amount = record { from = from; to = to; asset = ass
 -- the flow of an accepted call: what a transfer and a claim pay, their replies say
 abbrev pub flow_of : Op → Reply → List Flow
 flow_of (ops.Call (Deposit channel asset expected amount)) (Held n) = flow_to None (Some (Channel channel)) asset amount
-flow_of (ops.Call (Transfer channel outcome asset index)) (Paid n) = flow_to (Some channel) (item_dest (shape_in outcome asset) index) asset n
-flow_of (ops.Call (Claim guarantor promise target outcome asset position)) (Paid n) = flow_to (Some guarantor) (listed_dest (shape_in promise asset) position) asset n
+flow_of (ops.Call (Transfer channel outcome asset index)) (Paid n) =
+    flow_to (Some channel) (item_dest (shape_in outcome asset) index) asset n
+flow_of (ops.Call (Claim guarantor promise target outcome asset position)) (Paid n) =
+    flow_to (Some guarantor) (listed_dest (shape_in promise asset) position) asset n
 flow_of _ _ = []
 
 -- the flows of entries, in the order of these
@@ -134,9 +139,15 @@ place_in _ _ = 0
 
 -- what an accepted transfer pays of an item of its channel, and an accepted claim of an item of its target
 abbrev pub payment_of : Op → Reply → List Payment
-payment_of (ops.Call (Transfer channel outcome asset index)) (Paid n) = record { channel = channel; asset = asset; place = index; amount = n } ∷ []
+payment_of (ops.Call (Transfer channel outcome asset index)) (Paid n) =
+    record { channel = channel; asset = asset; place = index; amount = n } ∷ []
 payment_of (ops.Call (Claim guarantor promise target outcome asset position)) (Paid n) =
-    record { channel = target; asset = asset; place = place_in (shape_in outcome asset) (listed_dest (shape_in promise asset) position); amount = n } ∷ []
+    record {
+      channel = target;
+      asset = asset;
+      place = place_in (shape_in outcome asset) (listed_dest (shape_in promise asset) position);
+      amount = n;
+    } ∷ []
 payment_of _ _ = []
 
 abbrev pub payments_of : List Entry → List Payment
@@ -158,17 +169,27 @@ row_of_fixed r fixed h = row r (r.named fixed) h
 
 -- what each call answers after a history
 abbrev pub call_reply : Rules → List Entry → Call → Reply
-call_reply r h (Deposit channel asset expected amount) = told Held (replies.deposit (held_of h channel asset) (deposited_of h asset) expected amount)
+call_reply r h (Deposit channel asset expected amount) =
+    told Held (replies.deposit (held_of h channel asset) (deposited_of h asset) expected amount)
 call_reply r h (Challenge chain who signature) =
-    told (λ new. Until (now_of h + chain.fixed.duration)) (replies.challenge r (row_of_fixed r chain.fixed h) (now_of h) chain who signature)
-call_reply r h (Respond fixed from next) = told (λ new. Opened new.turn) (replies.respond r (row_of_fixed r fixed h) (now_of h) fixed from next)
-call_reply r h (Refute fixed next) = told (λ new. Opened new.turn) (replies.refute r (row_of_fixed r fixed h) (now_of h) fixed next)
-call_reply r h (Checkpoint chain) = told (λ new. Opened new.turn) (replies.checkpoint r (row_of_fixed r chain.fixed h) (now_of h) chain)
-call_reply r h (Conclude chain) = told (λ new. Concluded new.turn) (replies.conclude r (row_of_fixed r chain.fixed h) (now_of h) chain)
+    told (λ new. Until (now_of h + chain.fixed.duration))
+    (replies.challenge r (row_of_fixed r chain.fixed h) (now_of h) chain who signature)
+call_reply r h (Respond fixed from next) =
+    told (λ new. Opened new.turn) (replies.respond r (row_of_fixed r fixed h) (now_of h) fixed from next)
+call_reply r h (Refute fixed next) =
+    told (λ new. Opened new.turn) (replies.refute r (row_of_fixed r fixed h) (now_of h) fixed next)
+call_reply r h (Checkpoint chain) =
+    told (λ new. Opened new.turn) (replies.checkpoint r (row_of_fixed r chain.fixed h) (now_of h) chain)
+call_reply r h (Conclude chain) =
+    told (λ new. Concluded new.turn) (replies.conclude r (row_of_fixed r chain.fixed h) (now_of h) chain)
 call_reply r h (Transfer channel outcome asset index) =
-    told (λ due. Paid due.amount) (replies.transfer r (row r channel h) (now_of h) (paid_of h channel asset) (held_of h channel asset) channel outcome asset index)
+    told (λ due. Paid due.amount)
+    (replies.transfer r (row r channel h) (now_of h) (paid_of h channel asset) (held_of h channel asset) channel outcome
+    asset index)
 call_reply r h (Claim guarantor promise target outcome asset position) =
-    told (λ due. Paid due.amount) (replies.claim r (row r guarantor h) (row r target h) (now_of h) (paid_of h target asset) (held_of h guarantor asset) guarantor promise target outcome asset position)
+    told (λ due. Paid due.amount)
+    (replies.claim r (row r guarantor h) (row r target h) (now_of h) (paid_of h target asset) (held_of h guarantor asset)
+    guarantor promise target outcome asset position)
 
 unfoldable pub reply_to : Rules → List Entry → Op → Reply
 reply_to r h (ops.Call call) = call_reply r h call

@@ -1,3 +1,4 @@
+pub mod Naming
 pub mod Refusing
 pub mod Rows
 pub mod Flows
@@ -13,3 +14,4 @@ pub mod Marked
 pub mod Shown
 pub mod Tables
 pub mod Told
+pub mod Same

@@ -9,14 +9,16 @@ use Rattle.channel_calls.specs.declared.call.Call.{Call}
 use Rattle.channel_calls.specs.declared.call.Call.TheVariants.{Deposit, Challenge, Respond, Refute, Checkpoint, Conclude, Transfer, Claim}
 
 abbrev pub IsCall : Call → Type 0
-IsCall (Deposit channel asset expected amount) = IsName channel × (asset < 2 ^ 32) × (expected < 2 ^ 64) × (amount < 2 ^ 64)
+IsCall (Deposit channel asset expected amount) =
+    IsName channel × (asset < 2 ^ 32) × (expected < 2 ^ 64) × (amount < 2 ^ 64)
 IsCall (Challenge c challenger signature) = IsChain c × (challenger < 256) × IsSignature signature
 IsCall (Respond f from next) = IsFixed f × IsState from × IsSigned next
 IsCall (Refute f next) = IsFixed f × IsSigned next
 IsCall (Checkpoint c) = IsChain c
 IsCall (Conclude c) = IsChain c
 IsCall (Transfer channel o asset index) = IsName channel × IsOutcome o × (asset < 2 ^ 32) × (index < 256)
-IsCall (Claim guarantor promise target o asset position) = IsName guarantor × IsOutcome promise × IsName target × IsOutcome o × (asset < 2 ^ 32) × (position < 256)
+IsCall (Claim guarantor promise target o asset position) =
+    IsName guarantor × IsOutcome promise × IsName target × IsOutcome o × (asset < 2 ^ 32) × (position < 256)
 
 abbrev pub IsMessage : Message → Type 0
 IsMessage m = IsName m.0 × IsSigned m.1

@@ -36,7 +36,9 @@ abbrev pub longer : FixedParts → Signed → Marked → Marked
 longer f s w =
     record {
       states = w.states ++ s.state ∷ [];
-      marks = put (people f) (mover (people f) s.state.turn) (record { place = length w.states; signature = s.signature }) w.marks;
+      marks =
+          put (people f) (mover (people f) s.state.turn) (record { place = length w.states; signature = s.signature })
+          w.marks;
     }
 
 abbrev pub lower_place : ℕ → Mark → ℕ
@@ -68,7 +70,8 @@ is_step r f s (Some before) = is_none (r.step f before s)
 
 -- what is tested of a state before it is noted: that it comes next, its mover's signature, and the step
 abbrev pub extends : Rules → FixedParts → Signed → Marked → Bool
-extends r f s w = (s.state.turn == next_after (newest w.states)) && (is_signed_well r f s && is_step r f s.state (newest w.states))
+extends r f s w =
+    (s.state.turn == next_after (newest w.states)) && (is_signed_well r f s && is_step r f s.state (newest w.states))
 
 -- with a state that was noted, where it passes the tests
 abbrev pub extended : Rules → FixedParts → Option Signed → Marked → Marked
@@ -79,7 +82,8 @@ extended r f (Some s) w = if extends r f s w then answered f s w else w
 
 -- it is supported, and none is held or the held one is older
 abbrev pub is_newer : Rules → FixedParts → Marked → Marked → Bool
-is_newer r f chain w = is_supported r f chain && (not (is_supported r f w) || nat_lt (top_turn w.states) (top_turn chain.states))
+is_newer r f chain w =
+    is_supported r f chain && (not (is_supported r f w) || nat_lt (top_turn w.states) (top_turn chain.states))
 
 abbrev pub adopted : Rules → FixedParts → Marked → Marked → Marked
 adopted r f chain w = if is_newer r f chain w then chain else w

@@ -17,26 +17,38 @@ abbrev pub is_to : Option Dest → List ℕ → Bool
 is_to None channel = false
 is_to (Some to) channel = is_same to (Channel channel)
 
--- The entry after h pays an amount of an asset from one channel, and of an item of another's outcome, or of its own one.
-pub record LowersBoth (h : List Entry) (e : Entry) (payer owner : List ℕ) (outcome : List AssetOutcome) (asset : ℕ) (to : Option Dest) (amount : ℕ) : Type 0 where
+-- The entry after h pays an amount of an asset from one channel, and of an item of another's outcome, or of its own.
+pub record LowersBoth (h : List Entry) (e : Entry) (payer owner : List ℕ) (outcome : List AssetOutcome) (asset : ℕ)
+    (to : Option Dest) (amount : ℕ) : Type 0 where
   pub some : 1 ≤ amount
   -- the item is of whom is paid; so much was left of it, and that item alone is lowered
   pub place : ℕ
   pub named : item_dest (shape_in outcome asset) place ≡ to
   pub left : amount ≤ left_of (rest_outcome (paid_of h owner) outcome) asset place
-  pub rest : rest_outcome (paid_of (e ∷ h) owner) outcome ≡ lower_outcome (rest_outcome (paid_of h owner) outcome) asset place amount
+  pub rest : rest_outcome (paid_of (e ∷ h) owner) outcome
+      ≡ lower_outcome (rest_outcome (paid_of h owner) outcome) asset place amount
   -- so much was held, and then it is held no more, unless the channel pays itself
   pub held : amount ≤ held_of h payer asset
   pub balance : held_of (e ∷ h) payer asset + amount ≡ held_of h payer asset + (if is_to to payer then amount else 0)
 
 abbrev pub TransferLowersBoth : Rules → List Entry → Type 0
-TransferLowersBoth r h = (number by : ℕ) (channel : List ℕ) (outcome : List AssetOutcome) (asset index amount : ℕ)
+TransferLowersBoth r h =
+    (number by : ℕ) (channel : List ℕ) (outcome : List AssetOutcome) (asset index amount : ℕ)
     → reply_to r h (ops.Call (Transfer channel outcome asset index)) ≡ Paid amount
-    → LowersBoth h (record { number = number; by = by; op = ops.Call (Transfer channel outcome asset index); reply = Paid amount }) channel channel outcome asset
-    (item_dest (shape_in outcome asset) index) amount
+    → LowersBoth h
+    (record { number = number; by = by; op = ops.Call (Transfer channel outcome asset index); reply = Paid amount })
+    channel channel outcome asset (item_dest (shape_in outcome asset) index) amount
 
 abbrev pub ClaimLowersBoth : Rules → List Entry → Type 0
-ClaimLowersBoth r h = (number by : ℕ) (guarantor : List ℕ) (promise : List AssetOutcome) (target : List ℕ) (outcome : List AssetOutcome) (asset position amount : ℕ)
+ClaimLowersBoth r h =
+    (number by : ℕ) (guarantor : List ℕ) (promise : List AssetOutcome) (target : List ℕ)
+    (outcome : List AssetOutcome) (asset position amount : ℕ)
     → reply_to r h (ops.Call (Claim guarantor promise target outcome asset position)) ≡ Paid amount
-    → LowersBoth h (record { number = number; by = by; op = ops.Call (Claim guarantor promise target outcome asset position); reply = Paid amount }) guarantor target outcome asset
-    (listed_dest (shape_in promise asset) position) amount
+    → LowersBoth h
+    (record {
+      number = number;
+      by = by;
+      op = ops.Call (Claim guarantor promise target outcome asset position);
+      reply = Paid amount;
+    })
+    guarantor target outcome asset (listed_dest (shape_in promise asset) position) amount

@@ -1,4 +1,5 @@
--- What each op answers, from the row of its channel, the time and the balances: the first refusal that holds, else the value.
+-- What each op answers, from the row of its channel, the time and the balances: the first refusal that holds, else the
+-- value.
 use Rattle.std.specs.Prelude.{ℕ, ◌+◌, ◌-◌, ◌^◌, ◌==◌, Bool, not, nat_le, nat_lt, List, [], ◌∷◌, Option, Some, None, Result, Ok, if◌then◌else◌}
 use Rattle.std.specs.Result.{result_err}
 use Rattle.std.specs.Str.{bytes_eq}
@@ -65,7 +66,8 @@ conclude_with r row now chain verified =
     Ok (after_conclude r now chain row))))
 
 abbrev pub challenge : Rules → Row → ℕ → Chain → ℕ → List ℕ → Result Row Refusal
-challenge r row now chain who signature = challenge_with r row now chain who (verified_marks r chain) (signs_challenge r chain.fixed chain.states who signature)
+challenge r row now chain who signature =
+    challenge_with r row now chain who (verified_marks r chain) (signs_challenge r chain.fixed chain.states who signature)
 
 abbrev pub respond : Rules → Row → ℕ → FixedParts → StateParts → Signed → Result Row Refusal
 respond r row now fixed from next = respond_with r row now fixed from next (is_signed_well r fixed next)
@@ -103,8 +105,10 @@ transfer r row now paid held channel outcome asset index =
     refuse_if (ends_otherwise r row outcome) (WrongOutcome channel) (
     transfer_due paid held outcome asset index))
 
--- `paid` is what was paid of each place of the target's outcome for the asset, and `held` what the guarantor holds of it
-abbrev pub claim : Rules → Row → Row → ℕ → (ℕ → ℕ) → ℕ → List ℕ → List AssetOutcome → List ℕ → List AssetOutcome → ℕ → ℕ → Result Due Refusal
+-- `paid` is what was paid of each place of the target's outcome for the asset, and `held` what the guarantor holds of
+-- it
+abbrev pub claim : Rules → Row → Row → ℕ → (ℕ → ℕ) → ℕ → List ℕ → List AssetOutcome → List ℕ → List AssetOutcome → ℕ
+    → ℕ → Result Due Refusal
 claim r row target_row now paid held guarantor promise target outcome asset position =
     refuse_if (is_unfinished row now) (NotFinal guarantor) (
     refuse_if (is_unfinished target_row now) (NotFinal target) (

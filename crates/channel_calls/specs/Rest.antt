@@ -9,7 +9,8 @@ use Rattle.channel_calls.specs.Dues.{amount_at, shape_in}
 -- items of which the first has this place
 abbrev pub less_paid : (ℕ → ℕ) → ℕ → List Item → List Item
 less_paid paid place [] = []
-less_paid paid place (item ∷ items) = record { to = item.to; amount = item.amount - paid place } ∷ less_paid paid (suc place) items
+less_paid paid place (item ∷ items) =
+    record { to = item.to; amount = item.amount - paid place } ∷ less_paid paid (suc place) items
 
 abbrev pub rest_shape : (ℕ → ℕ) → Shape → Shape
 rest_shape paid (Allocation items) = Allocation (less_paid paid 0 items)
@@ -18,7 +19,8 @@ rest_shape paid (Guarantee target list) = Guarantee target list
 -- the rest of an outcome, where `paid` says what was paid for each asset and place
 abbrev pub rest_outcome : (ℕ → ℕ → ℕ) → List AssetOutcome → List AssetOutcome
 rest_outcome paid [] = []
-rest_outcome paid (o ∷ os) = record { asset = o.asset; shape = rest_shape (paid o.asset) o.shape } ∷ rest_outcome paid os
+rest_outcome paid (o ∷ os) =
+    record { asset = o.asset; shape = rest_shape (paid o.asset) o.shape } ∷ rest_outcome paid os
 
 -- the amount at a place of an asset's items, or 0
 abbrev pub amount_in : Option Shape → ℕ → ℕ
@@ -41,4 +43,5 @@ lower_shape (Guarantee target list) place amount = Guarantee target list
 abbrev pub lower_outcome : List AssetOutcome → ℕ → ℕ → ℕ → List AssetOutcome
 lower_outcome [] asset place amount = []
 lower_outcome (o ∷ os) asset place amount =
-    record { asset = o.asset; shape = if o.asset == asset then lower_shape o.shape place amount else o.shape } ∷ lower_outcome os asset place amount
+    record { asset = o.asset; shape = if o.asset == asset then lower_shape o.shape place amount else o.shape }
+    ∷ lower_outcome os asset place amount

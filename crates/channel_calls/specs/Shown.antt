@@ -16,7 +16,8 @@ challenge_in _ before = before
 -- the chain of the channel's last accepted challenge
 abbrev pub challenged : Rules → List ℕ → List Entry → Marked
 challenged r channel [] = nothing
-challenged r channel (e ∷ past) = if turning r channel e then challenge_in e.op (challenged r channel past) else challenged r channel past
+challenged r channel (e ∷ past) =
+    if turning r channel e then challenge_in e.op (challenged r channel past) else challenged r channel past
 
 -- the chain that an op shows where it turns the row: a respond the challenged one with its answer, and a refute none
 abbrev pub shown_by : Rules → List ℕ → List Entry → Op → Marked

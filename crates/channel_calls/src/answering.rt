@@ -1,6 +1,6 @@
 //! A chain with its answer.
 
-ghost use Rattle.std.specs.Prelude.{◌≡◌, ◌≤◌, ◌<◌, ℕ, ◌++◌, ◌∷◌, [], length, map, drop, slice_get, Some, OnOk, IfOk};
+ghost use Rattle.std.specs.Prelude.{◌≡◌, ◌≤◌, ◌<◌, ℕ, length, map, drop, slice_get, Some, OnOk, IfOk};
 ghost use Rattle.channel_model.specs.Chains.{mover};
 ghost use Rattle.channel_model.specs.Rules.{people};
 ghost use Rattle.channel_calls.specs.Marked.{marked_of, chain_of, put, lowest, lowered, answered};
@@ -18,7 +18,9 @@ fn mover_at(fixed: &Fixed, turn: u64) -> usize
 
 /// The least of a place and those of the marks.
 fn lowest_place(place: usize, marks: &[Mark]) -> usize
-    ensures { result ≡ lowest place marks.now }
+    ensures value { result ≡ lowest place marks.now }
+    ensures inside { result ≤ place }
+    ensures below { (i : ℕ) (m : AMark) → slice_get marks.now i ≡ Some m → result ≤ m.place }
 {
     let mut least = place;
     for mark in marks {
@@ -27,16 +29,6 @@ fn lowest_place(place: usize, marks: &[Mark]) -> usize
             least = at;
         }
     }
-    least
-}
-
-/// The place of the first marked state, where the state at `place` is marked too.
-fn first_marked(place: usize, marks: &[Mark]) -> usize
-    ensures value { result ≡ lowest place marks.now }
-    ensures inside { result ≤ place }
-    ensures below { (i : ℕ) (m : AMark) → slice_get marks.now i ≡ Some m → result ≤ m.place }
-{
-    let least = lowest_place(place, marks);
     least
 }
 
@@ -75,8 +67,9 @@ fn forget(states: &mut Vec<State>, count: usize)
 }
 
 /// The chain with the state added as its last, the mark of the state's mover put on it, and the states before the
-/// first marked one taken away. A place is one byte, so there is no memory for more than 256 states.
+/// first marked one taken away. A place is one byte, so the chain has at most 255 states.
 pub fn answered(fixed: &Fixed, chain: Chain, next: Signed) -> Result<Chain, NoMemory>
+    requires { length chain.states ≤ 255 }
     ensures { IfOk result (λ c. c ≡ chain_of chain.fixed (answered fixed.now next (marked_of chain))) }
 {
     let Chain {
@@ -87,9 +80,6 @@ pub fn answered(fixed: &Fixed, chain: Chain, next: Signed) -> Result<Chain, NoMe
     let mut states = states.into_vec();
     let mut marks = marks.into_vec();
     let place = states.len();
-    if place > 255 {
-        return Err(NoMemory);
-    }
     let mark = Mark {
         place: place as u8,
         signature: next.signature,
@@ -97,7 +87,7 @@ pub fn answered(fixed: &Fixed, chain: Chain, next: Signed) -> Result<Chain, NoMe
     let mover = mover_at(fixed, next.state.turn());
     put(&mut marks, fixed.keys().len(), mover, mark)?;
     states.push(next.state)?;
-    let first = first_marked(place, &marks);
+    let first = lowest_place(place, &marks);
     forget(&mut states, first);
     lower(&mut marks, first as u8);
     Ok(Chain {

@@ -45,8 +45,8 @@ pub enum Call {
         asset: u32,
         index: u8,
     },
-    /// Pays a destination of a guarantor's list from what the guarantor holds. What is paid is an item of the target. Both
-    /// channels are final, and the outcomes are those that they ended with.
+    /// Pays a destination of a guarantor's list from what the guarantor holds. What is paid is an item of the target.
+    /// Both channels are final, and the outcomes are those that they ended with.
     Claim {
         guarantor: Name,
         guarantor_outcome: Outcome,

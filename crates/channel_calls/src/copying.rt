@@ -7,6 +7,17 @@ use crate::call::{Call, Op};
 use crate::entry::Entry;
 use nitro_bytes::{Chain, Fixed, Listed, Name, NoMemory, Outcome, Signed, State};
 
+fn deposit(channel: Name, asset: u32, expected: u64, amount: u64) -> Call
+    ensures { result ≡ calls.Deposit channel asset expected amount }
+{
+    Call::Deposit {
+        channel,
+        asset,
+        expected,
+        amount,
+    }
+}
+
 fn copy_challenge(chain: &Chain, challenger: u8, signature: &Listed<u8>) -> Result<Call, NoMemory>
     ensures { IfOk result (λ c. c ≡ calls.Challenge chain.now challenger signature.now) }
 {
@@ -36,6 +47,20 @@ fn copy_refute(fixed: &Fixed, next: &Signed) -> Result<Call, NoMemory>
     Ok(Call::Refute { fixed, next })
 }
 
+fn copy_checkpoint(chain: &Chain) -> Result<Call, NoMemory>
+    ensures { IfOk result (λ c. c ≡ calls.Checkpoint chain.now) }
+{
+    let chain = chain.copy()?;
+    Ok(Call::Checkpoint { chain })
+}
+
+fn copy_conclude(chain: &Chain) -> Result<Call, NoMemory>
+    ensures { IfOk result (λ c. c ≡ calls.Conclude chain.now) }
+{
+    let chain = chain.copy()?;
+    Ok(Call::Conclude { chain })
+}
+
 fn copy_transfer(channel: &Name, outcome: &Outcome, asset: u32, index: u8) -> Result<Call, NoMemory>
     ensures { IfOk result (λ c. c ≡ calls.Transfer channel.now outcome.now asset index) }
 {
@@ -48,22 +73,22 @@ fn copy_transfer(channel: &Name, outcome: &Outcome, asset: u32, index: u8) -> Re
     })
 }
 
+/// The guarantor and the target come each with the outcome that it ended with.
 fn copy_claim(
-    guarantor: &Name,
-    guarantor_outcome: &Outcome,
-    target: &Name,
-    target_outcome: &Outcome,
+    guarantor: (&Name, &Outcome),
+    target: (&Name, &Outcome),
     asset: u32,
     position: u8,
 ) -> Result<Call, NoMemory>
-    ensures { IfOk result (λ c. c ≡ calls.Claim guarantor.now guarantor_outcome.now target.now target_outcome.now asset position) }
+    ensures { IfOk result (λ c. c
+        ≡ calls.Claim guarantor.entry.0.now guarantor.entry.1.now target.entry.0.now target.entry.1.now asset position) }
 {
-    let guarantor_outcome = guarantor_outcome.copy()?;
-    let target_outcome = target_outcome.copy()?;
+    let guarantor_outcome = guarantor.1.copy()?;
+    let target_outcome = target.1.copy()?;
     Ok(Call::Claim {
-        guarantor: *guarantor,
+        guarantor: *guarantor.0,
         guarantor_outcome,
-        target: *target,
+        target: *target.0,
         target_outcome,
         asset,
         position,
@@ -80,12 +105,7 @@ pub fn copy_call(call: &Call) -> Result<Call, NoMemory>
             asset,
             expected,
             amount,
-        } => Ok(Call::Deposit {
-            channel: *channel,
-            asset: *asset,
-            expected: *expected,
-            amount: *amount,
-        }),
+        } => Ok(deposit(*channel, *asset, *expected, *amount)),
         Call::Challenge {
             chain,
             challenger,
@@ -93,14 +113,8 @@ pub fn copy_call(call: &Call) -> Result<Call, NoMemory>
         } => copy_challenge(chain, *challenger, signature),
         Call::Respond { fixed, from, next } => copy_respond(fixed, from, next),
         Call::Refute { fixed, next } => copy_refute(fixed, next),
-        Call::Checkpoint { chain } => {
-            let chain = chain.copy()?;
-            Ok(Call::Checkpoint { chain })
-        }
-        Call::Conclude { chain } => {
-            let chain = chain.copy()?;
-            Ok(Call::Conclude { chain })
-        }
+        Call::Checkpoint { chain } => copy_checkpoint(chain),
+        Call::Conclude { chain } => copy_conclude(chain),
         Call::Transfer {
             channel,
             outcome,
@@ -115,10 +129,8 @@ pub fn copy_call(call: &Call) -> Result<Call, NoMemory>
             asset,
             position,
         } => copy_claim(
-            guarantor,
-            guarantor_outcome,
-            target,
-            target_outcome,
+            (guarantor, guarantor_outcome),
+            (target, target_outcome),
             *asset,
             *position,
         ),

@@ -1,57 +1,16 @@
 //! The flows of accepted calls.
 
-ghost use Rattle.std.specs.Prelude.{◌≡◌, option_map};
+ghost use Rattle.std.specs.Prelude.{◌≡◌, ℕ};
 ghost use Rattle.std.specs.Option.{option_to_list};
-ghost use Rattle.channel_calls.specs.Dues.{shape_in};
-ghost use Rattle.channel_calls.specs.History.{item_dest, listed_dest, flow_to, flow_of};
+ghost use Rattle.channel_calls.specs.History.{flow_to, flow_of};
+ghost use Rattle.channel_calls.specs.declared.call.Op.TheVariants as ops;
+ghost use Rattle.channel_calls.specs.declared.refusal.Reply.TheVariants.{Held, Paid};
 
 use crate::call::{Call, Op};
 use crate::funds::Flow;
+use crate::items::{item_dest, listed_dest, shape_in};
 use crate::refusal::Reply;
-use nitro_bytes::{AssetOutcome, Dest, Name, Outcome, Shape};
-
-fn shape_among(assets: &[AssetOutcome], asset: u32) -> Option<&Shape>
-    ensures { option_map (λ s. s.now) result ≡ shape_in assets.now asset }
-{
-    match assets {
-        [] => None,
-        [first, ..] if first.asset == asset => Some(&first.shape),
-        [_, rest @ ..] => shape_among(rest, asset),
-    }
-}
-
-/// What an outcome has for an asset.
-pub fn shape_in(outcome: &Outcome, asset: u32) -> Option<&Shape>
-    ensures { option_map (λ s. s.now) result ≡ shape_in outcome.now asset }
-{
-    shape_among(outcome.assets(), asset)
-}
-
-/// Whom a transfer of an item pays.
-fn item_dest(shape: Option<&Shape>, index: u8) -> Option<Dest>
-    ensures { result ≡ item_dest (option_map (λ s. s.now) shape.entry) index }
-{
-    match shape {
-        Some(Shape::Allocation(items)) => match items.as_slice().get(index as usize) {
-            Some(item) => Some(item.to),
-            None => None,
-        },
-        _ => None,
-    }
-}
-
-/// Whom a claim by a guarantee pays.
-fn listed_dest(shape: Option<&Shape>, position: u8) -> Option<Dest>
-    ensures { result ≡ listed_dest (option_map (λ s. s.now) shape.entry) position }
-{
-    match shape {
-        Some(Shape::Guarantee(_, list)) => match list.as_slice().get(position as usize) {
-            Some(to) => Some(*to),
-            None => None,
-        },
-        _ => None,
-    }
-}
+use nitro_bytes::{Dest, Name};
 
 fn flow_to(from: Option<Name>, to: Option<Dest>, asset: u32, amount: u64) -> Option<Flow>
     ensures { option_to_list result ≡ flow_to from to asset amount }
@@ -67,51 +26,56 @@ fn flow_to(from: Option<Name>, to: Option<Dest>, asset: u32, amount: u64) -> Opt
     }
 }
 
+/// The flow of an accepted deposit.
+fn deposit_flow(call: &Call) -> Option<Flow>
+    ensures { (n : ℕ) → option_to_list result ≡ flow_of (ops.Call call.now) (Held n) }
+{
+    match call {
+        Call::Deposit {
+            channel,
+            asset,
+            amount,
+            ..
+        } => flow_to(None, Some(Dest::Channel(*channel)), *asset, *amount),
+        _ => None,
+    }
+}
+
+/// The flow of a transfer or a claim that paid this much.
+fn payout_flow(call: &Call, amount: u64) -> Option<Flow>
+    ensures { option_to_list result ≡ flow_of (ops.Call call.now) (Paid amount) }
+{
+    match call {
+        Call::Transfer {
+            channel,
+            outcome,
+            asset,
+            index,
+        } => {
+            let to = item_dest(shape_in(outcome, *asset), *index);
+            flow_to(Some(*channel), to, *asset, amount)
+        }
+        Call::Claim {
+            guarantor,
+            guarantor_outcome,
+            asset,
+            position,
+            ..
+        } => {
+            let to = listed_dest(shape_in(guarantor_outcome, *asset), *position);
+            flow_to(Some(*guarantor), to, *asset, amount)
+        }
+        _ => None,
+    }
+}
+
 /// The flow of an accepted call: what a transfer and a claim pay, their replies say.
 pub fn flow_of(op: &Op, reply: &Reply) -> Option<Flow>
     ensures { option_to_list result ≡ flow_of op.now reply.now }
 {
     match (op, reply) {
-        (
-            Op::Call(
-                Call::Deposit {
-                    channel,
-                    asset,
-                    amount,
-                    ..
-                },
-            ),
-            Reply::Held(_),
-        ) => flow_to(None, Some(Dest::Channel(*channel)), *asset, *amount),
-        (
-            Op::Call(
-                Call::Transfer {
-                    channel,
-                    outcome,
-                    asset,
-                    index,
-                },
-            ),
-            Reply::Paid(amount),
-        ) => {
-            let to = item_dest(shape_in(outcome, *asset), *index);
-            flow_to(Some(*channel), to, *asset, *amount)
-        }
-        (
-            Op::Call(
-                Call::Claim {
-                    guarantor,
-                    guarantor_outcome,
-                    asset,
-                    position,
-                    ..
-                },
-            ),
-            Reply::Paid(amount),
-        ) => {
-            let to = listed_dest(shape_in(guarantor_outcome, *asset), *position);
-            flow_to(Some(*guarantor), to, *asset, *amount)
-        }
+        (Op::Call(call), Reply::Held(_)) => deposit_flow(call),
+        (Op::Call(call), Reply::Paid(amount)) => payout_flow(call, *amount),
         _ => None,
     }
 }

@@ -10,6 +10,7 @@ ghost use Rattle.nitro_bytes.specs.Spelled.{SpelledOnce, WrittenBack, ReadAgain,
 ghost use Rattle.channel_calls.specs.Spelling.{call, message};
 ghost use Rattle.channel_calls.specs.Limits.{IsCall, IsMessage};
 ghost use Rattle.channel_calls.specs.Reading.{call_of, message_of};
+ghost use Rattle.channel_calls.specs.Same.{SameCallsAreOne};
 
 /// Of each asset, what was deposited is what the channels hold and the persons were paid.
 #[tactic(auto, using(crate::proofs::Conservation::conserved))]
@@ -31,8 +32,8 @@ pub fn no_channel_pays_more_than_it_holds()
     ensures all { (r : Rules) (h : List Entry) → Legal r h → AreCovered (flows_of h) }
 {}
 
-/// What an accepted transfer or claim pays is taken from one item's rest and from what one channel holds: both are lowered
-/// by it.
+/// What an accepted transfer or claim pays is taken from one item's rest and from what one channel holds: both are
+/// lowered by it.
 pub fn payouts_lower_both()
     ensures transfer { (r : Rules) (h : List Entry) → TransferLowersBoth r h }
     ensures claim { (r : Rules) (h : List Entry) → ClaimLowersBoth r h }
@@ -54,4 +55,9 @@ pub fn laws_of_messages()
     ensures again { ReadAgain message_of message IsMessage }
     ensures fronts { FrontsFail message_of }
     ensures trailing { TrailingFails message_of message IsMessage }
+{}
+
+/// `same_call` answers true of two calls exactly where they are one.
+pub fn same_calls_are_one()
+    ensures { SameCallsAreOne }
 {}

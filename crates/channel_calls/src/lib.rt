@@ -10,10 +10,12 @@ mod event;
 mod flows;
 mod funds;
 mod held_chain;
+mod items;
 mod laws;
 mod reading;
 mod refusal;
 mod row;
+mod same;
 mod states;
 mod told;
 mod view;
@@ -25,17 +27,20 @@ pub use call::{Call, Op};
 pub use copying::{copy_call, copy_entry};
 pub use entry::Entry;
 pub use event::{Deed, Event, NodeRefusal, copy_event};
-pub use flows::{flow_of, shape_in};
+pub use flows::flow_of;
 pub use funds::{Due, Flow, Payment};
 pub use held_chain::{HeldChain, Known, Place};
+pub use items::{listed_dest, place_of, shape_in};
 pub use laws::{
     every_legal_history_conserves, laws_of_calls, laws_of_messages,
     no_channel_pays_more_than_it_holds, nobody_holds_more_than_was_deposited, payouts_lower_both,
+    same_calls_are_one,
 };
 pub use reading::{read_call, read_message};
 pub use refusal::{Refusal, Reply};
-pub use row::Row;
+pub use row::{Row, row_or_blank};
+pub use same::{is_op, parts_are_valid, same_call};
 pub use states::newest;
-pub use told::{fixed_of, time_set, told_row, top_turn};
+pub use told::{fixed_of, time_after, time_set, told_row, top_turn};
 pub use view::{ChannelView, WorldView};
 pub use writing::{write_call, write_message};

@@ -9,8 +9,8 @@ ghost use Rattle.channel_calls.specs.declared.call.Call.{Call as AnyCall};
 
 use crate::call::Call;
 use nitro_bytes::{
-    ByteFault, Name, Signed, place_of, take_byte, take_chain, take_fixed, take_name, take_outcome,
-    take_signature, take_signed, take_state, take_u32, take_u64,
+    ByteFault, Name, Signed, ended, place_of, take_byte, take_chain, take_fixed, take_name,
+    take_outcome, take_signature, take_signed, take_state, take_u32, take_u64,
 };
 use std::alloc::Global;
 
@@ -157,10 +157,7 @@ fn call_from(alloc: Global, bytes: &[u8]) -> Result<Call, ByteFault>
 {
     let whole = bytes.len();
     let (call, rest) = take_call(alloc, whole, bytes)?;
-    if !rest.is_empty() {
-        return Err(ByteFault::Trailing(place_of(whole, rest)));
-    }
-    Ok(call)
+    ended(whole, call, rest)
 }
 
 /// The call that the bytes spell, all of the bytes, or the first fault.
@@ -183,10 +180,7 @@ fn message_from(alloc: Global, bytes: &[u8]) -> Result<(Name, Signed), ByteFault
 {
     let whole = bytes.len();
     let (message, rest) = take_message(alloc, whole, bytes)?;
-    if !rest.is_empty() {
-        return Err(ByteFault::Trailing(place_of(whole, rest)));
-    }
-    Ok(message)
+    ended(whole, message, rest)
 }
 
 /// The channel and the signed state that the bytes spell, all of the bytes, or the first fault.
@@ -194,7 +188,8 @@ pub fn read_message(alloc: Global, bytes: &[u8]) -> Result<(Name, Signed), ByteF
     // What is read keeps the limits, and the input is its spelling.
     ensures found { IfOk result (λ m. IsMessage m × (bytes.now ≡ spelling.message m)) }
     // A spelling is read, unless memory runs out.
-    ensures only { (m : spelling.Message) → IsMessage m → bytes.now ≡ spelling.message m → Gives (λ x. x) result (Ok m) }
+    ensures only { (m : spelling.Message)
+        → IsMessage m → bytes.now ≡ spelling.message m → Gives (λ x. x) result (Ok m) }
     // Which fault it is.
     ensures exact { Gives (λ x. x) result (message_of bytes.now) }
 {

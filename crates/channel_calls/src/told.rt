@@ -4,7 +4,7 @@ ghost use Rattle.std.specs.Prelude.{◌≡◌};
 ghost use Rattle.std.specs.Option.{option_map};
 ghost use Rattle.channel_model.specs.Rules.{top_turn};
 ghost use Rattle.channel_calls.specs.Rows.{fixed_of};
-ghost use Rattle.channel_calls.specs.History.{time_set};
+ghost use Rattle.channel_calls.specs.History.{time_set, or_before};
 ghost use Rattle.channel_calls.specs.Told.{challenged_turn, told_row};
 
 use crate::call::{Call, Op};
@@ -33,6 +33,16 @@ pub fn time_set(entry: &Entry) -> Option<u64>
             Reply::No(_) => None,
             _ => Some(*to),
         },
+    }
+}
+
+/// The time after an entry, from the time before it.
+pub fn time_after(before: u64, entry: &Entry) -> u64
+    ensures { result ≡ or_before (time_set entry.now.op entry.now.reply) before }
+{
+    match time_set(entry) {
+        Some(now) => now,
+        None => before,
     }
 }
 

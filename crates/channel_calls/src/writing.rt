@@ -1,14 +1,18 @@
 //! The canonical bytes of calls and messages.
 
-ghost use Rattle.std.specs.Prelude.{◌≡◌, ◌≤◌, ◌++◌, ◌∷◌, [], length, OnOk};
+ghost use Rattle.std.specs.Prelude.{◌≡◌, ◌≤◌, ◌++◌, ◌∷◌, [], length, OnOk, OnErr};
 ghost use Rattle.std.specs.Int.{w32, w64, to_be_bytes};
 ghost use Rattle.nitro_bytes.specs.Outcomes.{AreBytes, IsName, IsOutcome};
-ghost use Rattle.nitro_bytes.specs.Spelling.{outcome as spell, sized};
+ghost use Rattle.nitro_bytes.specs.Parts.{IsFixed, IsState};
+ghost use Rattle.nitro_bytes.specs.Chains.{IsSigned, IsChain, KeepsLimits};
+ghost use Rattle.nitro_bytes.specs.Spelling.{outcome as spell, fixed as spell_fixed, state as spell_state, signed as spell_signed, chain as spell_chain, sized};
 ghost use Rattle.channel_calls.specs.Spelling.{call, message};
 ghost use Rattle.channel_calls.specs.Limits.{IsCall, IsMessage, KeepsCall, IsShort};
 
 use crate::call::Call;
-use nitro_bytes::{Name, NoMemory, Outcome, Signed, write_chain, write_signed};
+use nitro_bytes::{
+    Chain, Fixed, Name, NoMemory, Outcome, Signed, State, write_chain, write_signed,
+};
 
 /// A name has 32 bytes.
 fn put_name(out: &mut Vec<u8>, name: &Name) -> Result<(), NoMemory>
@@ -21,7 +25,8 @@ fn put_name(out: &mut Vec<u8>, name: &Name) -> Result<(), NoMemory>
 
 /// An asset, and what is expected and brought of it.
 fn put_amounts(out: &mut Vec<u8>, asset: u32, expected: u64, amount: u64) -> Result<(), NoMemory>
-    ensures { OnOk result (out.new.items ≡ out.old.items ++ (to_be_bytes w32 asset ++ (to_be_bytes w64 expected ++ to_be_bytes w64 amount))) }
+    ensures { OnOk result (out.new.items ≡ out.old.items
+        ++ (to_be_bytes w32 asset ++ (to_be_bytes w64 expected ++ to_be_bytes w64 amount))) }
 {
     out.extend_from_slice(&asset.to_be_bytes())?;
     out.extend_from_slice(&expected.to_be_bytes())?;
@@ -36,7 +41,8 @@ fn put_deposit(
     expected: u64,
     amount: u64,
 ) -> Result<(), NoMemory>
-    ensures put { OnOk result (out.new.items ≡ out.old.items ++ (1 ∷ (channel.now ++ (to_be_bytes w32 asset ++ (to_be_bytes w64 expected ++ to_be_bytes w64 amount))))) }
+    ensures put { OnOk result (out.new.items ≡ out.old.items
+        ++ (1 ∷ (channel.now ++ (to_be_bytes w32 asset ++ (to_be_bytes w64 expected ++ to_be_bytes w64 amount))))) }
     ensures fits { OnOk result (IsName channel.now) }
 {
     out.push(1)?;
@@ -82,7 +88,8 @@ fn put_transfer(
     asset: u32,
     index: u8,
 ) -> Result<(), NoMemory>
-    ensures put { OnOk result (out.new.items ≡ out.old.items ++ (7 ∷ (channel.now ++ (spell outcome.now ++ (to_be_bytes w32 asset ++ (index ∷ [])))))) }
+    ensures put { OnOk result (out.new.items ≡ out.old.items
+        ++ (7 ∷ (channel.now ++ (spell outcome.now ++ (to_be_bytes w32 asset ++ (index ∷ [])))))) }
     ensures fits { OnOk result (IsName channel.now × IsOutcome outcome.now) }
 {
     out.push(7)?;
@@ -90,31 +97,88 @@ fn put_transfer(
     put_place(out, asset, index)
 }
 
+/// A chain behind a call's tag.
+#[tactic(auto, unfolding(nitro_bytes::specs::Spelling::chain))]
+fn put_chain(out: &mut Vec<u8>, tag: u8, chain: &Chain) -> Result<(), NoMemory>
+    requires { KeepsLimits chain.now }
+    ensures put { OnOk result (out.new.items ≡ out.old.items ++ (tag ∷ spell_chain chain.now)) }
+    ensures fits { OnOk result (IsChain chain.now) }
+{
+    out.push(tag)?;
+    write_chain(chain, out)
+}
+
+fn put_challenge(
+    out: &mut Vec<u8>,
+    chain: &Chain,
+    challenger: u8,
+    signature: &[u8],
+) -> Result<(), NoMemory>
+    requires keeps { KeepsLimits chain.now }
+    requires short { length signature.now ≤ 9004 }
+    ensures put { OnOk result (out.new.items ≡ out.old.items
+        ++ (2 ∷ (spell_chain chain.now ++ (challenger ∷ sized signature.now)))) }
+    ensures fits { OnOk result (IsChain chain.now × AreBytes signature.now) }
+{
+    put_chain(out, 2, chain)?;
+    out.push(challenger)?;
+    put_signature(out, signature)
+}
+
+fn put_respond(
+    out: &mut Vec<u8>,
+    fixed: &Fixed,
+    from: &State,
+    next: &Signed,
+) -> Result<(), NoMemory>
+    requires { IsShort next.now }
+    ensures put { OnOk result (out.new.items ≡ out.old.items
+        ++ (3 ∷ (spell_fixed fixed.now ++ (spell_state from.now ++ spell_signed next.now)))) }
+    ensures fits { OnOk result (IsFixed fixed.now × IsState from.now × IsSigned next.now) }
+{
+    out.push(3)?;
+    out.extend_from_slice(fixed.bytes())?;
+    out.extend_from_slice(from.bytes())?;
+    write_signed(next, out)
+}
+
+fn put_refute(out: &mut Vec<u8>, fixed: &Fixed, next: &Signed) -> Result<(), NoMemory>
+    requires { IsShort next.now }
+    ensures put { OnOk result (out.new.items ≡ out.old.items
+        ++ (4 ∷ (spell_fixed fixed.now ++ spell_signed next.now))) }
+    ensures fits { OnOk result (IsFixed fixed.now × IsSigned next.now) }
+{
+    out.push(4)?;
+    out.extend_from_slice(fixed.bytes())?;
+    write_signed(next, out)
+}
+
+/// The guarantor and the target come each with the outcome that it ended with.
 fn put_claim(
     out: &mut Vec<u8>,
-    guarantor: &Name,
-    guarantor_outcome: &Outcome,
-    target: &Name,
-    target_outcome: &Outcome,
+    guarantor: (&Name, &Outcome),
+    target: (&Name, &Outcome),
     asset: u32,
     position: u8,
 ) -> Result<(), NoMemory>
-    ensures put { OnOk result (out.new.items ≡ out.old.items ++ (8 ∷ (guarantor.now ++ (spell guarantor_outcome.now
-        ++ (target.now ++ (spell target_outcome.now ++ (to_be_bytes w32 asset ++ (position ∷ [])))))))) }
-    ensures fits { OnOk result (IsName guarantor.now × IsOutcome guarantor_outcome.now × IsName target.now × IsOutcome target_outcome.now) }
+    ensures put { OnOk result (out.new.items ≡ out.old.items
+        ++ (8 ∷ (guarantor.entry.0.now ++ (spell guarantor.entry.1.now
+        ++ (target.entry.0.now ++ (spell target.entry.1.now ++ (to_be_bytes w32 asset ++ (position ∷ [])))))))) }
+    ensures fits { OnOk result (IsName guarantor.entry.0.now × IsOutcome guarantor.entry.1.now
+        × IsName target.entry.0.now × IsOutcome target.entry.1.now) }
 {
     out.push(8)?;
-    put_ending(out, guarantor, guarantor_outcome)?;
-    put_ending(out, target, target_outcome)?;
+    put_ending(out, guarantor.0, guarantor.1)?;
+    put_ending(out, target.0, target.1)?;
     put_place(out, asset, position)
 }
 
-/// Appends the one spelling.
+/// Appends the one spelling; where there is no memory, a part of it may stay.
 #[tactic(auto, unfolding(crate::specs::Spelling::call))]
-pub fn write_call(value: &Call, out: &mut Vec<u8>) -> Result<(), NoMemory>
+fn put_call(out: &mut Vec<u8>, value: &Call) -> Result<(), NoMemory>
     requires { KeepsCall value.now }
-    ensures written { OnOk result (out.new.items ≡ out.old.items ++ call value.now) }
-    ensures valid { OnOk result (IsCall value.now) }
+    ensures put { OnOk result (out.new.items ≡ out.old.items ++ call value.now) }
+    ensures fits { OnOk result (IsCall value.now) }
 {
     match value {
         Call::Deposit {
@@ -127,31 +191,11 @@ pub fn write_call(value: &Call, out: &mut Vec<u8>) -> Result<(), NoMemory>
             chain,
             challenger,
             signature,
-        } => {
-            out.push(2)?;
-            write_chain(chain, out)?;
-            out.push(*challenger)?;
-            put_signature(out, signature.as_slice())
-        }
-        Call::Respond { fixed, from, next } => {
-            out.push(3)?;
-            out.extend_from_slice(fixed.bytes())?;
-            out.extend_from_slice(from.bytes())?;
-            write_signed(next, out)
-        }
-        Call::Refute { fixed, next } => {
-            out.push(4)?;
-            out.extend_from_slice(fixed.bytes())?;
-            write_signed(next, out)
-        }
-        Call::Checkpoint { chain } => {
-            out.push(5)?;
-            write_chain(chain, out)
-        }
-        Call::Conclude { chain } => {
-            out.push(6)?;
-            write_chain(chain, out)
-        }
+        } => put_challenge(out, chain, *challenger, signature.as_slice()),
+        Call::Respond { fixed, from, next } => put_respond(out, fixed, from, next),
+        Call::Refute { fixed, next } => put_refute(out, fixed, next),
+        Call::Checkpoint { chain } => put_chain(out, 5, chain),
+        Call::Conclude { chain } => put_chain(out, 6, chain),
         Call::Transfer {
             channel,
             outcome,
@@ -167,23 +211,47 @@ pub fn write_call(value: &Call, out: &mut Vec<u8>) -> Result<(), NoMemory>
             position,
         } => put_claim(
             out,
-            guarantor,
-            guarantor_outcome,
-            target,
-            target_outcome,
+            (guarantor, guarantor_outcome),
+            (target, target_outcome),
             *asset,
             *position,
         ),
     }
 }
 
-/// Appends the one spelling of a channel's name and a signed state of it.
+/// Appends the one spelling, or nothing where there is no memory.
+pub fn write_call(value: &Call, out: &mut Vec<u8>) -> Result<(), NoMemory>
+    requires { KeepsCall value.now }
+    ensures written { OnOk result (out.new.items ≡ out.old.items ++ call value.now) }
+    ensures valid { OnOk result (IsCall value.now) }
+    ensures kept { OnErr result (out.new.items ≡ out.old.items) }
+{
+    let mut spelling = Vec::new(*out.allocator());
+    put_call(&mut spelling, value)?;
+    out.extend_from_slice(&spelling)?;
+    Ok(())
+}
+
+/// Appends the one spelling; where there is no memory, a part of it may stay.
 #[tactic(auto, unfolding(crate::specs::Spelling::message))]
+fn put_message(out: &mut Vec<u8>, channel: &Name, signed: &Signed) -> Result<(), NoMemory>
+    requires { IsShort signed.now }
+    ensures put { OnOk result (out.new.items ≡ out.old.items ++ message (channel.now, signed.now)) }
+    ensures fits { OnOk result (IsMessage (channel.now, signed.now)) }
+{
+    put_name(out, channel)?;
+    write_signed(signed, out)
+}
+
+/// Appends the one spelling of a channel's name and a signed state of it, or nothing where there is no memory.
 pub fn write_message(channel: &Name, signed: &Signed, out: &mut Vec<u8>) -> Result<(), NoMemory>
     requires { IsShort signed.now }
     ensures written { OnOk result (out.new.items ≡ out.old.items ++ message (channel.now, signed.now)) }
     ensures valid { OnOk result (IsMessage (channel.now, signed.now)) }
+    ensures kept { OnErr result (out.new.items ≡ out.old.items) }
 {
-    put_name(out, channel)?;
-    write_signed(signed, out)
+    let mut spelling = Vec::new(*out.allocator());
+    put_message(&mut spelling, channel, signed)?;
+    out.extend_from_slice(&spelling)?;
+    Ok(())
 }

@@ -10,6 +10,7 @@ use Rattle.deadline_clock.specs.declared.standing.Standing.{Standing}
 use Rattle.deadline_clock.specs.declared.standing.Standing.TheVariants.{Open, Challenged, Final}
 use Rattle.channel_name.specs.Messages.{message_of_state, message_of_challenge}
 use Rattle.channel_model.specs.Chains.{last_of, last_turn}
+use Rattle.channel_model.proofs.Challenges.{challenge_verified}
 use Rattle.channel_model.specs.Rules.{Rules, people, newest, turn_of, top_turn, digest_of, top_digest, signs, signs_state, KeepsFinal}
 use Rattle.channel_model.proofs.Turns.{last_turn_at_most, last_turn_mine}
 use Rattle.channel_calls.specs.Rows.{fixed_of, is_stale, turned}
@@ -30,11 +31,11 @@ use Rattle.net_model.specs.Premises.{in_call, in_line, Unforged, NoCollision, Ar
 use Rattle.net_model.specs.Honest.{Honest, HonestLine, HonestIn, EndsWith}
 use Rattle.net_model.specs.Cleared.{is_conclude, clears, cleared}
 use Rattle.net_model.specs.Safety.{FewAreCleared}
-use Rattle.history_laws.proofs.Tests.{cond-false, cond-true, clash, le_or_lt, and-left, and-right, some-eq, none-eq, lt-false, le-false, le-true, true-le, eqb-true}
-use Rattle.history_laws.proofs.Lists.{Split, split_of, In-append_right, In-append_cases, Suffix, suffix_of, append_assoc'}
+use Rattle.chain_laws.proofs.Tests.{cond-false, cond-true, clash, le_or_lt, and-left, and-right, some-eq, none-eq, lt-false, le-false, le-true, true-le, eqb-true}
+use Rattle.chain_laws.proofs.Lists.{Split, split_of, In-append_right, In-append_cases, Suffix, suffix_of, append_assoc'}
 use Rattle.history_laws.proofs.Rowing.{legal-suffix, now-rises}
 use Rattle.history_laws.proofs.Replies.{taken, challenge_ok, checkpoint_ok, respond_ok, Refutes, refute_ok}
-use Rattle.history_laws.proofs.Chains.{last_turn-low, newest-in, OwnState, own_state, parts}
+use Rattle.chain_laws.proofs.Chains.{last_turn-low, newest-in, OwnState, own_state, parts}
 use Rattle.history_laws.proofs.Places.{made-not_watched, made-noted}
 use Rattle.history_laws.proofs.Keeps.{HoldsNewer}
 use Rattle.history_laws.proofs.Safe.{Setting, MadeLine, honest-at, honest-suffix, noted-held, made-line, by-key, own_line, valid-shown}
@@ -185,7 +186,8 @@ module _ (r : Rules) (key : List ℕ) (F : FixedParts) (h : List Entry) (journal
           verified =
               by-key r key F h journal on (message_of_challenge (top_digest r m.chain.fixed m.chain.states) m.who) m.sig
               (subst (λ (k : ℕ). signs r (slice_get F.keys k) (message_of_challenge (top_digest r m.chain.fixed m.chain.states) m.who) m.sig ≡ true) mine
-              (subst (λ (G : FixedParts). signs r (slice_get F.keys m.who) (message_of_challenge (top_digest r G m.chain.states) m.who) m.sig ≡ true) (sym m.fixed) m.signed))
+              (subst (λ (G : FixedParts). signs r (slice_get F.keys m.who) (message_of_challenge (top_digest r G m.chain.states) m.who) m.sig ≡ true) (sym m.fixed)
+              (challenge_verified r F (newest m.chain.states) m.who m.sig m.signed)))
 
           top-is : newest m.chain.states ≡ Some (last_of a rest)
           top-is = ap newest q

@@ -3,7 +3,8 @@ use Rattle.std.proofs.Common.{◌≡◌, ℕ, zero, suc, ◌+◌, ◌-◌, ◌<�
 use Rattle.std.specs.Prelude.{Option, Some, None}
 use Rattle.std.specs.Str.{bytes_eq}
 use Rattle.nitro_bytes.specs.Parts.{FixedParts, StateParts, IsFixed, IsState, fixed_with, state_with}
-use Rattle.nitro_bytes.specs.Outcomes.{AreBytes, IsName}
+use Rattle.nitro_bytes.specs.Outcomes.{AreBytes, IsName, IsOutcome}
+use Rattle.nitro_bytes.specs.declared.value.AssetOutcome.{AssetOutcome}
 use Rattle.nitro_bytes.specs.declared.chain.Chain.{Chain}
 use Rattle.nitro_bytes.specs.declared.chain.Signed.{Signed}
 use Rattle.nitro_bytes.specs.declared.fault.StepFault.TheVariants.{AfterFinal}
@@ -23,12 +24,12 @@ use Rattle.channel_calls.specs.declared.event.Deed.TheVariants as deeds
 use Rattle.channel_calls.specs.declared.event.NodeRefusal.{NodeRefusal}
 use Rattle.channel_calls.proofs.Names.{same_bytes}
 use Rattle.net_model.specs.Journals.{In, Line, opened, some_if, made_in, noted_in, is_challenge}
-use Rattle.net_model.specs.Strings.{signed_in, states_in, signed_of, WasSignedBy}
-use Rattle.net_model.specs.Premises.{Unforged, OccursFixed, OccursState, in_call, in_line, NoCollision, AreValid, Looked, InTime}
+use Rattle.net_model.specs.Strings.{signed_in, states_in, outcomes_in, signed_of, WasSignedBy}
+use Rattle.net_model.specs.Premises.{Unforged, OccursFixed, OccursState, OccursOutcome, in_call, in_line, NoCollision, AreValid, Looked, InTime}
 use Rattle.net_model.specs.Honest.{key_at, HonestAt, HonestIn, Honest}
 use Rattle.history_laws.specs.Witness.{RunsOutSafely}
-use Rattle.history_laws.proofs.Tests.{clash, some-eq, none-eq}
-use Rattle.history_laws.proofs.Lists.{In-append_right}
+use Rattle.chain_laws.proofs.Tests.{clash, some-eq, none-eq}
+use Rattle.chain_laws.proofs.Lists.{In-append_right}
 
 -- ---- the rules: a signature is the key, a name repeats the nonce, a digest is the turn and the name, and nothing is final
 
@@ -132,7 +133,9 @@ end-is h later past k is len =
 at-opening : HonestAt rules key_a pair [] opening []
 at-opening = record {
   opening = λ o. refl;
+  takes_part = λ i. (0, refl);
   in_plan = λ s m. absurd (none-eq s m);
+  is_open = λ s m. absurd (none-eq s m);
   own_turn = λ s m. absurd (none-eq s m);
   above = λ s m. absurd (none-eq s m);
   holds = λ s m. absurd (none-eq s m);
@@ -144,7 +147,9 @@ at-opening = record {
 at-signing : HonestAt rules key_a pair [] signing (opening ∷ [])
 at-signing = record {
   opening = λ o. absurd cc;
+  takes_part = λ i. absurd i;
   in_plan = λ s m. (nothing, refl);
+  is_open = λ s m. refl;
   own_turn = λ s m. subst (λ (z : Signed). key_at pair z.state.turn ≡ Some key_a) (sym (is-signing s m)) refl;
   above = λ s m y t i n. absurd (nothing-made y t i n);
   holds = λ s m high. absurd (early s (is-signing s m) high);
@@ -168,7 +173,9 @@ at-looking : HonestAt rules key_a pair (challenge ∷ []) looking (signing ∷ o
 unfolding supports last_turn
 at-looking = record {
   opening = λ o. absurd cc;
+  takes_part = λ i. absurd i;
   in_plan = λ s m. absurd (none-eq s m);
+  is_open = λ s m. absurd (none-eq s m);
   own_turn = λ s m. absurd (none-eq s m);
   above = λ s m. absurd (none-eq s m);
   holds = λ s m. absurd (none-eq s m);
@@ -345,6 +352,15 @@ one-turn s t (inl a) (inr b) e = let x : s.turn ≡ 0 = ap (λ (z : StateParts).
 one-turn s t (inr a) (inl b) e = let x : s.turn ≡ 1 = ap (λ (z : StateParts). z.turn) a in let y : t.turn ≡ 0 = ap (λ (z : StateParts). z.turn) b in absurd (omega arith)
 one-turn s t (inr a) (inr b) e = a ∙ sym b
 
+-- all outcomes are empty
+nothing-given : (o : List AssetOutcome) → OccursOutcome history o → o ≡ []
+nothing-given o (e, i, j) = in-history e (λ (z : Entry). In o (outcomes_in z.op) → o ≡ []) i (λ k. absurd k) (λ k. in-states k) j
+  where
+    in-states : In o ([] ∷ [] ∷ []) → o ≡ []
+    in-states (inl e) = e
+    in-states (inr (inl e)) = e
+    in-states (inr (inr i)) = absurd i
+
 distinct : NoCollision rules history journal
 distinct = record {
   names = λ f g a b e. occurring f a ∙ sym (occurring g b);
@@ -352,6 +368,7 @@ distinct = record {
     (known c s a).channel ∙ sym (known d t b).channel,
     one-turn s t (known c s a).state (known d t b).state (heads s.turn t.turn c d e),
   );
+  outcomes = λ o p a b e. nothing-given o a ∙ sym (nothing-given p b);
 }
   where
     heads : (i j : ℕ) (a b : List ℕ) → i ∷ a ≡ j ∷ b → i ≡ j
@@ -393,6 +410,7 @@ valid : AreValid history journal
 valid = record {
   fixed = λ f o. subst IsFixed (sym (occurring f o)) pair-valid;
   states = λ e s i j. in-history e (λ (z : Entry). In s (states_in z.op) → IsState s) i (λ k. absurd k) (λ k. known-valid s (in-challenge s k)) j;
+  outcomes = λ o x. subst IsOutcome (sym (nothing-given o x)) (state-valid 0 (omega arith)).outcome;
   signed = λ x c s i e. (
     subst IsName (sym (known c s (in_line x i e)).channel) name-valid,
     known-valid s (known c s (in_line x i e)).state,

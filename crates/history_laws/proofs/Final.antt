@@ -14,7 +14,7 @@ use Rattle.channel_calls.specs.declared.refusal.Reply.{Reply}
 use Rattle.channel_calls.specs.declared.row.Row.{Row}
 use Rattle.channel_calls.specs.declared.entry.Entry.{Entry}
 use Rattle.net_model.specs.Journals.{In}
-use Rattle.history_laws.proofs.Tests.{cond-false, cond-true, le-false, le-true, and-right}
+use Rattle.chain_laws.proofs.Tests.{cond-false, cond-true, le-false, le-true, and-right}
 use Rattle.history_laws.proofs.Rowing.{LastTurn, last_turn, now-rises, legal-suffix}
 
 pub record Concluded (r : Rules) (c : List ℕ) (e : Entry) : Type 0 where

@@ -23,10 +23,10 @@ use Rattle.net_model.specs.Held.{note, show, held}
 use Rattle.net_model.specs.Premises.{Unforged, NoCollision, AreValid, RunsOut, Looked, InTime}
 use Rattle.net_model.specs.Honest.{HonestLine, HonestIn, Honest}
 use Rattle.net_model.specs.Safety.{IsChannelOf, IsNotOlder, SettlesWell, IsSafe}
-use Rattle.history_laws.proofs.Tests.{cond-false, cond-true, clash, le_or_lt, false-le, and-left, and-right, and-both, some-eq}
-use Rattle.history_laws.proofs.Lists.{Split, split_of, In-append_left, In-append_right, In-append_cases, Suffix, suffix_of, append_assoc', length-up, get-within, one-place}
-use Rattle.history_laws.proofs.Replies.{AllFinal, taken, given, conclude_ok, challenge_ok, checkpoint_taken}
-use Rattle.history_laws.proofs.Chains.{OwnState, own_state, IsClosed}
+use Rattle.chain_laws.proofs.Tests.{cond-false, cond-true, clash, le_or_lt, false-le, and-left, and-right, and-both, some-eq}
+use Rattle.chain_laws.proofs.Lists.{Split, split_of, In-append_left, In-append_right, In-append_cases, Suffix, suffix_of, append_assoc', length-up, get-within, one-place}
+use Rattle.history_laws.proofs.Replies.{taken, given, conclude_ok, challenge_ok, checkpoint_taken}
+use Rattle.chain_laws.proofs.Chains.{AllFinal, OwnState, own_state, IsClosed}
 use Rattle.history_laws.proofs.Rowing.{row-quiet, settled-quiet, now-rises, legal-suffix, time-below}
 use Rattle.history_laws.proofs.Places.{made-not_watched, made-noted, inert, over-entries, over-lines, held-at, held-drop, held-quiet, held-watched}
 use Rattle.history_laws.proofs.Final.{Concluded, Expired, Running, becomes_final, running}

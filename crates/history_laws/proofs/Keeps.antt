@@ -10,37 +10,9 @@ use Rattle.channel_calls.specs.Marked.{Marked, is_supported, answered, next_afte
 use Rattle.net_model.specs.Journals.{Line, noted_in}
 use Rattle.net_model.specs.Held.{note, show}
 use Rattle.net_model.specs.Honest.{EndsWith}
-use Rattle.history_laws.proofs.Tests.{and-left, and-right, or-right, some-eq, none-eq, is-none, eqb-true, lt-true, lt-false}
-use Rattle.history_laws.proofs.Chains.{IsClosed, parts}
-use Rattle.history_laws.proofs.Answering.{answered-supported}
-
--- with a supported chain, a state that extends it makes another one
-pub record Extension (r : Rules) (F : FixedParts) (s : Signed) (w : Marked) : Type 0 where
-  pub before : StateParts
-  pub was : newest w.states ≡ Some before
-  pub turn : s.state.turn ≡ before.turn + 1
-  pub step : r.step F before s.state ≡ None
-  pub chain : is_supported r F (answered F s w) ≡ true
-  pub ends : newest (answered F s w).states ≡ Some s.state
-
-pub extension : (r : Rules) (F : FixedParts) (s : Signed) (w : Marked) → is_supported r F w ≡ true → extends r F s w ≡ true → Extension r F s w
-extension r F s w chain ext =
-    go (newest w.states) refl (eqb-true s.state.turn (next_after (newest w.states)) (and-left (s.state.turn == next_after (newest w.states)) (is_signed_well r F s && is_step r F s.state (newest w.states)) ext))
-    (and-right (is_signed_well r F s) (is_step r F s.state (newest w.states)) tests)
-  where
-    tests : (is_signed_well r F s && is_step r F s.state (newest w.states)) ≡ true
-    tests = and-right (s.state.turn == next_after (newest w.states)) (is_signed_well r F s && is_step r F s.state (newest w.states)) ext
-
-    go : (o : Option StateParts) → newest w.states ≡ o → s.state.turn ≡ next_after o → is_step r F s.state o ≡ true → Extension r F s w
-    go None e turn step = absurd (some-first w.states (parts r F w chain).some e)
-      where
-        some-first : (xs : List StateParts) → 1 ≤ length xs → newest xs ≡ None → ⊥
-        some-first [] h n = absurd (omega arith)
-        some-first (x ∷ xs) h n = none-eq (last_of x xs) (sym n)
-    go (Some t) e turn step =
-        let follows : r.step F t s.state ≡ None = is-none (r.step F t s.state) step in
-        let a = answered-supported r F s t w chain e turn follows (and-left (is_signed_well r F s) (is_step r F s.state (newest w.states)) tests) in
-        record { before = t; was = e; turn = turn; step = follows; chain = a.chain; ends = a.ends }
+use Rattle.chain_laws.proofs.Tests.{and-left, and-right, or-right, some-eq, none-eq, is-none, eqb-true, lt-true, lt-false}
+use Rattle.chain_laws.proofs.Chains.{IsClosed, parts}
+use Rattle.chain_laws.proofs.Growing.{extension}
 
 -- a chain is held, of at least this turn
 pub record HoldsNewer (r : Rules) (F : FixedParts) (turn : ℕ) (st : Option Marked) : Type 0 where

@@ -1,13 +1,11 @@
-pub mod Tests
-pub mod Lists
 pub mod Rowing
 pub mod Replies
-pub mod Chains
-pub mod Answering
 pub mod Final
+pub mod Settled
 pub mod Places
 pub mod Keeps
 pub mod Safe
+pub mod Taking
 pub mod Headline
 pub mod Opening
 pub mod Since

@@ -20,13 +20,13 @@ use Rattle.channel_calls.specs.declared.entry.Entry.{Entry}
 use Rattle.net_model.specs.Journals.{In, Line}
 use Rattle.net_model.specs.Strings.{states_in}
 use Rattle.net_model.specs.Premises.{in_call}
-use Rattle.history_laws.proofs.Tests.{cond-false, cond-true, and-left, le-false}
-use Rattle.history_laws.proofs.Lists.{In-append_right, append_assoc'}
+use Rattle.chain_laws.proofs.Tests.{cond-false, cond-true, and-left, le-false}
+use Rattle.chain_laws.proofs.Lists.{In-append_right, append_assoc'}
 use Rattle.history_laws.proofs.Rowing.{row-quiet, legal-suffix}
 use Rattle.history_laws.proofs.Replies.{taken, Challenges, challenge_ok, Responds, respond_ok}
-use Rattle.history_laws.proofs.Chains.{newest-in, parts}
+use Rattle.chain_laws.proofs.Chains.{newest-in, parts}
 use Rattle.history_laws.proofs.Final.{Running, running}
-use Rattle.history_laws.proofs.Answering.{Answered, answered-supported}
+use Rattle.chain_laws.proofs.Answering.{Answered, answered-supported}
 use Rattle.history_laws.proofs.Safe.{Setting}
 use Rattle.history_laws.proofs.Headline.{fixed-is}
 

@@ -16,8 +16,8 @@ use Rattle.channel_calls.specs.declared.event.Deed.{Deed}
 use Rattle.channel_calls.specs.declared.event.Deed.TheVariants as deeds
 use Rattle.net_model.specs.Journals.{In, Line, is_watched, is_followed, opens, made_in, noted_in}
 use Rattle.net_model.specs.Held.{note, show, slot, held}
-use Rattle.history_laws.proofs.Tests.{cond-false, cond-true, eqb-false}
-use Rattle.history_laws.proofs.Lists.{length-up}
+use Rattle.chain_laws.proofs.Tests.{cond-false, cond-true, eqb-false}
+use Rattle.chain_laws.proofs.Lists.{length-up}
 
 -- ---- what a deed is not
 

@@ -28,13 +28,9 @@ use Rattle.channel_calls.specs.declared.refusal.Reply.TheVariants.{Until, Opened
 use Rattle.channel_calls.specs.declared.row.Row.{Row}
 use Rattle.channel_calls.specs.declared.entry.Entry.{Entry}
 use Rattle.channel_calls.proofs.Names.{same_bytes}
-use Rattle.history_laws.proofs.Tests.{not-false, le-false, eqb-true}
+use Rattle.chain_laws.proofs.Tests.{not-false, le-false, eqb-true}
+use Rattle.chain_laws.proofs.Chains.{AllFinal}
 use Rattle.history_laws.proofs.Rowing.{passes, passes-fault, refuse-false, told-ok}
-
--- every state is final
-abbrev pub AllFinal : List StateParts → Type 0
-AllFinal [] = Unit {0}
-AllFinal (s ∷ rest) = (s.is_final ≡ true) × AllFinal rest
 
 pub all_final : (i : ℕ) (states : List StateParts) → first_unfinished i states ≡ None → AllFinal states
 all_final i [] h = tt

@@ -15,7 +15,7 @@ use Rattle.channel_calls.specs.declared.refusal.Reply.TheVariants.{Now, No}
 use Rattle.channel_calls.specs.declared.row.Row.{Row}
 use Rattle.channel_calls.specs.declared.entry.Entry.{Entry}
 use Rattle.net_model.specs.Journals.{In}
-use Rattle.history_laws.proofs.Tests.{cond-true, cond-false, lt-false}
+use Rattle.chain_laws.proofs.Tests.{cond-true, cond-false, lt-false}
 
 pub passes : {A : Type 0} (b : Bool) (f : Refusal) (rest : Result A Refusal) (v : A) → refuse_if b f rest ≡ Ok v → (b ≡ false) × (rest ≡ Ok v)
 passes true f rest v h = cc

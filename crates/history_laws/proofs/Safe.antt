@@ -25,12 +25,12 @@ use Rattle.net_model.specs.Held.{note, show, held}
 use Rattle.net_model.specs.Strings.{signed_marks, signed_in, states_in, signed_of, string_of, WasSignedBy}
 use Rattle.net_model.specs.Premises.{Unforged, OccursFixed, in_call, in_line, NoCollision, AreValid}
 use Rattle.net_model.specs.Honest.{key_at, HonestAt, HonestLine, HonestIn}
-use Rattle.history_laws.proofs.Tests.{cond-false, cond-true, and-left, and-right, some-eq, none-eq}
-use Rattle.history_laws.proofs.Lists.{Split, split_of, In-append_left, In-append_right, In-append_cases, In-get, Suffix, suffix_of, append_assoc', length-up}
-use Rattle.history_laws.proofs.Chains.{AreStates, IsClosed, from_mark, OwnState, own_state}
+use Rattle.chain_laws.proofs.Tests.{cond-false, cond-true, and-left, and-right, some-eq, none-eq}
+use Rattle.chain_laws.proofs.Lists.{Split, split_of, In-append_left, In-append_right, In-append_cases, In-get, Suffix, suffix_of, append_assoc', length-up}
+use Rattle.chain_laws.proofs.Chains.{AreStates, IsClosed, from_mark, OwnState, own_state}
 use Rattle.history_laws.proofs.Rowing.{legal-suffix}
 use Rattle.history_laws.proofs.Replies.{taken, challenge_ok}
-use Rattle.history_laws.proofs.Answering.{PlacesIn, supported-places, answered-signed, answered-states}
+use Rattle.chain_laws.proofs.Answering.{PlacesIn, supported-places, answered-signed, answered-states}
 use Rattle.history_laws.proofs.Places.{noted-not_watched, made-not_watched, made-noted, slot-lasts, over-entries, over-lines, held-at}
 use Rattle.history_laws.proofs.Keeps.{HoldsNewer, HoldsClosed, note-newer, note-closed, show-newer, show-closed, adopted-at, ends-newer, ends-closed}
 

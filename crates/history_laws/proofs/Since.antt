@@ -12,9 +12,9 @@ use Rattle.net_model.specs.Journals.{In, Line, made_in}
 use Rattle.net_model.specs.Premises.{Unforged, NoCollision, AreValid}
 use Rattle.net_model.specs.Honest.{Honest, HonestIn}
 use Rattle.net_model.specs.Safety.{StepsAfter, IsLast, HasStepsAfterLast}
-use Rattle.history_laws.proofs.Tests.{some-eq}
-use Rattle.history_laws.proofs.Lists.{Suffix, suffix_of, append_assoc'}
-use Rattle.history_laws.proofs.Chains.{OwnState, own_state}
+use Rattle.chain_laws.proofs.Tests.{some-eq}
+use Rattle.chain_laws.proofs.Lists.{Suffix, suffix_of, append_assoc'}
+use Rattle.chain_laws.proofs.Chains.{OwnState, own_state}
 use Rattle.history_laws.proofs.Safe.{Setting, MadeLine, own_line, made-mover, valid-shown}
 use Rattle.history_laws.proofs.Headline.{setting}
 

@@ -1,46 +1,41 @@
--- Where names and digests are hashes and no two strings have one, names tell fixed parts and digests tell states.
-use Rattle.std.proofs.Common.{◌≡◌, ℕ, suc, ◌<◌, Bool, true, false, cond, List, [], ◌∷◌, inl, inr, length, refl, sym, ap, subst, ◌∙◌, arith}
-use Rattle.std.specs.Prelude.{Option, Some, flat_map, Contains}
+-- Where names and digests are hashes and no two strings have one, names tell fixed parts, and digests states and outcomes.
+use Rattle.std.proofs.Common.{◌≡◌, ℕ, Bool, true, false, cond, List, [], ◌⊎◌, inl, inr, length, refl, sym, ap, subst, ◌∙◌}
+use Rattle.std.specs.Prelude.{Option, Some, map, flat_map}
 use Rattle.nitro_bytes.specs.Parts.{FixedParts, StateParts, IsState}
-use Rattle.nitro_bytes.specs.Spelling.{fixed, state}
+use Rattle.nitro_bytes.specs.Spelling.{fixed, state, outcome}
+use Rattle.nitro_bytes.specs.declared.value.AssetOutcome.{AssetOutcome}
 use Rattle.nitro_bytes.proofs.Format.{spelled_once}
-use Rattle.nitro_bytes.proofs.Formats.{fixed_format, state_format}
+use Rattle.nitro_bytes.proofs.Formats.{fixed_format, state_format, outcome_format}
 use Rattle.sha2.proofs.Facts256.{length-sha256}
 use Rattle.channel_name.specs.Digests.{channel_string, state_string, name_of_channel}
 use Rattle.channel_name.specs.Laws.{Tells}
 use Rattle.channel_name.proofs.Telling.{digests_tell}
 use Rattle.channel_model.specs.Rules.{Rules}
+use Rattle.channel_calls.specs.Rows.{fixed_of}
+use Rattle.channel_calls.specs.declared.call.Call.TheVariants.{Deposit, Challenge, Respond, Refute, Checkpoint, Conclude, Transfer, Claim}
+use Rattle.channel_calls.specs.declared.call.Op.{Op}
+use Rattle.channel_calls.specs.declared.call.Op.TheVariants as ops
 use Rattle.channel_calls.specs.declared.entry.Entry.{Entry}
 use Rattle.channel_calls.specs.declared.event.Deed.{Deed}
 use Rattle.channel_calls.specs.declared.event.Deed.TheVariants as deeds
 use Rattle.net_model.specs.Journals.{In, Line, is_followed, opened}
-use Rattle.net_model.specs.Strings.{states_in, signed_of}
-use Rattle.net_model.specs.Hashed.{of_fixed, of_state, of_states, of_op, of_deed, of_line, hashed}
-use Rattle.net_model.specs.Premises.{OccursFixed, OccursState, in_call, in_line, AreValid}
+use Rattle.net_model.specs.Strings.{states_in, given_in, outcomes_in, signed_of}
+use Rattle.net_model.specs.Hashed.{of_fixed, of_outcome, of_state, of_states, of_op, of_entry, of_deed, of_line, hashed}
+use Rattle.net_model.specs.Premises.{OccursFixed, OccursState, OccursOutcome, in_call, in_line, AreValid}
 use Rattle.history_laws.specs.Hashing.{Hashes, StringsTell, HashedOutcomesAreNotOlder, HashedChainsHaveTheSteps, FewHashedChallengesAreCleared}
-use Rattle.history_laws.proofs.Tests.{some-eq}
-use Rattle.history_laws.proofs.Lists.{In-append_left, In-append_right}
+use Rattle.chain_laws.proofs.Tests.{some-eq}
+use Rattle.net_model.proofs.Members.{In-append_left, In-append_right, In-append_cases, In-map, In-flat_map, mapped, contains}
 use Rattle.history_laws.proofs.Headline.{safe}
 use Rattle.history_laws.proofs.Since.{has_steps}
 use Rattle.history_laws.proofs.Clearing.{few-cleared}
 
-contains : {A : Type 0} (x : A) (xs : List A) → In x xs → Contains xs x
-contains x [] i = absurd i
-contains x (y ∷ xs) (inl e) = (0, omega arith, sym e)
-contains x (y ∷ xs) (inr i) = let c = contains x xs i in (suc c.0, (let l : c.0 < length xs = c.1 in omega arith), c.2)
-
-In-flat_map : {A B : Type 0} (f : A → List B) (b : B) (x : A) (xs : List A) → In x xs → In b (f x) → In b (flat_map f xs)
-In-flat_map f b x [] i j = absurd i
-In-flat_map f b x (y ∷ xs) (inl e) j = In-append_left b (f y) (flat_map f xs) (subst (λ z. In b (f z)) e j)
-In-flat_map f b x (y ∷ xs) (inr i) j = In-append_right b (f y) (flat_map f xs) (In-flat_map f b x xs i j)
-
 -- ---- which strings there are
 
 in-entry : (h : List Entry) (journal : List Line) (e : Entry) (b : List ℕ) → In e h → In b (of_op e.op) → In b (hashed h journal)
-in-entry h journal e b i j = In-append_left b (flat_map (λ (k : Entry). of_op k.op) h) (flat_map of_line journal) (In-flat_map (λ (k : Entry). of_op k.op) b e h i j)
+in-entry h journal e b i j = In-append_left b (flat_map of_entry h) (flat_map of_line journal) (In-flat_map of_entry b e h i j)
 
 in-journal : (h : List Entry) (journal : List Line) (x : Line) (b : List ℕ) → In x journal → In b (of_line x) → In b (hashed h journal)
-in-journal h journal x b i j = In-append_right b (flat_map (λ (k : Entry). of_op k.op) h) (flat_map of_line journal) (In-flat_map of_line b x journal i j)
+in-journal h journal x b i j = In-append_right b (flat_map of_entry h) (flat_map of_line journal) (In-flat_map of_line b x journal i j)
 
 added : (x : Line) (f : FixedParts) → In f (opened x) → In f x.adds
 added x f i = go (is_followed x.deed) i
@@ -51,7 +46,9 @@ added x f i = go (is_followed x.deed) i
 
 fixed-there : (h : List Entry) (journal : List Line) (f : FixedParts) → OccursFixed h journal f → In (channel_string (fixed f)) (hashed h journal)
 fixed-there h journal f (inl o) =
-    in-entry h journal o.0 (channel_string (fixed f)) o.1 (subst (λ (k : Option FixedParts). In (channel_string (fixed f)) (of_states k (states_in o.0.op))) (sym o.2) (inl refl))
+    in-entry h journal o.0 (channel_string (fixed f)) o.1
+    (In-append_left (channel_string (fixed f)) (of_states (fixed_of o.0.op) (states_in o.0.op)) (map of_outcome (given_in o.0.op))
+    (subst (λ (k : Option FixedParts). In (channel_string (fixed f)) (of_states k (states_in o.0.op))) (sym o.2) (inl refl)))
 fixed-there h journal f (inr o) =
     in-journal h journal o.0 (channel_string (fixed f)) o.1
     (In-append_left (channel_string (fixed f)) (flat_map of_fixed o.0.adds) (of_deed o.0.deed) (In-flat_map of_fixed (channel_string (fixed f)) f o.0.adds (added o.0 f o.2) (inl refl)))
@@ -86,8 +83,8 @@ state-there r h journal by valid c s (in_call e f i has named j) =
       name = subst (λ (b : List ℕ). length b ≡ 32) is (name-length f);
       string = subst (λ (b : List ℕ). In (state_string b (state s)) (hashed h journal)) is
           (in-entry h journal e (state_string (name_of_channel (fixed f)) (state s)) i
-          (subst (λ (k : Option FixedParts). In (state_string (name_of_channel (fixed f)) (state s)) (of_states k (states_in e.op))) (sym has)
-          (In-append_right (state_string (name_of_channel (fixed f)) (state s)) (of_fixed f) (flat_map (of_state (name_of_channel (fixed f))) (states_in e.op)) (In-flat_map (of_state (name_of_channel (fixed f))) (state_string (name_of_channel (fixed f)) (state s)) s (states_in e.op) j (inl refl)))));
+          (In-append_left (state_string (name_of_channel (fixed f)) (state s)) (of_states (fixed_of e.op) (states_in e.op)) (map of_outcome (given_in e.op)) (subst (λ (k : Option FixedParts). In (state_string (name_of_channel (fixed f)) (state s)) (of_states k (states_in e.op))) (sym has)
+          (In-append_right (state_string (name_of_channel (fixed f)) (state s)) (of_fixed f) (flat_map (of_state (name_of_channel (fixed f))) (states_in e.op)) (In-flat_map (of_state (name_of_channel (fixed f))) (state_string (name_of_channel (fixed f)) (state s)) s (states_in e.op) j (inl refl))))));
     }
 state-there r h journal by valid c s (in_line x i e) =
     record {
@@ -98,6 +95,40 @@ state-there r h journal by valid c s (in_line x i e) =
 state-valid : (r : Rules) (h : List Entry) (journal : List Line) → AreValid h journal → (c : List ℕ) (s : StateParts) → OccursState r h journal c s → IsState s
 state-valid r h journal valid c s (in_call e f i has named j) = valid.states e s i j
 state-valid r h journal valid c s (in_line x i e) = (valid.signed x c s i e).1
+
+-- ---- outcomes
+
+-- an op that has a state has a fixed part
+has-fixed : (op : Op) (s : StateParts) → In s (states_in op) → (f : FixedParts) × (fixed_of op ≡ Some f)
+has-fixed (ops.Call (Deposit channel asset expected amount)) s i = absurd i
+has-fixed (ops.Call (Challenge chain who signature)) s i = (chain.fixed, refl)
+has-fixed (ops.Call (Respond f from next)) s i = (f, refl)
+has-fixed (ops.Call (Refute f next)) s i = (f, refl)
+has-fixed (ops.Call (Checkpoint chain)) s i = (chain.fixed, refl)
+has-fixed (ops.Call (Conclude chain)) s i = (chain.fixed, refl)
+has-fixed (ops.Call (Transfer channel o asset index)) s i = absurd i
+has-fixed (ops.Call (Claim guarantor promise target o asset position)) s i = absurd i
+has-fixed (ops.Time t) s i = absurd i
+
+-- the string of an outcome of an op is one of the op's
+outcome-of_op : (op : Op) (o : List AssetOutcome) → In o (outcomes_in op) → In (of_outcome o) (of_op op)
+outcome-of_op op o i = go (In-append_cases o (given_in op) (map (λ (s : StateParts). s.outcome) (states_in op)) i)
+  where
+    of_state-there : (c : List ℕ) (s : StateParts) → o ≡ s.outcome → In (of_outcome o) (of_state c s)
+    of_state-there c s e = inr (inl (ap of_outcome e))
+
+    go : In o (given_in op) ⊎ In o (map (λ (s : StateParts). s.outcome) (states_in op)) → In (of_outcome o) (of_op op)
+    go (inl j) = In-append_right (of_outcome o) (of_states (fixed_of op) (states_in op)) (map of_outcome (given_in op)) (In-map of_outcome o (given_in op) j)
+    go (inr j) =
+        let m = mapped (λ (s : StateParts). s.outcome) o (states_in op) j in
+        let f = has-fixed op m.from m.there in
+        In-append_left (of_outcome o) (of_states (fixed_of op) (states_in op)) (map of_outcome (given_in op))
+        (subst (λ (k : Option FixedParts). In (of_outcome o) (of_states k (states_in op))) (sym f.1)
+        (In-append_right (of_outcome o) (of_fixed f.0) (flat_map (of_state (name_of_channel (fixed f.0))) (states_in op))
+        (In-flat_map (of_state (name_of_channel (fixed f.0))) (of_outcome o) m.from (states_in op) m.there (of_state-there (name_of_channel (fixed f.0)) m.from m.is))))
+
+outcome-there : (h : List Entry) (journal : List Line) (o : List AssetOutcome) → OccursOutcome h o → In (of_outcome o) (hashed h journal)
+outcome-there h journal o x = in-entry h journal x.0 (of_outcome o) x.1 (outcome-of_op x.0.op o x.2)
 
 -- ---- what they tell
 
@@ -113,6 +144,9 @@ tells r h journal by valid none = record {
       (sym (by.digest c s) ∙ (e ∙ by.digest d t)) in
       (k.0, spelled_once state_format s t (state-valid r h journal valid c s a) (state-valid r h journal valid d t b) k.1)
       );
+  outcomes = λ o p a b e. spelled_once outcome_format o p (valid.outcomes o a) (valid.outcomes p b)
+      (told.outcomes (outcome o) (outcome p) (contains (of_outcome o) (hashed h journal) (outcome-there h journal o a)) (contains (of_outcome p) (hashed h journal) (outcome-there h journal p b))
+      (sym (by.outcome_digest o) ∙ (e ∙ by.outcome_digest p)));
 }
   where
     told : Tells (hashed h journal)

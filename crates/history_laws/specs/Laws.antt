@@ -7,28 +7,38 @@ use Rattle.channel_calls.specs.declared.entry.Entry.{Entry}
 use Rattle.net_model.specs.Journals.{Line}
 use Rattle.net_model.specs.Held.{held, IsGoodIfAny}
 use Rattle.net_model.specs.Premises.{Unforged, NoCollision, AreValid, InTime}
-use Rattle.net_model.specs.Honest.{Honest}
+use Rattle.net_model.specs.Honest.{Honest, TakesPart}
 use Rattle.net_model.specs.Safety.{IsSafe, HasStepsAfterLast, FewAreCleared}
 
--- no outcome becomes final for an honest participant with watchers in time that is older than what it noted or was shown
+-- no outcome becomes final for an honest participant with watchers in time that is older than what it noted or was
+-- shown
 abbrev pub OutcomesAreNotOlder : Type 0
 OutcomesAreNotOlder =
-    (r : Rules) (key : List ℕ) (h : List Entry) (journal : List Line) → KeepsFinal r → Legal r h → Honest r key h journal
-    → Unforged r key h journal → NoCollision r h journal → AreValid h journal → InTime r h journal → IsSafe r key h journal
+    (r : Rules) (key : List ℕ) (h : List Entry) (journal : List Line) → KeepsFinal r → Legal r h
+    → Honest r key h journal → Unforged r key h journal → NoCollision r h journal → AreValid h journal
+    → InTime r h journal → IsSafe r key h journal
 
 -- what is held is the first round so far, or a supported chain
 abbrev pub HeldChainsAreSupported : Type 0
 HeldChainsAreSupported =
-    (r : Rules) (f : FixedParts) (h : List Entry) (journal : List Line) → 1 ≤ people f → IsGoodIfAny r f (held r f h journal)
+    (r : Rules) (f : FixedParts) (h : List Entry) (journal : List Line) → 1 ≤ people f
+    → IsGoodIfAny r f (held r f h journal)
 
 -- each step after the last state that a participant signed is in each chain that is shown at its turn or later
 abbrev pub ShownChainsHaveTheSteps : Type 0
 ShownChainsHaveTheSteps =
-    (r : Rules) (key : List ℕ) (h : List Entry) (journal : List Line) → KeepsFinal r → Legal r h → Honest r key h journal
-    → Unforged r key h journal → NoCollision r h journal → AreValid h journal → HasStepsAfterLast r key h journal
+    (r : Rules) (key : List ℕ) (h : List Entry) (journal : List Line) → KeepsFinal r → Legal r h
+    → Honest r key h journal → Unforged r key h journal → NoCollision r h journal
+    → AreValid h journal → HasStepsAfterLast r key h journal
 
 -- of a participant's challenges of a channel of n, at most n - 1 are cleared by another entry than a conclude
 abbrev pub FewChallengesAreCleared : Type 0
 FewChallengesAreCleared =
-    (r : Rules) (key : List ℕ) (h : List Entry) (journal : List Line) → KeepsFinal r → Legal r h → Honest r key h journal
-    → Unforged r key h journal → NoCollision r h journal → AreValid h journal → FewAreCleared r key h journal
+    (r : Rules) (key : List ℕ) (h : List Entry) (journal : List Line) → KeepsFinal r → Legal r h
+    → Honest r key h journal → Unforged r key h journal → NoCollision r h journal
+    → AreValid h journal → FewAreCleared r key h journal
+
+-- an honest participant is in each channel that its journal opens
+abbrev pub HonestTakePart : Type 0
+HonestTakePart =
+    (r : Rules) (key : List ℕ) (h : List Entry) (journal : List Line) → Honest r key h journal → TakesPart key journal

@@ -1,3 +1,4 @@
 pub mod Laws
 pub mod Hashing
+pub mod Settled
 pub mod Witness

@@ -1,9 +1,10 @@
-//! The same where names and digests are hashes, as the network's are, and no two of the strings that are hashed have one.
+//! The same where names and digests are hashes, as the network's are, and no two of the strings that are hashed have
+//! one.
 
 ghost use Rattle.history_laws.specs.Hashing.{StringsTell, HashedOutcomesAreNotOlder, HashedChainsHaveTheSteps, FewHashedChallengesAreCleared};
 
-/// Where none of the strings that a history and a journal hash collide, a name tells its fixed part, and a digest of a
-/// state tells its channel and the state.
+/// Where none of the strings that a history and a journal hash collide, a name tells its fixed part, the digest of a
+/// state its channel and the state, and the digest of an outcome the outcome.
 pub fn strings_tell()
     ensures { StringsTell }
 {}

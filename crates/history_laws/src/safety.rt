@@ -1,6 +1,7 @@
 //! What an honest participant is safe from, over any rules.
 
-ghost use Rattle.history_laws.specs.Laws.{OutcomesAreNotOlder, HeldChainsAreSupported, ShownChainsHaveTheSteps, FewChallengesAreCleared};
+ghost use Rattle.history_laws.specs.Settled.{FinalOutcomesAreTold};
+ghost use Rattle.history_laws.specs.Laws.{OutcomesAreNotOlder, HeldChainsAreSupported, ShownChainsHaveTheSteps, FewChallengesAreCleared, HonestTakePart};
 
 /// At the entry by which a channel of an honest participant becomes final, with watchers in time, nothing forged and no
 /// collision, its outcome isn't older than the newest supported state: each state that the participant noted and each
@@ -24,4 +25,15 @@ pub fn shown_chains_have_the_steps()
 /// entry before they run out, a conclude not counted.
 pub fn few_challenges_are_cleared()
     ensures { FewChallengesAreCleared }
+{}
+
+/// Where no digests collide, the digest of an outcome tells what a final channel ended with: it has settled on an
+/// outcome of an entry, and whatever outcome a transfer or a claim gives that has the recorded digest is that one.
+pub fn final_outcomes_are_told()
+    ensures { FinalOutcomesAreTold }
+{}
+
+/// An honest participant is in each channel that its journal opens.
+pub fn honest_participants_take_part()
+    ensures { HonestTakePart }
 {}

@@ -1,4 +1,5 @@
--- How many challenges of a participant are cleared: followed by another turning entry than a conclude before they run out.
+-- How many challenges of a participant are cleared: followed by another turning entry than a conclude before they run
+-- out.
 use Rattle.std.specs.Prelude.{ℕ, suc, ◌==◌, Bool, true, false, not, ◌&&◌, List, [], ◌∷◌, if◌then◌else◌}
 use Rattle.deadline_clock.specs.Mode.{is_challenged}
 use Rattle.channel_model.specs.Rules.{Rules}
@@ -14,8 +15,11 @@ is_conclude _ = false
 
 -- the entry clears a challenge of the participant at this position, which is open
 abbrev pub clears : Rules → List ℕ → ℕ → List Entry → Entry → Bool
-clears r channel me past e = (turning r channel e && not (is_conclude e.op)) && (is_challenged (mode r channel past) && ((row r channel past).challenger == me))
+clears r channel me past e =
+    (turning r channel e && not (is_conclude e.op))
+    && (is_challenged (mode r channel past) && ((row r channel past).challenger == me))
 
 abbrev pub cleared : Rules → List ℕ → ℕ → List Entry → ℕ
 cleared r channel me [] = 0
-cleared r channel me (e ∷ past) = if clears r channel me past e then suc (cleared r channel me past) else cleared r channel me past
+cleared r channel me (e ∷ past) =
+    if clears r channel me past e then suc (cleared r channel me past) else cleared r channel me past

@@ -28,7 +28,8 @@ slot r f k (x ∷ front) st = if x.seen == k then note r f x (slot r f k front s
 -- what is held of the channel after these entries and the lines that had seen at most these
 abbrev pub held : Rules → FixedParts → List Entry → List Line → Option Marked
 held r f [] journal = slot r f 0 journal None
-held r f (e ∷ past) journal = slot r f (suc (length past)) journal (show r f (shown r (r.named f) past e) (held r f past journal))
+held r f (e ∷ past) journal =
+    slot r f (suc (length past)) journal (show r f (shown r (r.named f) past e) (held r f past journal))
 
 -- each state has the turn after the one before it, and follows from it
 abbrev pub InTurn : List StateParts → Type 0
@@ -47,7 +48,8 @@ pub record IsYoung (r : Rules) (f : FixedParts) (w : Marked) : Type 0 where
   pub turns : InTurn w.states
   pub steps : InSteps r f w.states
   pub at : (i : ℕ) (mark : Mark) → slice_get w.marks i ≡ Some mark → mark.place ≡ i
-  pub well : (i : ℕ) (mark : Mark) (s : StateParts) → slice_get w.marks i ≡ Some mark → slice_get w.states i ≡ Some s → signs_state r f i s mark.signature ≡ true
+  pub well : (i : ℕ) (mark : Mark) (s : StateParts) → slice_get w.marks i ≡ Some mark → slice_get w.states i ≡ Some s
+      → signs_state r f i s mark.signature ≡ true
 
 -- the first round so far, or a supported chain
 abbrev pub IsGood : Rules → FixedParts → Marked → Type 0

@@ -1,9 +1,10 @@
--- What an honest participant's journal keeps, on which safety rests: what it had seen, its own turns, held chains, looks.
+-- What an honest participant's journal keeps, on which safety rests: what it had seen, its own turns, held chains,
+-- looks.
 use Rattle.std.specs.Prelude.{◌≡◌, ℕ, ◌+◌, ◌<◌, ◌≤◌, true, false, List, [], ◌∷◌, ◌++◌, length, Option, Some, None}
 use Rattle.std.specs.List.{slice_get}
 use Rattle.nitro_bytes.specs.Parts.{FixedParts, StateParts}
 use Rattle.nitro_bytes.specs.declared.chain.Signed.{Signed}
-use Rattle.deadline_clock.specs.declared.standing.Standing.TheVariants.{Challenged}
+use Rattle.deadline_clock.specs.declared.standing.Standing.TheVariants.{Open, Challenged}
 use Rattle.channel_model.specs.Chains.{mover}
 use Rattle.channel_model.specs.Rules.{Rules, people, newest, top_turn}
 use Rattle.channel_calls.specs.History.{row, mode}
@@ -27,11 +28,14 @@ pub record EndsWith (r : Rules) (f : FixedParts) (st : Option Marked) (s : State
   pub chain_supported : is_supported r f chain ≡ true
 
 -- What the line x keeps in the channel f, where `past` is what it had seen and `front` the journal before it.
-pub record HonestAt (r : Rules) (key : List ℕ) (f : FixedParts) (past : List Entry) (x : Line) (front : List Line) : Type 0 where
-  -- a channel is opened once
+pub record HonestAt (r : Rules) (key : List ℕ) (f : FixedParts) (past : List Entry) (x : Line) (front : List Line)
+    : Type 0 where
+  -- a channel is opened once, by one of its participants
   pub opening : opens r (r.named f) x ≡ true → held r f past front ≡ None
-  -- what it signs is of a channel of the plan, at its turn, and above what it signed there before
+  pub takes_part : In f (opened x) → (me : ℕ) × (slice_get f.keys me ≡ Some key)
+  -- what it signs is of a channel of the plan that is open, at its turn, and above what it signed there before
   pub in_plan : (s : Signed) → made_in (r.named f) x.deed ≡ Some s → (w : Marked) × (held r f past front ≡ Some w)
+  pub is_open : (s : Signed) → made_in (r.named f) x.deed ≡ Some s → mode r (r.named f) past ≡ Open
   pub own_turn : (s : Signed) → made_in (r.named f) x.deed ≡ Some s → key_at f s.state.turn ≡ Some key
   pub above :
       (s : Signed) → made_in (r.named f) x.deed ≡ Some s
@@ -44,15 +48,19 @@ pub record HonestAt (r : Rules) (key : List ℕ) (f : FixedParts) (past : List E
   pub challenges :
       (s : StateParts) (who : ℕ) (signature : List ℕ) → x.deed ≡ deeds.SignedChallenge (r.named f) s who signature
       → EndsWith r f (held r f past front) s
-  pub leaves : (s : Signed) → made_in (r.named f) x.deed ≡ Some s → (y : Line) → In y front → is_challenge y.deed ≡ false
+  pub leaves : (s : Signed) → made_in (r.named f) x.deed ≡ Some s → (y : Line) → In y front
+      → is_challenge y.deed ≡ false
   -- a look gives a checkpoint with the chain that is held, where the channel is challenged below it
   pub looks :
-      (watcher : ℕ) (calls : List Call) (w : Marked) → x.deed ≡ deeds.Watched watcher calls → held r f past front ≡ Some w
-      → is_supported r f w ≡ true → mode r (r.named f) past ≡ Challenged → (row r (r.named f) past).turn < top_turn w.states
+      (watcher : ℕ) (calls : List Call) (w : Marked) → x.deed ≡ deeds.Watched watcher calls
+      → held r f past front ≡ Some w
+      → is_supported r f w ≡ true → mode r (r.named f) past ≡ Challenged
+      → (row r (r.named f) past).turn < top_turn w.states
       → In (Checkpoint (chain_of f w)) calls
 
 -- And it had seen no more than there is; nothing but a look had seen more than what comes after it.
-pub record HonestLine (r : Rules) (key : List ℕ) (f : FixedParts) (h : List Entry) (x : Line) (front : List Line) : Type 0 where
+pub record HonestLine (r : Rules) (key : List ℕ) (f : FixedParts) (h : List Entry) (x : Line) (front : List Line)
+    : Type 0 where
   pub within : x.seen ≤ length h
   pub rising : (y : Line) → In y front → is_watched y.deed ≡ false → y.seen ≤ x.seen
   pub place : (later past : List Entry) → h ≡ later ++ past → length past ≡ x.seen → HonestAt r key f past x front
@@ -64,3 +72,8 @@ HonestIn r key f h (x ∷ front) = HonestLine r key f h x front × HonestIn r ke
 -- in each channel that the journal opens
 abbrev pub Honest : Rules → List ℕ → List Entry → List Line → Type 0
 Honest r key h journal = (f : FixedParts) (x : Line) → In x journal → In f (opened x) → HonestIn r key f h journal
+
+-- the participant with this key is in each channel that a line opens
+abbrev pub TakesPart : List ℕ → List Line → Type 0
+TakesPart key journal =
+    (x : Line) (f : FixedParts) → In x journal → In f (opened x) → (me : ℕ) × (slice_get f.keys me ≡ Some key)

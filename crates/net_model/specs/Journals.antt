@@ -17,7 +17,8 @@ abbrev pub In : {A : Type 0} → A → List A → Type 0
 In x [] = ⊥
 In x (y ∷ ys) = (x ≡ y) ⊎ In x ys
 
--- An event, and the fixed parts of those channels that its command adds to the plan and in which the participant is one.
+-- An event, and the fixed parts of those channels that its command adds to the plan and in which the participant is
+-- one.
 pub record Line : Type 0 where
   pub seen : ℕ
   pub deed : Deed
@@ -56,7 +57,8 @@ some_if false s = None
 
 -- the state of the channel that the participant signed
 abbrev pub made_in : List ℕ → Deed → Option Signed
-made_in channel (deeds.Signed name state signature) = some_if (bytes_eq name channel) (record { state = state; signature = signature })
+made_in channel (deeds.Signed name state signature) =
+    some_if (bytes_eq name channel) (record { state = state; signature = signature })
 made_in channel _ = None
 
 abbrev pub told_in : List ℕ → Result Message ByteFault → Option Signed
@@ -65,6 +67,7 @@ told_in channel (Err fault) = None
 
 -- the state of the channel that the participant signed, or took from a message
 abbrev pub noted_in : List ℕ → Deed → Option Signed
-noted_in channel (deeds.Signed name state signature) = some_if (bytes_eq name channel) (record { state = state; signature = signature })
+noted_in channel (deeds.Signed name state signature) =
+    some_if (bytes_eq name channel) (record { state = state; signature = signature })
 noted_in channel (deeds.Handled bytes None) = told_in channel (message_of bytes)
 noted_in channel _ = None

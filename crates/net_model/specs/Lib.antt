@@ -6,3 +6,4 @@ pub mod Hashed
 pub mod Honest
 pub mod Cleared
 pub mod Safety
+pub mod Valid

@@ -27,7 +27,8 @@ pub record IsChannelOf (key : List ℕ) (f : FixedParts) (journal : List Line) (
 
 -- A supported chain is held, as new as each state noted and each chain shown before; and each of these has a turn of at
 -- most this one, or this outcome.
-pub record IsNotOlder (r : Rules) (f : FixedParts) (past : List Entry) (journal : List Line) (turn : ℕ) (outcome : List AssetOutcome) : Type 0 where
+pub record IsNotOlder (r : Rules) (f : FixedParts) (past : List Entry) (journal : List Line) (turn : ℕ)
+    (outcome : List AssetOutcome) : Type 0 where
   pub latest : Marked
   pub is : held r f past journal ≡ Some latest
   pub chain : is_supported r f latest ≡ true
@@ -36,14 +37,17 @@ pub record IsNotOlder (r : Rules) (f : FixedParts) (past : List Entry) (journal 
       → people f ≤ s.state.turn + 1 → s.state.turn ≤ top_turn latest.states
   pub shown_before :
       (later older : List Entry) (k : Entry) → past ≡ later ++ k ∷ older
-      → is_supported r f (shown r (r.named f) older k) ≡ true → top_turn (shown r (r.named f) older k).states ≤ top_turn latest.states
+      → is_supported r f (shown r (r.named f) older k) ≡ true
+      → top_turn (shown r (r.named f) older k).states ≤ top_turn latest.states
   pub held_settled : (top_turn latest.states ≤ turn) ⊎ (top_outcome latest.states ≡ outcome)
   pub noted_settled :
       (x : Line) (s : Signed) → In x journal → x.seen ≤ length past → noted_in (r.named f) x.deed ≡ Some s
       → people f ≤ s.state.turn + 1 → (s.state.turn ≤ turn) ⊎ (s.state.outcome ≡ outcome)
   pub shown_settled :
-      (later older : List Entry) (k : Entry) → past ≡ later ++ k ∷ older → is_supported r f (shown r (r.named f) older k) ≡ true
-      → (top_turn (shown r (r.named f) older k).states ≤ turn) ⊎ (top_outcome (shown r (r.named f) older k).states ≡ outcome)
+      (later older : List Entry) (k : Entry) → past ≡ later ++ k ∷ older
+      → is_supported r f (shown r (r.named f) older k) ≡ true
+      → (top_turn (shown r (r.named f) older k).states ≤ turn)
+      ⊎ (top_outcome (shown r (r.named f) older k).states ≡ outcome)
 
 -- the channel has settled on an outcome that isn't older, at the row's turn
 pub record SettlesWell (r : Rules) (f : FixedParts) (e : Entry) (past : List Entry) (journal : List Line) : Type 0 where
@@ -76,14 +80,16 @@ pub record IsLast (r : Rules) (f : FixedParts) (past : List Entry) (journal : Li
   pub there : In line journal
   pub early : line.seen ≤ length past
   pub made : made_in (r.named f) line.deed ≡ Some t
-  pub greatest : (x : Line) (s : Signed) → In x journal → x.seen ≤ length past → made_in (r.named f) x.deed ≡ Some s → s.state.turn ≤ t.state.turn
+  pub greatest : (x : Line) (s : Signed) → In x journal → x.seen ≤ length past → made_in (r.named f) x.deed ≡ Some s
+      → s.state.turn ≤ t.state.turn
 
 -- A supported chain that an entry shows, and that isn't older than the last state which the participant signed, has
 -- every step after that one.
 abbrev pub HasStepsAfterLast : Rules → List ℕ → List Entry → List Line → Type 0
 HasStepsAfterLast r key h journal =
     (later past : List Entry) (e : Entry) (f : FixedParts) (t : Signed)
-    → h ≡ later ++ e ∷ past → IsChannelOf key f journal (length past) → is_supported r f (shown r (r.named f) past e) ≡ true
+    → h ≡ later ++ e ∷ past → IsChannelOf key f journal (length past)
+    → is_supported r f (shown r (r.named f) past e) ≡ true
     → IsLast r f past journal t → t.state.turn ≤ top_turn (shown r (r.named f) past e).states
     → StepsAfter r f (shown r (r.named f) past e).states t.state
 
@@ -92,4 +98,5 @@ HasStepsAfterLast r key h journal =
 -- of a participant's challenges of a channel of n, at most n - 1 are cleared
 abbrev pub FewAreCleared : Rules → List ℕ → List Entry → List Line → Type 0
 FewAreCleared r key h journal =
-    (f : FixedParts) (channel : IsChannelOf key f journal (length h)) → cleared r (r.named f) channel.me h + 1 ≤ people f
+    (f : FixedParts) (channel : IsChannelOf key f journal (length h))
+    → cleared r (r.named f) channel.me h + 1 ≤ people f

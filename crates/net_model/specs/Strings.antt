@@ -1,12 +1,13 @@
--- What was signed: the signed states of an op, and the string that a line signs.
-use Rattle.std.specs.Prelude.{◌≡◌, ℕ, ◌≤◌, List, [], ◌∷◌, Option, Some, None}
+-- What ops and lines name: the states and outcomes of an op, those that are signed, and the string that a line signs.
+use Rattle.std.specs.Prelude.{◌≡◌, ℕ, ◌≤◌, List, [], ◌∷◌, ◌++◌, map, Option, Some, None}
 use Rattle.std.specs.List.{slice_get}
 use Rattle.nitro_bytes.specs.Parts.{StateParts}
 use Rattle.nitro_bytes.specs.declared.chain.Mark.{Mark}
 use Rattle.nitro_bytes.specs.declared.chain.Signed.{Signed}
+use Rattle.nitro_bytes.specs.declared.value.AssetOutcome.{AssetOutcome}
 use Rattle.channel_name.specs.Messages.{message_of_state, message_of_challenge}
 use Rattle.channel_model.specs.Rules.{Rules}
-use Rattle.channel_calls.specs.declared.call.Call.TheVariants.{Challenge, Respond, Refute, Checkpoint, Conclude}
+use Rattle.channel_calls.specs.declared.call.Call.TheVariants.{Challenge, Respond, Refute, Checkpoint, Conclude, Transfer, Claim}
 use Rattle.channel_calls.specs.declared.call.Op.{Op}
 use Rattle.channel_calls.specs.declared.call.Op.TheVariants as ops
 use Rattle.channel_calls.specs.declared.event.Deed.{Deed}
@@ -40,6 +41,16 @@ states_in (ops.Call (Checkpoint chain)) = chain.states
 states_in (ops.Call (Conclude chain)) = chain.states
 states_in _ = []
 
+-- the outcomes that a transfer and a claim give
+abbrev pub given_in : Op → List (List AssetOutcome)
+given_in (ops.Call (Transfer channel outcome asset index)) = outcome ∷ []
+given_in (ops.Call (Claim guarantor promise target outcome asset position)) = promise ∷ outcome ∷ []
+given_in _ = []
+
+-- the outcomes of an op: those, and those of its states
+abbrev pub outcomes_in : Op → List (List AssetOutcome)
+outcomes_in op = given_in op ++ map (λ s. s.outcome) (states_in op)
+
 -- the channel and the state that the participant signed, the state itself or a challenge with it
 abbrev pub signed_of : Deed → Option (List ℕ × StateParts)
 signed_of (deeds.Signed channel state signature) = Some (channel, state)
@@ -49,7 +60,8 @@ signed_of _ = None
 -- the string that the participant signed
 abbrev pub string_of : Rules → Deed → Option (List ℕ)
 string_of r (deeds.Signed channel state signature) = Some (message_of_state (r.digest channel state))
-string_of r (deeds.SignedChallenge channel state who signature) = Some (message_of_challenge (r.digest channel state) who)
+string_of r (deeds.SignedChallenge channel state who signature) =
+    Some (message_of_challenge (r.digest channel state) who)
 string_of r _ = None
 
 -- one of these lines signed the string

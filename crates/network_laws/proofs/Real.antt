@@ -10,7 +10,7 @@ use Rattle.history_laws.proofs.Telling.{hashed-safe, hashed-steps, hashed-cleare
 use Rattle.network_laws.specs.Network.{NetworkOutcomesAreNotOlder, NetworkChainsHaveTheSteps, FewNetworkChallengesAreCleared}
 
 real_hashes : Hashes real
-real_hashes = record { named = λ f. refl; digest = λ channel s. refl }
+real_hashes = record { named = λ f. refl; digest = λ channel s. refl; outcome_digest = λ o. refl }
 
 pub network-safe : (h : List Entry) (journal : List Line) → AreValid h journal → NetworkOutcomesAreNotOlder h journal
 network-safe h journal valid key legal honest unforged none in_time = hashed-safe real key h journal real_keeps_final real_hashes legal honest unforged none valid in_time

@@ -1,12 +1,14 @@
 -- Values of the types make valid model lists.
-use Rattle.std.proofs.Common.{◌≡◌, ℕ, zero, suc, Bool, true, false, cond, List, [], ◌∷◌, ◌++◌, inl, inr, length, reverse, refl, sym, subst, Option, Some, None, Result, Ok, Err}
+use Rattle.std.proofs.Common.{◌≡◌, ℕ, zero, suc, Bool, true, false, cond, List, [], ◌∷◌, ◌++◌, map, ◌⊎◌, inl, inr, length, reverse, refl, sym, subst, Option, Some, None, Result, Ok, Err}
 use Rattle.std.specs.Prelude.{IfSome}
 use Rattle.std.specs.List.{AllByRecursion}
 use Rattle.std.specs.Str.{bytes_eq}
 use Rattle.std.proofs.lemmas.List.{reverse-append}
 use Rattle.nitro_bytes.specs.declared.chain.Signed.{Signed}
 use Rattle.nitro_bytes.specs.declared.fault.ByteFault.{ByteFault}
-use Rattle.nitro_bytes.specs.Outcomes.{AreBytes, IsName}
+use Rattle.nitro_bytes.specs.Outcomes.{AreBytes, IsName, IsOutcome}
+use Rattle.nitro_bytes.specs.declared.value.AssetOutcome.{AssetOutcome}
+use Rattle.channel_calls.specs.declared.call.Op.{Op}
 use Rattle.nitro_bytes.specs.Parts.{FixedParts, StateParts, IsFixed, IsState}
 use Rattle.nitro_bytes.proofs.Format.{all_takes}
 use Rattle.channel_calls.specs.History.{newest_first}
@@ -19,10 +21,13 @@ use Rattle.channel_calls.specs.declared.event.Deed.TheVariants as deeds
 use Rattle.channel_calls.specs.declared.event.Event.{Event}
 use Rattle.channel_calls.proofs.Formats.{message_format}
 use Rattle.net_model.specs.Journals.{In, Line, lines, is_followed, opened, some_if, told_in, noted_in}
-use Rattle.net_model.specs.Premises.{OccursFixed, AreValid}
-use Rattle.net_model.specs.Strings.{states_in, signed_of}
-use Rattle.history_laws.proofs.Tests.{some-eq, none-eq}
-use Rattle.network_laws.specs.Valid.{adds_of, newest_lines, IsValidEntry, IsValidDeed, IsValidEvent}
+use Rattle.net_model.specs.Premises.{OccursFixed, OccursOutcome, AreValid}
+use Rattle.net_model.specs.Strings.{states_in, given_in, outcomes_in, signed_of}
+use Rattle.chain_laws.proofs.Tests.{some-eq, none-eq}
+use Rattle.net_model.specs.Valid.{IsValidOp, IsValidEntry, IsValidDeed, IsValidEvent}
+use Rattle.net_model.proofs.Members.{In-append_cases, mapped, all-in}
+use Rattle.net_model.proofs.ValidOps.{valid-fixed, valid-states, valid-given}
+use Rattle.network_laws.specs.Valid.{AddsFixed, adds_of, newest_lines}
 
 -- ---- each of a list
 
@@ -33,11 +38,6 @@ all-append P (x ∷ xs) ys a b = (a.0, all-append P xs ys a.1 b)
 all-reverse : {A : Type 0} (P : A → Type 0) (xs : List A) → AllByRecursion P xs → AllByRecursion P (reverse xs)
 all-reverse P [] a = tt
 all-reverse P (x ∷ xs) a = subst (AllByRecursion P) (sym (reverse-append (x ∷ []) xs)) (all-append P (reverse xs) (x ∷ []) (all-reverse P xs a.1) (a.0, tt))
-
-all-in : {A : Type 0} (P : A → Type 0) (x : A) (xs : List A) → AllByRecursion P xs → In x xs → P x
-all-in P x [] a i = absurd i
-all-in P x (y ∷ ys) a (inl e) = subst P (sym e) a.0
-all-in P x (y ∷ ys) a (inr i) = all-in P x ys a.1 i
 
 -- ---- what is read
 
@@ -82,10 +82,10 @@ lines-valid : (adds : ℕ → List FixedParts) (events : List Event) → ((place
 lines-valid adds [] fixed valid = tt
 lines-valid adds (x ∷ front) fixed valid = (record { deed = valid.0; adds = fixed (length front) }, lines-valid adds front fixed valid.1)
 
-adds-valid : (adds : List (List FixedParts)) (place : ℕ) → AllByRecursion (AllByRecursion IsFixed) adds → AllByRecursion IsFixed (adds_of adds place)
-adds-valid [] place valid = tt
-adds-valid (added ∷ adds) zero valid = valid.0
-adds-valid (added ∷ adds) (suc place) valid = adds-valid adds place valid.1
+pub adds-valid : (adds : List (List FixedParts)) → AllByRecursion (AllByRecursion IsFixed) adds → AddsFixed (adds_of adds)
+adds-valid [] valid place = tt
+adds-valid (added ∷ adds) valid zero = valid.0
+adds-valid (added ∷ adds) valid (suc place) = adds-valid adds valid.1 place
 
 opened-valid : (x : Line) (f : FixedParts) → AllByRecursion IsFixed x.adds → In f (opened x) → IsFixed f
 opened-valid x f valid i = go (is_followed x.deed) i
@@ -96,23 +96,32 @@ opened-valid x f valid i = go (is_followed x.deed) i
 
 -- ---- both
 
+outcome-valid : (op : Op) → IsValidOp op → (o : List AssetOutcome) → In o (outcomes_in op) → IsOutcome o
+outcome-valid op valid o i = go (In-append_cases o (given_in op) (map (λ (s : StateParts). s.outcome) (states_in op)) i)
+  where
+    go : In o (given_in op) ⊎ In o (map (λ (s : StateParts). s.outcome) (states_in op)) → IsOutcome o
+    go (inl j) = all-in IsOutcome o (given_in op) (valid-given op valid) j
+    go (inr j) =
+        let m = mapped (λ (s : StateParts). s.outcome) o (states_in op) j in
+        subst IsOutcome (sym m.is) (all-in IsState m.from (states_in op) (valid-states op valid) m.there).outcome
+
 lists-valid : (h : List Entry) (journal : List Line) → AllByRecursion IsValidEntry h → AllByRecursion IsValidLine journal → AreValid h journal
 lists-valid h journal entries valid = record {
   fixed = occurs;
-  states = λ e s i j. all-in IsState s (states_in e.op) (all-in IsValidEntry e h entries i).1 j;
+  states = λ e s i j. all-in IsState s (states_in e.op) (valid-states e.op (all-in IsValidEntry e h entries i)) j;
+  outcomes = ends;
   signed = λ x channel s i e. signed-valid x.deed channel s (all-in IsValidLine x journal valid i).deed e;
   noted = λ x channel s i e. noted-valid x.deed channel s (all-in IsValidLine x journal valid i).deed e;
 }
   where
     occurs : (f : FixedParts) → OccursFixed h journal f → IsFixed f
-    occurs f (inl o) = subst (λ (k : Option FixedParts). IfSome k IsFixed) o.2 (all-in IsValidEntry o.0 h entries o.1).0
+    occurs f (inl o) = subst (λ (k : Option FixedParts). IfSome k IsFixed) o.2 (valid-fixed o.0.op (all-in IsValidEntry o.0 h entries o.1))
     occurs f (inr o) = opened-valid o.0 f (all-in IsValidLine o.0 journal valid o.1).adds o.2
 
--- where the command of each event adds fixed parts
-pub events-valid : (history : List Entry) (journal : List Event) (adds : ℕ → List FixedParts) → AllByRecursion IsValidEntry history → AllByRecursion IsValidEvent journal → ((place : ℕ) → AllByRecursion IsFixed (adds place)) → AreValid (newest_first history) (lines adds (reverse journal))
+    ends : (o : List AssetOutcome) → OccursOutcome h o → IsOutcome o
+    ends o (e, i, j) = outcome-valid e.op (all-in IsValidEntry e h entries i) o j
+
+pub events-valid : (history : List Entry) (journal : List Event) (adds : ℕ → List FixedParts) → AllByRecursion IsValidEntry history → AllByRecursion IsValidEvent journal → AddsFixed adds → AreValid (newest_first history) (newest_lines journal adds)
 events-valid history journal adds entries events fixed =
     lists-valid (newest_first history) (lines adds (reverse journal)) (all-reverse IsValidEntry history entries)
     (lines-valid adds (reverse journal) fixed (all-reverse IsValidEvent journal events))
-
-pub values-valid : (history : List Entry) (journal : List Event) (adds : List (List FixedParts)) → AllByRecursion IsValidEntry history → AllByRecursion IsValidEvent journal → AllByRecursion (AllByRecursion IsFixed) adds → AreValid (newest_first history) (newest_lines journal adds)
-values-valid history journal adds entries events fixed = events-valid history journal (adds_of adds) entries events (λ place. adds-valid adds place fixed)

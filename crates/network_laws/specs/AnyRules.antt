@@ -10,12 +10,15 @@ use Rattle.net_model.specs.Safety.{IsSafe, HasStepsAfterLast, FewAreCleared}
 
 abbrev pub AnyOutcomesAreNotOlder : List Entry → List Line → Type 0
 AnyOutcomesAreNotOlder h journal =
-    (r : Rules) (key : List ℕ) → KeepsFinal r → Legal r h → Honest r key h journal → Unforged r key h journal → NoCollision r h journal → InTime r h journal → IsSafe r key h journal
+    (r : Rules) (key : List ℕ) → KeepsFinal r → Legal r h → Honest r key h journal → Unforged r key h journal
+    → NoCollision r h journal → InTime r h journal → IsSafe r key h journal
 
 abbrev pub AnyChainsHaveTheSteps : List Entry → List Line → Type 0
 AnyChainsHaveTheSteps h journal =
-    (r : Rules) (key : List ℕ) → KeepsFinal r → Legal r h → Honest r key h journal → Unforged r key h journal → NoCollision r h journal → HasStepsAfterLast r key h journal
+    (r : Rules) (key : List ℕ) → KeepsFinal r → Legal r h → Honest r key h journal → Unforged r key h journal
+    → NoCollision r h journal → HasStepsAfterLast r key h journal
 
 abbrev pub FewOfAnyChallengesAreCleared : List Entry → List Line → Type 0
 FewOfAnyChallengesAreCleared h journal =
-    (r : Rules) (key : List ℕ) → KeepsFinal r → Legal r h → Honest r key h journal → Unforged r key h journal → NoCollision r h journal → FewAreCleared r key h journal
+    (r : Rules) (key : List ℕ) → KeepsFinal r → Legal r h → Honest r key h journal → Unforged r key h journal
+    → NoCollision r h journal → FewAreCleared r key h journal

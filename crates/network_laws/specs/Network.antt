@@ -10,17 +10,21 @@ use Rattle.net_model.specs.Premises.{Unforged, InTime}
 use Rattle.net_model.specs.Honest.{Honest}
 use Rattle.net_model.specs.Safety.{IsSafe, HasStepsAfterLast, FewAreCleared}
 
--- no outcome becomes final for an honest participant with watchers in time that is older than what it noted or was shown
+-- no outcome becomes final for an honest participant with watchers in time that is older than what it noted or was
+-- shown
 abbrev pub NetworkOutcomesAreNotOlder : List Entry → List Line → Type 0
 NetworkOutcomesAreNotOlder h journal =
-    (key : List ℕ) → Legal real h → Honest real key h journal → Unforged real key h journal → NoneCollide (hashed h journal) → InTime real h journal → IsSafe real key h journal
+    (key : List ℕ) → Legal real h → Honest real key h journal
+    → Unforged real key h journal → NoneCollide (hashed h journal) → InTime real h journal → IsSafe real key h journal
 
 -- each step after the last state that an honest participant signed is in each chain that is shown at its turn or later
 abbrev pub NetworkChainsHaveTheSteps : List Entry → List Line → Type 0
 NetworkChainsHaveTheSteps h journal =
-    (key : List ℕ) → Legal real h → Honest real key h journal → Unforged real key h journal → NoneCollide (hashed h journal) → HasStepsAfterLast real key h journal
+    (key : List ℕ) → Legal real h → Honest real key h journal
+    → Unforged real key h journal → NoneCollide (hashed h journal) → HasStepsAfterLast real key h journal
 
 -- of an honest participant's challenges of a channel of n, at most n - 1 are cleared by another entry than a conclude
 abbrev pub FewNetworkChallengesAreCleared : List Entry → List Line → Type 0
 FewNetworkChallengesAreCleared h journal =
-    (key : List ℕ) → Legal real h → Honest real key h journal → Unforged real key h journal → NoneCollide (hashed h journal) → FewAreCleared real key h journal
+    (key : List ℕ) → Legal real h → Honest real key h journal → Unforged real key h journal
+    → NoneCollide (hashed h journal) → FewAreCleared real key h journal

@@ -8,4 +8,4 @@ pub mod laws;
 pub mod models;
 mod validity;
 
-pub use validity::values_are_valid;
+pub use validity::{additions_are_fixed, values_are_valid};

@@ -2,4 +2,4 @@ use Rattle.network_laws.proofs.Real.{network-cleared}
 use Rattle.network_laws.proofs.laws.few_network_challenges_are_cleared.Goals as goal
 
 pub returns : goal.returns
-returns c = network-cleared _ _ c.values_are_valid.ensures
+returns c adds fixed = network-cleared _ _ (c.values_are_valid.ensures adds fixed)
