@@ -67,6 +67,7 @@ module _ {O E C R : Type 0} (stands : O → List E → Type 0) (gives : List E �
             dite (ℕ_discrete (times k v.made) 0)
             (λ none. let e = same_pos k n' (omega arith) in omega arith)
             (λ some_. let le = i.sound.within k (omega arith) in omega arith));
+        few = omega (arith, a.few, number_is);
         all = λ w k. (let s = total-append (same k) v.made (n' ∷ []) in let b = (t.all (part_is ∙ w)).1 k in let o = once_is k in omega arith);
       }) in (
         r.0,
@@ -100,6 +101,7 @@ module _ {O E C R : Type 0} (stands : O → List E → Type 0) (gives : List E �
         some_part = i.sound.some_part;
         at_most = i.sound.at_most;
         within = λ k p. (let le = i.sound.within k p in omega arith);
+        few = t.few;
         all = λ w. (t.all (part_is ∙ w)).1;
       }) in (
         r.0,

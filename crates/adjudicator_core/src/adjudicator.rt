@@ -1,20 +1,25 @@
 //! The adjudicator that serves one op after another.
 
-ghost use Rattle.std.specs.Prelude.{◌≡◌, ◌≤◌, ◌+◌, ◌<◌, ◌^◌, ◌∷◌, [], ℕ, List, OnOk, OnErr, IfOk};
+ghost use Rattle.std.specs.Prelude.{unwrap_or, ◌≡◌, ◌≤◌, ◌+◌, ◌<◌, ◌^◌, ◌∷◌, [], ℕ, List, OnOk, OnErr, IfOk};
 ghost use Rattle.std.specs.Option.{option_map};
-ghost use Rattle.channel_calls.specs.Flows.{held_in, paid_of_item};
+ghost use Rattle.asset_holdings.specs.Balances.{amount_held};
+ghost use Rattle.claim_transfer.specs.Payments.{amount_of_item};
 ghost use Rattle.channel_calls.specs.History.{reply_to, row_given};
 ghost use Rattle.channel_calls.specs.Refusing.{told};
 ghost use Rattle.channel_calls.specs.Replies as replies;
 ghost use Rattle.channel_calls.specs.Rows.{row_or_blank};
 ghost use Rattle.channel_calls.specs.declared.entry.Entry.{Entry};
 ghost use Rattle.support_chain.specs.Real.{real};
-ghost use Rattle.adjudicator_core.specs.Standing.{row_in, StandsFor, AreBalancesOf, HasRoom, HasTurned, HasPaid};
+ghost use Rattle.channel_model.specs.Support.{verified_marks};
+ghost use Rattle.challenge_rules.specs.Values.{challenge_values, answer_values};
+ghost use Rattle.adjudicator_core.specs.Checked.{values_of, AreKnown};
+ghost use Rattle.adjudicator_core.specs.Standing.{row_in, StandsFor, AreBalancesOf, AreFinals, HasRoom, HasTurned, HasPaid, Serves};
 
+use crate::answers::{to_challenge, to_checkpoint, to_conclude, to_refute, to_respond};
+use crate::checked::CheckedOp;
 use crate::ending::{ends_otherwise, is_unfinished};
 use crate::rows::Rows;
 use asset_holdings::Holdings;
-use challenge_rules::{challenge, checkpoint, conclude, refute, respond};
 use channel_calls::{Call, Due, Op, Refusal, Reply, Row};
 use channel_name::channel_name;
 use claim_transfer::{PaidItems, claim_due, transfer_due};
@@ -45,12 +50,12 @@ impl Model for Adjudicator {
     ghost invariant = { λ a. a.time ≤ 2 ^ 62 };
 }
 
-/// The reply that a challenge is open until the deadline, unless the call is refused.
-fn until(deadline: u64, answer: Result<Row, Refusal>) -> Reply
-    ensures { result ≡ told (λ new. Reply.Until deadline) answer }
+/// The reply that a challenge is open until the row's deadline, unless the call is refused.
+fn until(answer: Result<Row, Refusal>) -> Reply
+    ensures { result ≡ told (λ new. Reply.Until (unwrap_or new.deadline 0)) answer }
 {
     match answer {
-        Ok(_) => Reply::Until(deadline),
+        Ok(row) => Reply::Until(row.deadline.unwrap_or(0)),
         Err(refusal) => Reply::No(refusal),
     }
 }
@@ -109,6 +114,7 @@ impl Adjudicator {
     }
 
     /// Takes the memory that one op may need.
+    #[tactic(auto, using(crate::proofs::Stands::stands_reserved))]
     pub fn reserve(&mut self) -> Result<(), NoMemory>
         ensures room { OnOk result (HasRoom self.new) }
         ensures stands { (h : List Entry) → StandsFor real h self.old → StandsFor real h self.new }
@@ -127,9 +133,17 @@ impl Adjudicator {
 
     /// What is recorded of a channel, if a call on it was accepted.
     pub fn row(&self, channel: &Name) -> Option<&Row>
-        ensures { (h : List Entry) → StandsFor real h self.now → option_map (λ m. m.now) result ≡ row_given real channel.now h }
+        ensures { (h : List Entry) → StandsFor real h self.now
+            → option_map (λ m. m.now) result ≡ row_given real channel.now h }
     {
         self.rows.get(channel)
+    }
+
+    /// The channels that are final, with their deadlines, by deadline and then by name.
+    pub fn finals(&self) -> &[(u64, Name)]
+        ensures { (h : List Entry) → StandsFor real h self.now → AreFinals real h result.now }
+    {
+        self.rows.due(self.time)
     }
 
     /// The balances of channels and persons.
@@ -142,21 +156,35 @@ impl Adjudicator {
     /// The reply to an op, which is part of the history from then on. A refused op changes nothing.
     pub fn apply(&mut self, op: &Op) -> Reply
         requires { HasRoom self.old }
-        ensures reply { (h : List Entry) → StandsFor real h self.old → result ≡ reply_to real h op.now }
-        ensures stands { (h : List Entry) (number by : ℕ) → StandsFor real h self.old
-            → StandsFor real (record { number = number; by = by; op = op.now; reply = result } ∷ h) self.new }
+        ensures { Serves real self.old op.now result self.new }
+    {
+        self.serve(op, None)
+    }
+
+    /// As `apply`, for an op whose signatures were checked: it verifies none.
+    pub fn apply_checked(&mut self, op: &CheckedOp) -> Reply
+        requires { HasRoom self.old }
+        ensures { Serves real self.old op.now result self.new }
+    {
+        self.serve(op.op(), Some(op.verified()))
+    }
+
+    /// Serves an op. Its signatures are verified, unless that was done.
+    fn serve(&mut self, op: &Op, verified: Option<&[bool]>) -> Reply
+        requires room { HasRoom self.old }
+        requires known { AreKnown (values_of real op.now) (option_map (λ m. m.now) verified) }
+        ensures { Serves real self.old op.now result self.new }
     {
         match op {
-            Op::Call(call) => self.call(call),
+            Op::Call(call) => self.call(call, verified),
             Op::Time(to) => self.set_time(*to),
         }
     }
 
-    fn call(&mut self, call: &Call) -> Reply
-        requires { HasRoom self.old }
-        ensures reply { (h : List Entry) → StandsFor real h self.old → result ≡ reply_to real h (Op.Call call.now) }
-        ensures stands { (h : List Entry) (number by : ℕ) → StandsFor real h self.old
-            → StandsFor real (record { number = number; by = by; op = Op.Call call.now; reply = result } ∷ h) self.new }
+    fn call(&mut self, call: &Call, verified: Option<&[bool]>) -> Reply
+        requires room { HasRoom self.old }
+        requires known { AreKnown (values_of real (Op.Call call.now)) (option_map (λ m. m.now) verified) }
+        ensures { Serves real self.old (Op.Call call.now) result self.new }
     {
         match call {
             Call::Deposit {
@@ -169,11 +197,11 @@ impl Adjudicator {
                 chain,
                 challenger,
                 signature,
-            } => self.challenge(chain, *challenger, signature.as_slice()),
-            Call::Respond { fixed, from, next } => self.respond(fixed, from, next),
-            Call::Refute { fixed, next } => self.refute(fixed, next),
-            Call::Checkpoint { chain } => self.checkpoint(chain),
-            Call::Conclude { chain } => self.conclude(chain),
+            } => self.challenge(chain, *challenger, signature.as_slice(), verified),
+            Call::Respond { fixed, from, next } => self.respond(fixed, from, next, verified),
+            Call::Refute { fixed, next } => self.refute(fixed, next, verified),
+            Call::Checkpoint { chain } => self.checkpoint(chain, verified),
+            Call::Conclude { chain } => self.conclude(chain, verified),
             Call::Transfer {
                 channel,
                 outcome,
@@ -200,73 +228,81 @@ impl Adjudicator {
 
     fn deposit(&mut self, channel: Name, asset: u32, expected: u64, amount: u64) -> Reply
         requires { HasRoom self.old }
-        ensures reply { (h : List Entry) → StandsFor real h self.old
-            → result ≡ reply_to real h (Op.Call (Call.Deposit channel asset expected amount)) }
-        ensures stands { (h : List Entry) (number by : ℕ) → StandsFor real h self.old
-            → StandsFor real (record { number = number; by = by; op = Op.Call (Call.Deposit channel asset expected amount); reply = result } ∷ h) self.new }
+        ensures { Serves real self.old (Op.Call (Call.Deposit channel asset expected amount)) result self.new }
     {
         let answer = self.funds.deposit(channel, asset, expected, amount);
         held(answer)
     }
 
-    fn challenge(&mut self, chain: &Chain, challenger: u8, signature: &[u8]) -> Reply
-        requires { HasRoom self.old }
-        ensures reply { (h : List Entry) → StandsFor real h self.old → result ≡ reply_to real h (Op.Call (Call.Challenge chain.now challenger signature.now)) }
-        ensures stands { (h : List Entry) (number by : ℕ) → StandsFor real h self.old
-            → StandsFor real (record { number = number; by = by; op = Op.Call (Call.Challenge chain.now challenger signature.now); reply = result } ∷ h) self.new }
+    fn challenge(
+        &mut self,
+        chain: &Chain,
+        challenger: u8,
+        signature: &[u8],
+        verified: Option<&[bool]>,
+    ) -> Reply
+        requires room { HasRoom self.old }
+        requires known { AreKnown (challenge_values real chain.now challenger signature.now)
+            (option_map (λ m. m.now) verified) }
+        ensures { Serves real self.old (Op.Call (Call.Challenge chain.now challenger signature.now)) result self.new }
     {
         let channel = channel_name(chain.fixed.bytes());
         let row = self.rows.get(&channel);
-        let answer = challenge(row, self.time, chain, challenger, signature);
-        let deadline = self.time + chain.fixed.duration() as u64;
+        let answer = to_challenge(row, self.time, chain, challenger, signature, verified);
         self.record(channel, answer);
-        until(deadline, answer)
+        until(answer)
     }
 
-    fn respond(&mut self, fixed: &Fixed, from: &State, next: &Signed) -> Reply
-        requires { HasRoom self.old }
-        ensures reply { (h : List Entry) → StandsFor real h self.old → result ≡ reply_to real h (Op.Call (Call.Respond fixed.now from.now next.now)) }
-        ensures stands { (h : List Entry) (number by : ℕ) → StandsFor real h self.old
-            → StandsFor real (record { number = number; by = by; op = Op.Call (Call.Respond fixed.now from.now next.now); reply = result } ∷ h) self.new }
+    fn respond(
+        &mut self,
+        fixed: &Fixed,
+        from: &State,
+        next: &Signed,
+        verified: Option<&[bool]>,
+    ) -> Reply
+        requires room { HasRoom self.old }
+        requires known { AreKnown (answer_values real fixed.now next.now) (option_map (λ m. m.now) verified) }
+        ensures { Serves real self.old (Op.Call (Call.Respond fixed.now from.now next.now)) result self.new }
     {
         let channel = channel_name(fixed.bytes());
-        let answer = respond(self.rows.get(&channel), self.time, fixed, from, next);
+        let row = self.rows.get(&channel);
+        let answer = to_respond(row, self.time, fixed, from, next, verified);
         self.record(channel, answer);
         opened(answer)
     }
 
-    fn refute(&mut self, fixed: &Fixed, next: &Signed) -> Reply
-        requires { HasRoom self.old }
-        ensures reply { (h : List Entry) → StandsFor real h self.old → result ≡ reply_to real h (Op.Call (Call.Refute fixed.now next.now)) }
-        ensures stands { (h : List Entry) (number by : ℕ) → StandsFor real h self.old
-            → StandsFor real (record { number = number; by = by; op = Op.Call (Call.Refute fixed.now next.now); reply = result } ∷ h) self.new }
+    fn refute(&mut self, fixed: &Fixed, next: &Signed, verified: Option<&[bool]>) -> Reply
+        requires room { HasRoom self.old }
+        requires known { AreKnown (answer_values real fixed.now next.now) (option_map (λ m. m.now) verified) }
+        ensures { Serves real self.old (Op.Call (Call.Refute fixed.now next.now)) result self.new }
     {
         let channel = channel_name(fixed.bytes());
-        let answer = refute(self.rows.get(&channel), self.time, fixed, next);
+        let row = self.rows.get(&channel);
+        let answer = to_refute(row, self.time, fixed, next, verified);
         self.record(channel, answer);
         opened(answer)
     }
 
-    fn checkpoint(&mut self, chain: &Chain) -> Reply
-        requires { HasRoom self.old }
-        ensures reply { (h : List Entry) → StandsFor real h self.old → result ≡ reply_to real h (Op.Call (Call.Checkpoint chain.now)) }
-        ensures stands { (h : List Entry) (number by : ℕ) → StandsFor real h self.old
-            → StandsFor real (record { number = number; by = by; op = Op.Call (Call.Checkpoint chain.now); reply = result } ∷ h) self.new }
+    fn checkpoint(&mut self, chain: &Chain, verified: Option<&[bool]>) -> Reply
+        requires room { HasRoom self.old }
+        requires known { AreKnown (verified_marks real chain.now) (option_map (λ m. m.now) verified) }
+        ensures { Serves real self.old (Op.Call (Call.Checkpoint chain.now)) result self.new }
     {
         let channel = channel_name(chain.fixed.bytes());
-        let answer = checkpoint(self.rows.get(&channel), self.time, chain);
+        let row = self.rows.get(&channel);
+        let answer = to_checkpoint(row, self.time, chain, verified);
         self.record(channel, answer);
         opened(answer)
     }
 
-    fn conclude(&mut self, chain: &Chain) -> Reply
-        requires { HasRoom self.old }
-        ensures reply { (h : List Entry) → StandsFor real h self.old → result ≡ reply_to real h (Op.Call (Call.Conclude chain.now)) }
-        ensures stands { (h : List Entry) (number by : ℕ) → StandsFor real h self.old
-            → StandsFor real (record { number = number; by = by; op = Op.Call (Call.Conclude chain.now); reply = result } ∷ h) self.new }
+    fn conclude(&mut self, chain: &Chain, verified: Option<&[bool]>) -> Reply
+        requires room { HasRoom self.old }
+        requires known { AreKnown (verified_marks real chain.now) (option_map (λ m. m.now) verified) }
+        ensures { Serves real self.old (Op.Call (Call.Conclude chain.now)) result self.new }
     {
         let channel = channel_name(chain.fixed.bytes());
-        let answer = conclude(self.rows.get(&channel), self.time, chain);
+        let row = self.rows.get(&channel);
+        let answer = to_conclude(row, self.time, chain, verified);
         self.record(channel, answer);
         concluded(answer)
     }
@@ -284,9 +320,7 @@ impl Adjudicator {
 
     fn transfer(&mut self, channel: &Name, outcome: &Outcome, asset: u32, index: u8) -> Reply
         requires { HasRoom self.old }
-        ensures reply { (h : List Entry) → StandsFor real h self.old → result ≡ reply_to real h (Op.Call (Call.Transfer channel.now outcome.now asset index)) }
-        ensures stands { (h : List Entry) (number by : ℕ) → StandsFor real h self.old
-            → StandsFor real (record { number = number; by = by; op = Op.Call (Call.Transfer channel.now outcome.now asset index); reply = result } ∷ h) self.new }
+        ensures { Serves real self.old (Op.Call (Call.Transfer channel.now outcome.now asset index)) result self.new }
     {
         let answer = self.transfer_due(channel, outcome, asset, index);
         self.pay(*channel, *channel, asset, answer);
@@ -303,10 +337,9 @@ impl Adjudicator {
         position: u8,
     ) -> Reply
         requires { HasRoom self.old }
-        ensures reply { (h : List Entry) → StandsFor real h self.old
-            → result ≡ reply_to real h (Op.Call (Call.Claim guarantor.now guarantor_outcome.now target.now target_outcome.now asset position)) }
-        ensures stands { (h : List Entry) (number by : ℕ) → StandsFor real h self.old
-            → StandsFor real (record { number = number; by = by; op = Op.Call (Call.Claim guarantor.now guarantor_outcome.now target.now target_outcome.now asset position); reply = result } ∷ h) self.new }
+        ensures { Serves real self.old
+            (Op.Call (Call.Claim guarantor.now guarantor_outcome.now target.now target_outcome.now asset position))
+            result self.new }
     {
         let answer = self.claim_due(
             guarantor,
@@ -329,9 +362,11 @@ impl Adjudicator {
         index: u8,
     ) -> Result<Due, Refusal>
         ensures answer { result ≡ replies.transfer real (row_or_blank (row_in self.now.rows channel.now)) self.now.now
-            (paid_of_item self.now.items.rows channel.now asset) (held_in self.now.funds.flows channel.now asset) channel.now outcome.now asset index }
-        ensures held { IfOk result (λ due. due.amount ≤ held_in self.now.funds.flows channel.now asset) }
-        ensures fits { IfOk result (λ due. paid_of_item self.now.items.rows channel.now asset due.place + due.amount < 2 ^ 64) }
+            (amount_of_item self.now.items channel.now asset) (amount_held self.now.funds channel.now asset)
+            channel.now outcome.now asset index }
+        ensures held { IfOk result (λ due. due.amount ≤ amount_held self.now.funds channel.now asset) }
+        ensures fits { IfOk result
+            (λ due. amount_of_item self.now.items channel.now asset due.place + due.amount < 2 ^ 64) }
     {
         let row = self.rows.get(channel);
         if is_unfinished(row, self.time) {
@@ -354,11 +389,13 @@ impl Adjudicator {
         asset: u32,
         position: u8,
     ) -> Result<Due, Refusal>
-        ensures answer { result ≡ replies.claim real (row_or_blank (row_in self.now.rows guarantor.now)) (row_or_blank (row_in self.now.rows target.now)) self.now.now
-            (paid_of_item self.now.items.rows target.now asset) (held_in self.now.funds.flows guarantor.now asset)
+        ensures answer { result ≡ replies.claim real (row_or_blank (row_in self.now.rows guarantor.now))
+            (row_or_blank (row_in self.now.rows target.now)) self.now.now
+            (amount_of_item self.now.items target.now asset) (amount_held self.now.funds guarantor.now asset)
             guarantor.now guarantor_outcome.now target.now target_outcome.now asset position }
-        ensures held { IfOk result (λ due. due.amount ≤ held_in self.now.funds.flows guarantor.now asset) }
-        ensures fits { IfOk result (λ due. paid_of_item self.now.items.rows target.now asset due.place + due.amount < 2 ^ 64) }
+        ensures held { IfOk result (λ due. due.amount ≤ amount_held self.now.funds guarantor.now asset) }
+        ensures fits { IfOk result
+            (λ due. amount_of_item self.now.items target.now asset due.place + due.amount < 2 ^ 64) }
     {
         let row = self.rows.get(guarantor);
         let target_row = self.rows.get(target);
@@ -389,8 +426,8 @@ impl Adjudicator {
     /// What is due is paid by one channel, and noted of the owner's item, unless the call is refused.
     fn pay(&mut self, payer: Name, owner: Name, asset: u32, answer: Result<Due, Refusal>)
         requires room { HasRoom self.old }
-        requires held { IfOk answer (λ due. due.amount ≤ held_in self.old.funds.flows payer asset) }
-        requires fits { IfOk answer (λ due. paid_of_item self.old.items.rows owner asset due.place + due.amount < 2 ^ 64) }
+        requires held { IfOk answer (λ due. due.amount ≤ amount_held self.old.funds payer asset) }
+        requires fits { IfOk answer (λ due. amount_of_item self.old.items owner asset due.place + due.amount < 2 ^ 64) }
         ensures paid { IfOk answer (λ due. HasPaid self.old payer owner asset due self.new) }
         ensures same { OnErr answer (self.new ≡ self.old) }
     {
@@ -400,11 +437,8 @@ impl Adjudicator {
         }
     }
 
-    #[tactic(auto, unfolding(channel_calls::specs::History::reply_to))]
     fn set_time(&mut self, to: u64) -> Reply
-        ensures reply { (h : List Entry) → StandsFor real h self.old → result ≡ reply_to real h (Op.Time to) }
-        ensures stands { (h : List Entry) (number by : ℕ) → StandsFor real h self.old
-            → StandsFor real (record { number = number; by = by; op = Op.Time to; reply = result } ∷ h) self.new }
+        ensures { Serves real self.old (Op.Time to) result self.new }
     {
         if to < self.time {
             return Reply::No(Refusal::Backwards(self.time));

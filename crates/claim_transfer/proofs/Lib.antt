@@ -1,2 +1,3 @@
-pub mod Payments
 pub mod LessPaid
+pub mod Paying
+pub mod Shapes

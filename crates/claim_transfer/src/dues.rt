@@ -5,12 +5,12 @@ ghost use Rattle.nitro_bytes.specs.Outcomes.{IsShape};
 ghost use Rattle.nitro_bytes.specs.declared.value.Shape.TheVariants.{Allocation};
 ghost use Rattle.channel_model.specs.Amounts.{due};
 ghost use Rattle.channel_model.specs.Items.{dest_at, place_of};
-ghost use Rattle.channel_calls.specs.Flows.{paid_of_item};
+ghost use Rattle.claim_transfer.specs.Payments.{amount_of_item};
 ghost use Rattle.channel_calls.specs.Dues.{rest_at, rest_of, transfer_due, claim_due};
 
 use crate::paid::PaidItems;
-use crate::rests::{place_of, rest_of, shape_in};
-use channel_calls::{Due, Refusal};
+use crate::rests::{rest_of, valid_shape};
+use channel_calls::{Due, Refusal, place_of};
 use nitro_bytes::{Dest, Item, Name, Outcome, Shape};
 use outcome_alloc::affordable;
 use outcome_guarantee::claimable;
@@ -26,8 +26,8 @@ fn item_due(
 ) -> u64
     requires items { IsShape (Allocation items.now) }
     requires index { index < length items.now }
-    ensures value { result ≡ due (rest_at (paid_of_item paid.now.rows channel.now asset) items.now) index held }
-    ensures fits { 0 < result → paid_of_item paid.now.rows channel.now asset index + result < 2 ^ 64 }
+    ensures value { result ≡ due (rest_at (amount_of_item paid.now channel.now asset) items.now) index held }
+    ensures fits { 0 < result → amount_of_item paid.now channel.now asset index + result < 2 ^ 64 }
 {
     let rest = rest_of(paid, channel, items, asset);
     affordable(rest.as_slice(), index, held)
@@ -45,8 +45,9 @@ fn listed_due(
 ) -> u64
     requires items { IsShape (Allocation items.now) }
     requires position { position < length list.now }
-    ensures value { result ≡ due (rest_of (paid_of_item paid.now.rows target.now asset) items.now list.now) position held }
-    ensures fits { 0 < result → paid_of_item paid.now.rows target.now asset (place_of items.now (dest_at list.now position)) + result < 2 ^ 64 }
+    ensures value { result ≡ due (rest_of (amount_of_item paid.now target.now asset) items.now list.now) position held }
+    ensures fits { 0 < result
+        → amount_of_item paid.now target.now asset (place_of items.now (dest_at list.now position)) + result < 2 ^ 64 }
 {
     let rest = rest_of(paid, target, items, asset);
     claimable(rest.as_slice(), list, position, held)
@@ -62,11 +63,11 @@ pub fn transfer_due(
     asset: u32,
     index: u8,
 ) -> Result<Due, Refusal>
-    ensures due { result ≡ transfer_due (paid_of_item paid.now.rows channel.now asset) held outcome.now asset index }
+    ensures due { result ≡ transfer_due (amount_of_item paid.now channel.now asset) held outcome.now asset index }
     ensures held { IfOk result (λ d. d.amount ≤ held) }
-    ensures fits { IfOk result (λ d. paid_of_item paid.now.rows channel.now asset d.place + d.amount < 2 ^ 64) }
+    ensures fits { IfOk result (λ d. amount_of_item paid.now channel.now asset d.place + d.amount < 2 ^ 64) }
 {
-    let Some(shape) = shape_in(outcome, asset) else {
+    let Some(shape) = valid_shape(outcome, asset) else {
         return Err(Refusal::NoAsset);
     };
     let Shape::Allocation(items) = shape else {
@@ -98,14 +99,15 @@ pub fn claim_due(
     asset: u32,
     position: u8,
 ) -> Result<Due, Refusal>
-    ensures due { result ≡ claim_due (paid_of_item paid.now.rows target.now asset) held guarantor_outcome.now target.now target_outcome.now asset position }
+    ensures due { result ≡ claim_due (amount_of_item paid.now target.now asset) held
+        guarantor_outcome.now target.now target_outcome.now asset position }
     ensures held { IfOk result (λ d. d.amount ≤ held) }
-    ensures fits { IfOk result (λ d. paid_of_item paid.now.rows target.now asset d.place + d.amount < 2 ^ 64) }
+    ensures fits { IfOk result (λ d. amount_of_item paid.now target.now asset d.place + d.amount < 2 ^ 64) }
 {
-    let Some(promise) = shape_in(guarantor_outcome, asset) else {
+    let Some(promise) = valid_shape(guarantor_outcome, asset) else {
         return Err(Refusal::NoAsset);
     };
-    let Some(shape) = shape_in(target_outcome, asset) else {
+    let Some(shape) = valid_shape(target_outcome, asset) else {
         return Err(Refusal::NoAsset);
     };
     let Shape::Guarantee(named, list) = promise else {

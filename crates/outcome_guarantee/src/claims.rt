@@ -3,15 +3,8 @@
 ghost use Rattle.std.specs.Prelude.{◌≡◌, ◌<◌, length};
 ghost use Rattle.channel_model.specs.Amounts.{amt, due};
 ghost use Rattle.channel_model.specs.Items.{dest_at};
-ghost use Rattle.nitro_bytes.specs.Outcomes.{is_same};
 
 use nitro_bytes::{Dest, Item};
-
-fn same(a: &Dest, b: &Dest) -> bool
-    ensures { result ≡ is_same a.now b.now }
-{
-    a == b
-}
 
 /// The amount of a destination's item, or 0.
 fn amount_for(items: &[Item], to: &Dest) -> u64
@@ -19,7 +12,7 @@ fn amount_for(items: &[Item], to: &Dest) -> u64
 {
     match items {
         [] => 0,
-        [first, _rest @ ..] if same(&first.to, to) => first.amount,
+        [first, _rest @ ..] if first.to.is(to) => first.amount,
         [_, rest @ ..] => amount_for(rest, to),
     }
 }
