@@ -1,44 +1,106 @@
 -- What a call answers, by what is kept of its channel.
-use Rattle.std.proofs.Common.{◌≡◌, ℕ, Bool, true, false, cond, List, Some, None, Ok, sym, ◌∙◌, ap}
-use Rattle.std.specs.Prelude.{Option, slice_set, IsSome, is_some}
+use Rattle.std.proofs.Common.{◌≡◌, ℕ, ◌<◌, Bool, true, false, cond, List, length, Some, None, refl, sym, ◌∙◌, ap, subst}
+use Rattle.std.specs.Prelude.{Option, slice_set, slice_index_or}
 use Rattle.std.specs.List.{slice_get}
-use Rattle.nitro_bytes.specs.declared.chain.Chain.{Chain}
+use Rattle.std.specs.Option.{option_map}
+use Rattle.std.proofs.lemmas.List.{set-get_or}
+use Rattle.std.proofs.lemmas.Option.{slice_get_within, get_or_from_slice_get}
 use Rattle.nitro_bytes.specs.declared.chain.Signed.{Signed}
 use Rattle.channel_model.specs.Rules.{Rules}
-use Rattle.channel_store.specs.Keeping.{note_fault, noted, is_newer}
-use Rattle.channel_store.specs.Storing.{place_of, kept_of, place_with, note_unless, note_at, note_of, fault_of, adopt_at, adopt_of}
+use Rattle.channel_calls.specs.Marked.{Marked, marked_of, is_newer}
+use Rattle.channel_store.specs.Keeping.{note_fault, noting, with_chain, adopting, IsGoodKept, AreGood}
+use Rattle.channel_store.specs.Storing.{place_of, kept_of, kept_at, kept_with, refusal_at, refusal_of, fault_of, is_newer_at, is_adopted}
 use Rattle.channel_store.specs.declared.fault.NoteFault.{NoteFault}
 use Rattle.channel_store.specs.declared.fault.NoteFault.TheVariants as faults
 use Rattle.channel_store.specs.declared.kept.Kept.{Kept}
+use Rattle.channel_store.proofs.Good.{changed_good, noting_good, adopting_good}
 
-pub unknown : (r : Rules) (channel : List ℕ) (next : Signed) (kept : List Kept) → None ≡ kept_of channel kept → faults.Unknown ≡ fault_of (note_of r channel next kept)
-unknown r channel next kept e = ap (λ (o : Option Kept). fault_of (note_at r next kept (place_of channel kept) o)) e
+-- ---- notes
 
-pub refused : (r : Rules) (channel : List ℕ) (next : Signed) (kept : List Kept) (k : Kept) (fault : NoteFault) → Some k ≡ kept_of channel kept → Some fault ≡ note_fault r k next → fault ≡ fault_of (note_of r channel next kept)
-refused r channel next kept k fault e f =
-    ap (λ (o : Option NoteFault). fault_of (note_unless o (slice_set kept (place_of channel kept) (noted k next)))) f
-    ∙ ap (λ (o : Option Kept). fault_of (note_at r next kept (place_of channel kept) o)) e
+pub unknown : (r : Rules) (channel : List ℕ) (next : Signed) (kept : List Kept) → None ≡ kept_of channel kept → faults.Unknown ≡ fault_of (refusal_of r channel next kept)
+unknown r channel next kept e = ap (λ (o : Option Kept). fault_of (refusal_at r next o)) e
 
-pub notes : (r : Rules) (channel : List ℕ) (next : Signed) (kept : List Kept) (k : Kept) → Some k ≡ kept_of channel kept → None ≡ note_fault r k next → note_of r channel next kept ≡ Ok (slice_set kept (place_of channel kept) (noted k next))
-notes r channel next kept k e f =
-    ap (note_at r next kept (place_of channel kept)) (sym e)
-    ∙ ap (λ (o : Option NoteFault). note_unless o (slice_set kept (place_of channel kept) (noted k next))) (sym f)
+pub refused : (r : Rules) (channel : List ℕ) (next : Signed) (kept : List Kept) (k : Kept) (fault : NoteFault) → Some k ≡ kept_of channel kept → Some fault ≡ note_fault r k next
+    → fault ≡ fault_of (refusal_of r channel next kept)
+refused r channel next kept k fault e f = ap fault_of f ∙ ap (λ (o : Option Kept). fault_of (refusal_at r next o)) e
 
-pub wants_memory : (r : Rules) (channel : List ℕ) (next : Signed) (kept : List Kept) (k : Kept) → Some k ≡ kept_of channel kept → None ≡ note_fault r k next → faults.NoMemory ≡ fault_of (note_of r channel next kept)
-wants_memory r channel next kept k e f = ap fault_of (sym (notes r channel next kept k e f))
+pub passed : (r : Rules) (channel : List ℕ) (next : Signed) (kept : List Kept) (k : Kept) → Some k ≡ kept_of channel kept → None ≡ note_fault r k next
+    → refusal_of r channel next kept ≡ None
+passed r channel next kept k e f = ap (refusal_at r next) (sym e) ∙ sym f
 
-pub adopts_nothing : (r : Rules) (shown : Chain) (kept : List Kept) → None ≡ slice_get kept (place_with shown.fixed kept) → adopt_of r shown kept ≡ None
-adopts_nothing r shown kept e = ap (adopt_at r shown kept (place_with shown.fixed kept)) (sym e)
+pub wants_memory : (r : Rules) (channel : List ℕ) (next : Signed) (kept : List Kept) (k : Kept) → Some k ≡ kept_of channel kept → None ≡ note_fault r k next
+    → faults.NoMemory ≡ fault_of (refusal_of r channel next kept)
+wants_memory r channel next kept k e f = ap fault_of (sym (passed r channel next kept k e f))
 
-pub keeps : (r : Rules) (shown : Chain) (kept : List Kept) (k : Kept) → Some k ≡ slice_get kept (place_with shown.fixed kept) → is_newer r k shown ≡ false → adopt_of r shown kept ≡ None
-keeps r shown kept k e f =
-    ap (adopt_at r shown kept (place_with shown.fixed kept)) (sym e)
-    ∙ ap (λ (b : Bool). cond b (Some (slice_set kept (place_with shown.fixed kept) (record k { chain = shown }))) None) f
+pub noted_one : (r : Rules) (own : Bool) (channel : List ℕ) (next : Signed) (kept : List Kept) (k noted : Kept) → Some k ≡ kept_of channel kept → noted ≡ noting r own next k
+    → option_map (noting r own next) (kept_of channel kept) ≡ Some noted
+noted_one r own channel next kept k noted e is = ap (option_map (noting r own next)) (sym e) ∙ ap (λ (x : Kept). Some x) (sym is)
 
-pub adopts : (r : Rules) (shown : Chain) (kept : List Kept) (k : Kept) → Some k ≡ slice_get kept (place_with shown.fixed kept) → is_newer r k shown ≡ true → adopt_of r shown kept ≡ Some (slice_set kept (place_with shown.fixed kept) (record k { chain = shown }))
-adopts r shown kept k e f =
-    ap (adopt_at r shown kept (place_with shown.fixed kept)) (sym e)
-    ∙ ap (λ (b : Bool). cond b (Some (slice_set kept (place_with shown.fixed kept) (record k { chain = shown }))) None) f
+pub wants_memory_of : (refusal : Option NoteFault) → refusal ≡ None → faults.NoMemory ≡ fault_of refusal
+wants_memory_of refusal e = ap fault_of (sym e)
 
-pub would_adopt : (r : Rules) (shown : Chain) (kept : List Kept) (k : Kept) → Some k ≡ slice_get kept (place_with shown.fixed kept) → is_newer r k shown ≡ true → IsSome (adopt_of r shown kept)
-would_adopt r shown kept k e f = ap is_some (adopts r shown kept k e f)
+-- ---- changes
+
+changed_at : (change : Kept → Kept) (kept : List Kept) (place : ℕ) (o : Option Kept) (k : Kept) → option_map change o ≡ Some k → slice_set kept place k ≡ kept_at change kept place o
+changed_at change kept place None k e = absurd cc
+changed_at change kept place (Some old) k e = ap (slice_set kept place) (sym (same e))
+  where
+    same : Some (change old) ≡ Some k → change old ≡ k
+    same f = cc
+
+pub within : (change : Kept → Kept) (channel : List ℕ) (kept : List Kept) (k : Kept) → option_map change (kept_of channel kept) ≡ Some k → place_of channel kept < length kept
+within change channel kept k e = go (kept_of channel kept) refl e
+  where
+    go : (o : Option Kept) → kept_of channel kept ≡ o → option_map change o ≡ Some k → place_of channel kept < length kept
+    go None f e = absurd cc
+    go (Some old) f e = slice_get_within kept (place_of channel kept) old f
+
+pub noted_changes : (change : Kept → Kept) (channel : List ℕ) (kept : List Kept) (k : Kept) → option_map change (kept_of channel kept) ≡ Some k
+    → slice_set kept (place_of channel kept) k ≡ kept_with change channel kept
+noted_changes change channel kept k e = changed_at change kept (place_of channel kept) (kept_of channel kept) k e
+
+pub noted_good : (r : Rules) (own : Bool) (channel : List ℕ) (next : Signed) (kept : List Kept) (k : Kept) → AreGood r kept → option_map (noting r own next) (kept_of channel kept) ≡ Some k
+    → AreGood r (slice_set kept (place_of channel kept) k)
+noted_good r own channel next kept k good e =
+    subst (AreGood r) (sym (noted_changes (noting r own next) channel kept k e)) (changed_good r (noting r own next) channel kept (noting_good r own next) good)
+
+pub changes : (change : Kept → Kept) (channel : List ℕ) (kept : List Kept) (k : Kept) → Some k ≡ kept_of channel kept
+    → slice_set kept (place_of channel kept) (change k) ≡ kept_with change channel kept
+changes change channel kept k e = ap (kept_at change kept (place_of channel kept)) e
+
+pub changes_nothing : (change : Kept → Kept) (channel : List ℕ) (kept : List Kept) → None ≡ kept_of channel kept → kept ≡ kept_with change channel kept
+changes_nothing change channel kept e = ap (kept_at change kept (place_of channel kept)) e
+
+-- ---- adoptions
+
+pub adopts_nothing : (r : Rules) (channel : List ℕ) (shown : Marked) (kept : List Kept) → None ≡ kept_of channel kept → false ≡ is_adopted r channel shown kept
+adopts_nothing r channel shown kept e = ap (is_newer_at r shown) e
+
+adopting_is : (r : Rules) (shown : Marked) (k : Kept) (b : Bool) → is_newer r k.chain.fixed shown (marked_of k.chain) ≡ b → adopting r shown k ≡ with_chain (cond b shown (marked_of k.chain)) k
+adopting_is r shown k b e = ap (λ (x : Bool). with_chain (cond x shown (marked_of k.chain)) k) e
+
+pub keeps : (r : Rules) (channel : List ℕ) (shown : Marked) (kept : List Kept) → is_adopted r channel shown kept ≡ false → kept ≡ kept_with (adopting r shown) channel kept
+keeps r channel shown kept e = go (kept_of channel kept) refl e
+  where
+    go : (o : Option Kept) → kept_of channel kept ≡ o → is_newer_at r shown o ≡ false → kept ≡ kept_at (adopting r shown) kept (place_of channel kept) o
+    go None f e = refl
+    go (Some k) f e =
+        sym (ap (slice_set kept (place_of channel kept)) (adopting_is r shown k false e ∙ sym (get_or_from_slice_get kept (place_of channel kept) k k f))
+        ∙ set-get_or kept (place_of channel kept) k)
+
+pub adopts : (r : Rules) (channel : List ℕ) (shown : Marked) (kept : List Kept) (k : Kept) → Some k ≡ kept_of channel kept → is_adopted r channel shown kept ≡ true
+    → slice_set kept (place_of channel kept) (with_chain shown k) ≡ kept_with (adopting r shown) channel kept
+adopts r channel shown kept k e f =
+    ap (slice_set kept (place_of channel kept)) (sym (adopting_is r shown k true (ap (is_newer_at r shown) e ∙ f)))
+    ∙ changes (adopting r shown) channel kept k e
+
+pub adopts_good : (r : Rules) (channel : List ℕ) (shown : Marked) (kept : List Kept) (k : Kept) → AreGood r kept → Some k ≡ kept_of channel kept → is_adopted r channel shown kept ≡ true
+    → AreGood r (slice_set kept (place_of channel kept) (with_chain shown k))
+adopts_good r channel shown kept k good e f =
+    subst (AreGood r) (sym (adopts r channel shown kept k e f)) (changed_good r (adopting r shown) channel kept (adopting_good r shown) good)
+
+pub adopts_set : (r : Rules) (channel : List ℕ) (shown : Marked) (kept after : List Kept) (k new : Kept) (place : ℕ) → after ≡ kept → place ≡ place_of channel kept → new ≡ with_chain shown k
+    → AreGood r kept → Some k ≡ kept_of channel kept → is_adopted r channel shown kept ≡ true → AreGood r (slice_set after place new)
+adopts_set r channel shown kept after k new place same at is good e f =
+    subst (AreGood r) (sym (ap (λ (ks : List Kept). slice_set ks place new) same ∙ ap (λ (n : ℕ). slice_set kept n new) at ∙ ap (slice_set kept (place_of channel kept)) is))
+    (adopts_good r channel shown kept k good e f)

@@ -1,47 +1,45 @@
 -- What is kept stays the first round so far or a supported chain, and a chain is held exactly where it is supported.
-use Rattle.std.proofs.Common.{◌≡◌, ℕ, ◌<◌, ◌≤◌, Bool, true, false, cond, ◌||◌, not, List, Some, None, Ok, inl, inr, length, refl, sym, ◌∙◌, subst, arith}
-use Rattle.std.specs.Prelude.{Option, Result, slice_set, nat_lt, is_ok}
-use Rattle.std.specs.List.{slice_get}
-use Rattle.std.proofs.lemmas.List.Elements.{All-nil, All-get_or, All-set, All-push}
+use Rattle.std.proofs.Common.{◌≡◌, ℕ, ◌<◌, ◌≤◌, Bool, true, false, cond, ◌&&◌, ◌||◌, not, List, [], ◌∷◌, ◌++◌, Some, None, inl, inr, length, refl, sym, ◌∙◌, ap, subst, arith}
+use Rattle.std.specs.Prelude.{Option, slice_set, nat_le, nat_lt, is_ok}
+use Rattle.std.specs.List.{All, slice_get, flat_map}
+use Rattle.std.proofs.lemmas.Bool.Decides.{nat_tests}
+use Rattle.std.proofs.lemmas.List.Elements.{All-nil, All-cons, All-head, All-tail, All-get_or, All-set, All-push, All-append}
 use Rattle.std.proofs.lemmas.Option.{slice_get_within, get_or_from_slice_get}
 use Rattle.nitro_bytes.specs.Parts.{FixedParts}
-use Rattle.nitro_bytes.specs.Spelling.{fixed}
-use Rattle.nitro_bytes.specs.declared.chain.Chain.{Chain}
 use Rattle.nitro_bytes.specs.declared.chain.Signed.{Signed}
-use Rattle.nitro_bytes.proofs.Format.{spelled_once}
-use Rattle.nitro_bytes.proofs.Formats.{fixed_format}
 use Rattle.channel_model.specs.Rules.{Rules, people, top_turn}
 use Rattle.channel_model.specs.Support.{supports}
-use Rattle.channel_calls.specs.Marked.{nothing, marked_of, is_supported}
-use Rattle.channel_calls.proofs.Names.{same_bytes}
-use Rattle.net_model.specs.Held.{IsYoung}
-use Rattle.history_laws.proofs.Tests.{and-left, true-le, false-le, some-eq, none-eq}
-use Rattle.history_laws.proofs.Chains.{parts}
-use Rattle.history_laws.proofs.Opening.{noted-good}
-use Rattle.channel_store.specs.Keeping.{is_held, note_fault, noted, is_newer}
-use Rattle.channel_store.specs.Storing.{place_of, kept_of, place_with, added, note_unless, note_at, note_of, adopt_at, adopt_of}
-use Rattle.channel_store.specs.Laws.{IsGoodKept, AreGood, KeptAreGood, HeldAreSupported, BytesTellChannels}
-use Rattle.channel_store.specs.declared.fault.NoteFault.{NoteFault}
+use Rattle.channel_calls.specs.Marked.{Marked, nothing, marked_of, is_supported, answered, extends, is_newer}
+use Rattle.channel_calls.specs.declared.held_chain.HeldChain.{HeldChain}
+use Rattle.chain_laws.proofs.Tests.{and-left, true-le, false-le}
+use Rattle.chain_laws.proofs.Chains.{parts}
+use Rattle.chain_laws.proofs.Growing.{noted-good, nothing-young}
+use Rattle.channel_store.specs.Keeping.{is_held, is_as_new, with_chain, noting, adopting, held_chain, IsGoodKept, AreGood, AreSupported}
+use Rattle.channel_store.specs.Storing.{place_of, kept_of, kept_at, kept_with, added}
 use Rattle.channel_store.specs.declared.kept.Kept.{Kept}
-use Rattle.channel_store.proofs.Held.{passes}
 
 -- ---- one channel
 
-nothing_young : (r : Rules) (f : FixedParts) → 1 ≤ people f → IsYoung r f nothing
-nothing_young r f one =
-    record { few = omega arith; marks = refl; first = λ s e. absurd (none-eq s e); turns = tt; steps = tt; at = λ i m e. absurd (none-eq m e); well = λ i m s e on. absurd (none-eq m e) }
+pub noting_good : (r : Rules) (own : Bool) (next : Signed) (k : Kept) → IsGoodKept r k → IsGoodKept r (noting r own next k)
+noting_good r own next k good = go (extends r k.chain.fixed next (marked_of k.chain)) refl
+  where
+    go : (b : Bool) → extends r k.chain.fixed next (marked_of k.chain) ≡ b
+        → IsGoodKept r (with_chain (cond b (answered k.chain.fixed next (marked_of k.chain)) (marked_of k.chain)) k)
+    go true e = (noted-good r k.chain.fixed next (marked_of k.chain) good e).good
+    go false e = good
 
-noted_good : (r : Rules) (k : Kept) (next : Signed) → IsGoodKept r k → note_fault r k next ≡ None → IsGoodKept r (noted k next)
-noted_good r k next good e = (noted-good r k.chain.fixed next (marked_of k.chain) good (passes r k next e)).good
+pub adopting_good : (r : Rules) (shown : Marked) (k : Kept) → IsGoodKept r k → IsGoodKept r (adopting r shown k)
+adopting_good r shown k good = go (is_newer r k.chain.fixed shown (marked_of k.chain)) refl
+  where
+    go : (b : Bool) → is_newer r k.chain.fixed shown (marked_of k.chain) ≡ b → IsGoodKept r (with_chain (cond b shown (marked_of k.chain)) k)
+    go true e = inr (and-left (is_supported r k.chain.fixed shown) (not (is_supported r k.chain.fixed (marked_of k.chain)) || nat_lt (top_turn k.chain.states) (top_turn shown.states)) e)
+    go false e = good
 
-shown_good : (r : Rules) (k : Kept) (shown : Chain) → is_newer r k shown ≡ true → IsGoodKept r (record k { chain = shown })
-shown_good r k shown e = inr (and-left (is_ok (supports r shown)) (not (is_held k) || nat_lt (top_turn k.chain.states) (top_turn shown.states)) e)
-
-pub held_are_supported : HeldAreSupported
-held_are_supported r k (inr chain) =
+pub held_is : (r : Rules) (k : Kept) → IsGoodKept r k → is_held k ≡ is_supported r k.chain.fixed (marked_of k.chain)
+held_is r k (inr chain) =
     let marks : length k.chain.marks ≡ people k.chain.fixed = (parts r k.chain.fixed (marked_of k.chain) chain).marks in
     true-le (people k.chain.fixed) (length k.chain.marks) (omega arith) ∙ sym chain
-held_are_supported r k (inl young) = go (is_supported r k.chain.fixed (marked_of k.chain)) refl
+held_is r k (inl young) = go (is_supported r k.chain.fixed (marked_of k.chain)) refl
   where
     few : length k.chain.marks < people k.chain.fixed
     few = let marks : length k.chain.marks ≡ length k.chain.states = young.marks in let states : length k.chain.states < people k.chain.fixed = young.few in omega arith
@@ -52,51 +50,80 @@ held_are_supported r k (inl young) = go (is_supported r k.chain.fixed (marked_of
         absurd (omega (arith, few))
     go false e = false-le (people k.chain.fixed) (length k.chain.marks) few ∙ sym e
 
+good_few : (r : Rules) (k : Kept) → IsGoodKept r k → length k.chain.states ≤ people k.chain.fixed
+good_few r k (inr chain) = (parts r k.chain.fixed (marked_of k.chain) chain).few
+good_few r k (inl young) = let states : length k.chain.states < people k.chain.fixed = young.few in omega arith
+
+-- ---- a shown chain
+
+lt_not : (a b : ℕ) → nat_lt a b ≡ not (nat_le b a)
+lt_not a b = grind (arith, nat_tests)
+
+either : (s h le : Bool) → (s && (not h || not le)) ≡ (s && not (h && le))
+either s true le = refl
+either s false le = refl
+
+and_false : (b : Bool) → (b && false) ≡ false
+and_false true = refl
+and_false false = refl
+
+and_true : (b : Bool) → (b && true) ≡ b
+and_true true = refl
+and_true false = refl
+
+newer_is : (r : Rules) (k : Kept) (shown : Marked) → IsGoodKept r k → is_newer r k.chain.fixed shown (marked_of k.chain) ≡ (is_supported r k.chain.fixed shown && not (is_as_new k shown))
+newer_is r k shown good =
+    ap (λ b. is_supported r k.chain.fixed shown && (not b || nat_lt (top_turn k.chain.states) (top_turn shown.states))) (sym (held_is r k good))
+    ∙ ap (λ b. is_supported r k.chain.fixed shown && (not (is_held k) || b)) (lt_not (top_turn k.chain.states) (top_turn shown.states))
+    ∙ either (is_supported r k.chain.fixed shown) (is_held k) (nat_le (top_turn shown.states) (top_turn k.chain.states))
+
+pub not_newer : (r : Rules) (k : Kept) (shown : Marked) → IsGoodKept r k → is_as_new k shown ≡ true → is_newer r k.chain.fixed shown (marked_of k.chain) ≡ false
+not_newer r k shown good e = newer_is r k shown good ∙ ap (λ b. is_supported r k.chain.fixed shown && not b) e ∙ and_false (is_supported r k.chain.fixed shown)
+
+pub newer : (r : Rules) (k : Kept) (shown : Marked) → IsGoodKept r k → is_as_new k shown ≡ false → is_newer r k.chain.fixed shown (marked_of k.chain) ≡ is_supported r k.chain.fixed shown
+newer r k shown good e = newer_is r k shown good ∙ ap (λ b. is_supported r k.chain.fixed shown && not b) e ∙ and_true (is_supported r k.chain.fixed shown)
+
 -- ---- all channels
 
-good_at : (r : Rules) (kept : List Kept) (i : ℕ) (k : Kept) → slice_get kept i ≡ Some k → AreGood r kept → IsGoodKept r k
+pub good_at : (r : Rules) (kept : List Kept) (i : ℕ) (k : Kept) → slice_get kept i ≡ Some k → AreGood r kept → IsGoodKept r k
 good_at r kept i k e good = subst (IsGoodKept r) (get_or_from_slice_get kept i k k e) (All-get_or (IsGoodKept r) kept i k (slice_get_within kept i k e) good)
 
-abbrev wanted : List Kept → Result (List Kept) NoteFault
-wanted kept = Ok kept
+pub kept_few : (r : Rules) (channel : List ℕ) (kept : List Kept) (k : Kept) → AreGood r kept → Some k ≡ kept_of channel kept → length k.chain.states ≤ people k.chain.fixed
+kept_few r channel kept k good e = good_few r k (good_at r kept (place_of channel kept) k (sym e) good)
 
-ok-eq : (xs ys : List Kept) → wanted xs ≡ wanted ys → xs ≡ ys
-ok-eq xs ys e = cc
+pub added_good : (r : Rules) (f : FixedParts) (me : ℕ) (kept : List Kept) → 1 ≤ people f → AreGood r kept → AreGood r (kept ++ added f me ∷ [])
+added_good r f me kept some good = All-push (IsGoodKept r) kept (added f me) good (inl (nothing-young r f some))
 
-note_good : (r : Rules) (channel : List ℕ) (next : Signed) (kept new : List Kept) → AreGood r kept → note_of r channel next kept ≡ Ok new → AreGood r new
-note_good r channel next kept new good noting = at (kept_of channel kept) refl noting
+pub added_well : (r : Rules) (f : FixedParts) (me : ℕ) (kept : List Kept) → me < people f → AreGood r kept → AreGood r (kept ++ added f me ∷ [])
+added_well r f me kept position good = added_good r f me kept (omega arith) good
+
+-- a change that keeps a channel good keeps them all so
+pub changed_good : (r : Rules) (change : Kept → Kept) (channel : List ℕ) (kept : List Kept) → ((k : Kept) → IsGoodKept r k → IsGoodKept r (change k)) → AreGood r kept
+    → AreGood r (kept_with change channel kept)
+changed_good r change channel kept keeps good = go (kept_of channel kept) refl
   where
-    at : (o : Option Kept) → kept_of channel kept ≡ o → note_at r next kept (place_of channel kept) o ≡ Ok new → AreGood r new
-    at None found e = absurd cc
-    at (Some k) found e = unless (note_fault r k next) refl e
-      where
-        unless : (o : Option NoteFault) → note_fault r k next ≡ o → note_unless o (slice_set kept (place_of channel kept) (noted k next)) ≡ Ok new → AreGood r new
-        unless (Some fault) f e = absurd cc
-        unless None f e =
-            subst (AreGood r) (ok-eq (slice_set kept (place_of channel kept) (noted k next)) new e)
-            (All-set (IsGoodKept r) kept (place_of channel kept) (noted k next) (noted_good r k next (good_at r kept (place_of channel kept) k found good) f) good)
+    go : (o : Option Kept) → kept_of channel kept ≡ o → AreGood r (kept_at change kept (place_of channel kept) o)
+    go None e = good
+    go (Some k) e = All-set (IsGoodKept r) kept (place_of channel kept) (change k) (keeps k (good_at r kept (place_of channel kept) k e good)) good
 
-adopt_good : (r : Rules) (shown : Chain) (kept new : List Kept) → AreGood r kept → adopt_of r shown kept ≡ Some new → AreGood r new
-adopt_good r shown kept new good adopting = at (slice_get kept (place_with shown.fixed kept)) adopting
+pub notes_good : (r : Rules) (own : Bool) (channel : List ℕ) (next : Signed) (kept : List Kept) (k : Kept) → AreGood r kept → Some k ≡ kept_of channel kept
+    → AreGood r (slice_set kept (place_of channel kept) (noting r own next k))
+notes_good r own channel next kept k good e =
+    All-set (IsGoodKept r) kept (place_of channel kept) (noting r own next k) (noting_good r own next k (good_at r kept (place_of channel kept) k (sym e) good)) good
+
+-- each held chain is supported
+supported_one : (r : Rules) (k : Kept) → IsGoodKept r k → AreSupported r (held_chain k)
+supported_one r k good = go (is_held k) (held_is r k good)
   where
-    at : (o : Option Kept) → adopt_at r shown kept (place_with shown.fixed kept) o ≡ Some new → AreGood r new
-    at None e = absurd (none-eq new e)
-    at (Some k) e = test (is_newer r k shown) refl e
-      where
-        test : (b : Bool) → is_newer r k shown ≡ b → cond b (Some (slice_set kept (place_with shown.fixed kept) (record k { chain = shown }))) None ≡ Some new → AreGood r new
-        test true f e =
-            subst (AreGood r) (some-eq (slice_set kept (place_with shown.fixed kept) (record k { chain = shown })) new e)
-            (All-set (IsGoodKept r) kept (place_with shown.fixed kept) (record k { chain = shown }) (shown_good r k shown f) good)
-        test false f e = absurd (none-eq new e)
+    held : HeldChain
+    held = record { channel = k.channel; chain = k.chain }
 
-pub kept_are_good : KeptAreGood
-kept_are_good r =
-    record {
-      begins = All-nil (IsGoodKept r);
-      adds = λ f me kept one good. All-push (IsGoodKept r) kept (added f me) good (inl (nothing_young r f one));
-      notes = note_good r;
-      adopts = adopt_good r;
-    }
+    go : (b : Bool) → b ≡ is_supported r k.chain.fixed (marked_of k.chain) → AreSupported r (cond b (record { channel = k.channel; chain = k.chain } ∷ []) [])
+    go true e = All-cons (λ (h : HeldChain). is_ok (supports r h.chain) ≡ true) held [] (sym e) (All-nil (λ (h : HeldChain). is_ok (supports r h.chain) ≡ true))
+    go false e = All-nil (λ (h : HeldChain). is_ok (supports r h.chain) ≡ true)
 
-pub bytes_tell_channels : BytesTellChannels
-bytes_tell_channels f k valid own e = spelled_once fixed_format f k.chain.fixed valid own (sym (same_bytes (fixed k.chain.fixed) (fixed f) e))
+pub held_are_supported : (r : Rules) (kept : List Kept) → AreGood r kept → AreSupported r (flat_map held_chain kept)
+held_are_supported r [] good = All-nil (λ (h : HeldChain). is_ok (supports r h.chain) ≡ true)
+held_are_supported r (k ∷ kept) good =
+    All-append (λ (h : HeldChain). is_ok (supports r h.chain) ≡ true) (held_chain k) (flat_map held_chain kept)
+    (supported_one r k (All-head (IsGoodKept r) k kept good)) (held_are_supported r kept (All-tail (IsGoodKept r) k kept good))

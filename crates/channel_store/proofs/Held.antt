@@ -1,16 +1,14 @@
--- What is noted and adopted is what the definition of held chains says.
+-- What is noted is what the definition of held chains says.
 use Rattle.std.proofs.Common.{◌≡◌, Bool, true, false, cond, Some, None, refl, sym, ◌∙◌, ap}
-use Rattle.std.specs.Prelude.{Option, ◌&&◌, ◌||◌, ◌==◌, not, nat_lt, is_ok, is_none}
+use Rattle.std.specs.Prelude.{Option, ◌&&◌, ◌==◌, not, is_none}
 use Rattle.std.specs.Option.{option_map}
 use Rattle.nitro_bytes.specs.Parts.{StateParts}
 use Rattle.nitro_bytes.specs.declared.chain.Signed.{Signed}
 use Rattle.nitro_bytes.specs.declared.fault.StepFault.{StepFault}
 use Rattle.channel_model.specs.Words.{fault_if, ◌⊳◌}
-use Rattle.channel_model.specs.Rules.{Rules, newest, top_turn, is_signed_well}
-use Rattle.channel_model.specs.Support.{supports}
-use Rattle.channel_calls.specs.Marked.{marked_of, chain_of, is_supported, answered, is_step, extends, adopted}
-use Rattle.channel_store.specs.Keeping.{is_held, is_ended, next_of, step_after, step_of, note_fault, is_newer}
-use Rattle.channel_store.specs.Laws.{NotingExtends, AdoptingAdopts}
+use Rattle.channel_model.specs.Rules.{Rules, newest, is_signed_well}
+use Rattle.channel_calls.specs.Marked.{marked_of, chain_of, answered, is_step, extends}
+use Rattle.channel_store.specs.Keeping.{is_ended, next_of, step_after, step_of, note_fault, last_after, with_chain, noting}
 use Rattle.channel_store.specs.declared.fault.NoteFault.{NoteFault}
 use Rattle.channel_store.specs.declared.fault.NoteFault.TheVariants as faults
 use Rattle.channel_store.specs.declared.kept.Kept.{Kept}
@@ -57,17 +55,8 @@ passes r k next e =
     ap (λ b. b && (is_signed_well r k.chain.fixed next && is_step r k.chain.fixed next.state (newest k.chain.states))) turn
     ∙ ap (λ b. b && is_step r k.chain.fixed next.state (newest k.chain.states)) signed ∙ step
 
-pub noting_extends : NotingExtends
-noting_extends r k next e = sym (ap (λ b. cond b (answered k.chain.fixed next (marked_of k.chain)) (marked_of k.chain)) (passes r k next e))
-
-pub adopting_adopts : AdoptingAdopts
-adopting_adopts r k shown same held = go (is_newer r k shown) refl
-  where
-    tests : is_newer r k shown ≡ (is_supported r k.chain.fixed (marked_of shown) && (not (is_supported r k.chain.fixed (marked_of k.chain)) || nat_lt (top_turn k.chain.states) (top_turn shown.states)))
-    tests =
-        ap (λ f. is_ok (supports r (chain_of f (marked_of shown))) && (not (is_held k) || nat_lt (top_turn k.chain.states) (top_turn shown.states))) same
-        ∙ ap (λ b. is_supported r k.chain.fixed (marked_of shown) && (not b || nat_lt (top_turn k.chain.states) (top_turn shown.states))) held
-
-    go : (b : Bool) → is_newer r k shown ≡ b → marked_of (cond b shown k.chain) ≡ adopted r k.chain.fixed (marked_of shown) (marked_of k.chain)
-    go true e = sym (ap (λ b. cond b (marked_of shown) (marked_of k.chain)) (sym tests ∙ e))
-    go false e = sym (ap (λ b. cond b (marked_of shown) (marked_of k.chain)) (sym tests ∙ e))
+-- so what is kept with a state that passes is what the definition makes of it
+pub noted_is : (r : Rules) (own : Bool) (k : Kept) (next : Signed) → note_fault r k next ≡ None
+    → record k { chain = chain_of k.chain.fixed (answered k.chain.fixed next (marked_of k.chain)); last = last_after own k next.state } ≡ noting r own next k
+noted_is r own k next e =
+    sym (ap (λ (b : Bool). record (with_chain (cond b (answered k.chain.fixed next (marked_of k.chain)) (marked_of k.chain)) k) { last = last_after own k next.state }) (passes r k next e))

@@ -1,19 +1,18 @@
 -- What a store keeps of its channels, what it notes and adopts, and the lists that it lends out.
-use Rattle.std.specs.Prelude.{◌≡◌, ℕ, ◌==◌, Bool, not, ◌&&◌, ◌||◌, nat_le, nat_lt, List, [], ◌∷◌, length, map, is_ok, Option, Some, None, if◌then◌else◌}
-use Rattle.std.specs.List.{flat_map, list_all}
+use Rattle.std.specs.Prelude.{◌≡◌, ℕ, ◌==◌, Bool, true, not, ◌&&◌, nat_le, List, [], ◌∷◌, length, map, is_ok, Option, Some, None, if◌then◌else◌}
+use Rattle.std.specs.List.{All, flat_map, list_all}
 use Rattle.std.specs.Option.{option_map}
 use Rattle.nitro_bytes.specs.Parts.{StateParts}
-use Rattle.nitro_bytes.specs.declared.chain.Chain.{Chain}
 use Rattle.nitro_bytes.specs.declared.chain.Signed.{Signed}
 use Rattle.nitro_bytes.specs.declared.fault.StepFault.{StepFault}
 use Rattle.channel_model.specs.Words.{fault_if, ◌⊳◌}
-use Rattle.channel_model.specs.Chains.{mover}
 use Rattle.channel_model.specs.Rules.{Rules, people, newest, top_turn, is_signed_well}
 use Rattle.channel_model.specs.Support.{supports}
-use Rattle.channel_calls.specs.Marked.{marked_of, chain_of, answered, next_after}
+use Rattle.channel_calls.specs.Marked.{Marked, marked_of, chain_of, next_after, extended, adopted}
 use Rattle.channel_calls.specs.declared.held_chain.HeldChain.{HeldChain}
 use Rattle.channel_calls.specs.declared.held_chain.Known.{Known}
 use Rattle.channel_calls.specs.declared.held_chain.Place.{Place}
+use Rattle.net_model.specs.Held.{IsGood}
 use Rattle.support_chain.specs.Steps.{persons}
 use Rattle.channel_store.specs.declared.fault.NoteFault.{NoteFault}
 use Rattle.channel_store.specs.declared.fault.NoteFault.TheVariants as faults
@@ -48,17 +47,33 @@ note_fault r k next =
     ⊳ fault_if (not (is_signed_well r k.chain.fixed next)) faults.BadSignature
     ⊳ option_map faults.BadStep (step_of r k next.state)
 
--- the participant's own state where it moved, else the one before
-abbrev pub last_after : Kept → StateParts → Option StateParts
-last_after k s = if mover (people k.chain.fixed) s.turn == k.me then Some s else k.last
+-- the state that the participant signed last: this one where it signed it itself, else the one before
+abbrev pub last_after : Bool → Kept → StateParts → Option StateParts
+last_after own k s = if own then Some s else k.last
 
--- with a state noted
-abbrev pub noted : Kept → Signed → Kept
-noted k next = record k { chain = chain_of k.chain.fixed (answered k.chain.fixed next (marked_of k.chain)); last = last_after k next.state }
+-- a chain is held with at least the turn of the shown one
+abbrev pub is_as_new : Kept → Marked → Bool
+is_as_new k shown = is_held k && nat_le (top_turn shown.states) (top_turn k.chain.states)
 
--- a shown chain is supported, and none is held or the held one is older
-abbrev pub is_newer : Rules → Kept → Chain → Bool
-is_newer r k shown = is_ok (supports r shown) && (not (is_held k) || nat_lt (top_turn k.chain.states) (top_turn shown.states))
+-- with other states and marks, of the same channel
+abbrev pub with_chain : Marked → Kept → Kept
+with_chain w k = record k { chain = chain_of k.chain.fixed w }
+
+-- with a state, where it passes the tests; `own` says that the participant signed it itself
+abbrev pub noting : Rules → Bool → Signed → Kept → Kept
+noting r own next k =
+    record (with_chain (extended r k.chain.fixed (Some next) (marked_of k.chain)) k) { last = last_after own k next.state }
+
+-- with a shown chain, where it is newer by the channel's own fixed part
+abbrev pub adopting : Rules → Marked → Kept → Kept
+adopting r shown k = with_chain (adopted r k.chain.fixed shown (marked_of k.chain)) k
+
+-- what is kept of a channel is its first round so far, each state with its mover's mark, or a supported chain
+abbrev pub IsGoodKept : Rules → Kept → Type 0
+IsGoodKept r k = IsGood r k.chain.fixed (marked_of k.chain)
+
+abbrev pub AreGood : Rules → List Kept → Type 0
+AreGood r kept = All (IsGoodKept r) kept
 
 -- ---- the lists
 
@@ -84,3 +99,13 @@ pub record IsLent (kept : List Kept) (chains : List HeldChain) (known : List Kno
   pub chains_are : chains ≡ flat_map held_chain kept
   pub known_are : known ≡ flat_map known_state kept
   pub places_are : places ≡ map place_in kept
+
+-- each of these chains is supported
+abbrev pub AreSupported : Rules → List HeldChain → Type 0
+AreSupported r chains = All (λ held. is_ok (supports r held.chain) ≡ true) chains
+
+-- what a store is: its lists are those of what it keeps, and that is good
+pub record IsStore (r : Rules) (kept : List Kept) (chains : List HeldChain) (known : List Known) (places : List Place)
+    : Type 0 where
+  pub lent : IsLent kept chains known places
+  pub good : AreGood r kept

@@ -1,22 +1,23 @@
 //! What is kept of one channel.
 
-ghost use Rattle.std.specs.Prelude.{◌≡◌, ◌<◌, IfOk};
+ghost use Rattle.std.specs.Prelude.{◌≡◌, ◌<◌, ◌≤◌, length, None, IfOk};
 ghost use Rattle.std.specs.List.{list_all};
 ghost use Rattle.std.specs.Option.{option_map};
 ghost use Rattle.std.specs.Result.{result_err};
 ghost use Rattle.channel_model.specs.Chains.{mover};
 ghost use Rattle.channel_model.specs.Rules.{people, newest, is_signed_well};
-ghost use Rattle.channel_calls.specs.Marked.{next_after};
+ghost use Rattle.channel_calls.specs.Marked.{marked_of, is_supported, is_newer, next_after};
 ghost use Rattle.support_chain.specs.Real.{real};
-ghost use Rattle.channel_store.specs.Keeping.{is_held, is_ended, next_of, step_of, note_fault, is_newer, last_after, noted};
+ghost use Rattle.channel_store.specs.Keeping.{is_held, is_ended, next_of, step_of, note_fault, is_as_new, last_after, with_chain, noting, IsGoodKept};
 
 use crate::fault::NoteFault;
 use channel_calls::{answered, newest, top_turn};
 use nitro_bytes::{Chain, Fixed, Name, NoMemory, Signed, State, StepFault};
+use std::mem;
 use support_chain::{people_of, signs_state, step, supports};
 
 /// A channel, the participant's position in it, the states that were noted or shown with their marks, and the last
-/// state that the participant signed. Once each participant has a mark, the states are the held chain.
+/// state that the participant signed itself. Once each participant has a mark, the states are the held chain.
 #[derive(Drop)]
 pub struct Kept {
     pub channel: Name,
@@ -122,11 +123,11 @@ impl Kept {
         Ok(())
     }
 
-    /// The last state that the participant signed, once this one is noted.
-    fn last_after(&self, state: &State) -> Result<Option<State>, NoMemory>
-        ensures { IfOk result (λ o. o ≡ last_after self.now state.now) }
+    /// The last state that the participant signed, once this one is noted; `own` says that it signed this one.
+    fn last_after(&self, state: &State, own: bool) -> Result<Option<State>, NoMemory>
+        ensures { IfOk result (λ o. o ≡ last_after own self.now state.now) }
     {
-        if mover_of(&self.chain.fixed, state) == self.me as usize {
+        if own {
             let copy = state.copy()?;
             Ok(Some(copy))
         } else {
@@ -134,12 +135,24 @@ impl Kept {
         }
     }
 
-    /// What is kept with the state noted.
-    pub(crate) fn noted(&self, signed: Signed) -> Result<Kept, NoMemory>
-        ensures { IfOk result (λ k. k ≡ noted self.now signed) }
+    /// A copy of the states and marks. A channel has at most four people, and no more states are kept.
+    fn copy_chain(&self) -> Result<Chain, NoMemory>
+        requires { length self.now.chain.states ≤ people self.now.chain.fixed }
+        ensures same { IfOk result (λ chain. chain ≡ self.now.chain) }
+        ensures few { length self.now.chain.states ≤ 4 }
     {
-        let last = self.last_after(&signed.state)?;
-        let chain = self.chain.copy()?;
+        let _ = self.chain.fixed.keys();
+        self.chain.copy()
+    }
+
+    /// What is kept with the state noted; `own` says that the participant signed it.
+    pub(crate) fn noted(&self, signed: Signed, own: bool) -> Result<Kept, NoMemory>
+        requires passes { note_fault real self.now signed ≡ None }
+        requires few { length self.now.chain.states ≤ people self.now.chain.fixed }
+        ensures { IfOk result (λ k. k ≡ noting real own signed self.now) }
+    {
+        let last = self.last_after(&signed.state, own)?;
+        let chain = self.copy_chain()?;
         let chain = answered(&self.chain.fixed, chain, signed)?;
         Ok(Kept {
             channel: self.channel,
@@ -149,25 +162,56 @@ impl Kept {
         })
     }
 
-    /// What is kept with this chain in place of the other.
-    pub(crate) fn with_chain(&self, chain: Chain) -> Result<Kept, NoMemory>
-        ensures { IfOk result (λ k. k ≡ record self.now { chain = chain }) }
+    /// What is kept with these states and marks in place of the others.
+    pub(crate) fn with_chain(&self, shown: Chain) -> Result<Kept, NoMemory>
+        ensures { IfOk result (λ k. k ≡ with_chain (marked_of shown) self.now) }
     {
+        let fixed = self.chain.fixed.copy()?;
         let last = copy_last(&self.last)?;
         Ok(Kept {
             channel: self.channel,
             me: self.me,
-            chain,
+            chain: Chain {
+                fixed,
+                states: shown.states,
+                marks: shown.marks,
+            },
             last,
         })
     }
 
-    /// Whether the chain is supported, and none is held or the held one is older.
-    pub(crate) fn is_newer(&self, shown: &Chain) -> bool
-        ensures { result ≡ is_newer real self.now shown.now }
+    /// Whether the states and marks are supported with this channel's fixed part. Both chains are as before.
+    fn supports(&mut self, shown: &mut Chain) -> bool
+        ensures value { result ≡ is_supported real self.old.chain.fixed (marked_of shown.old) }
+        ensures same { self.new ≡ self.old }
+        ensures shown { shown.new ≡ shown.old }
     {
-        supports(shown).is_ok()
-            && (!self.is_held()
-                || top_turn(self.chain.states.as_slice()) < top_turn(shown.states.as_slice()))
+        mem::swap(&mut self.chain.fixed, &mut shown.fixed);
+        let is_supported = supports(shown).is_ok();
+        mem::swap(&mut self.chain.fixed, &mut shown.fixed);
+        is_supported
+    }
+
+    /// Whether a chain is held with at least the turn of the shown one.
+    fn is_as_new(&self, shown: &Chain) -> bool
+        ensures { result ≡ is_as_new self.now (marked_of shown.now) }
+    {
+        self.is_held()
+            && top_turn(shown.states.as_slice()) <= top_turn(self.chain.states.as_slice())
+    }
+
+    /// Whether the states and marks are supported with this channel's fixed part, and no chain is held or the held one
+    /// is older. Both chains are as before.
+    #[tactic(auto, using(crate::proofs::Good::not_newer))]
+    pub(crate) fn is_newer(&mut self, shown: &mut Chain) -> bool
+        requires { IsGoodKept real self.old }
+        ensures value { result ≡ is_newer real self.old.chain.fixed (marked_of shown.old) (marked_of self.old.chain) }
+        ensures same { self.new ≡ self.old }
+        ensures shown { shown.new ≡ shown.old }
+    {
+        if self.is_as_new(shown) {
+            return false;
+        }
+        self.supports(shown)
     }
 }

@@ -1,15 +1,17 @@
 //! The store of all channels of a participant.
 
-ghost use Rattle.std.specs.Prelude.{◌≡◌, ◌<◌, ◌++◌, ◌∷◌, [], List, length, map, slice_set, find, option_and_then, IfOk, OnOk, OnErr, IsNone};
+ghost use Rattle.std.specs.Prelude.{◌≡◌, ◌<◌, ◌≤◌, Some, None, IfOk, IfSome, MatchResult, ◌++◌, ◌∷◌, [], List, length, map, slice_set, find, option_and_then, true, false, OnOk, OnErr, IsNone};
 ghost use Rattle.std.specs.List.{flat_map, slice_get};
 ghost use Rattle.std.specs.Option.{option_map};
 ghost use Rattle.std.specs.Str.{bytes_eq};
+ghost use Rattle.std.specs.Result.{result_err};
 ghost use Rattle.nitro_bytes.specs.Spelling.{fixed as spelled};
 ghost use Rattle.channel_name.specs.Digests.{name_of_channel};
 ghost use Rattle.channel_model.specs.Rules.{people, newest};
 ghost use Rattle.support_chain.specs.Real.{real};
-ghost use Rattle.channel_store.specs.Keeping.{held_chain, known_state, place_in, next_of};
-ghost use Rattle.channel_store.specs.Storing.{place_of, kept_of, place_with, added, note_of, Notes, adopt_of, Adopts};
+ghost use Rattle.channel_calls.specs.Marked.{marked_of};
+ghost use Rattle.channel_store.specs.Keeping.{held_chain, known_state, place_in, next_of, noting, adopting, AreGood, AreSupported};
+ghost use Rattle.channel_store.specs.Storing.{place_of, kept_of, kept_with, added, refusal_of, fault_of, Notes, is_adopted, Adopts};
 
 use crate::fault::NoteFault;
 use crate::kept::Kept;
@@ -31,25 +33,20 @@ pub struct Store {
 impl Model for Store {
     ghost use Rattle.std.specs.Prelude.{List};
     ghost use Rattle.channel_store.specs.declared.kept.Kept.{Kept};
-    ghost use Rattle.channel_store.specs.Keeping.{IsLent};
+    ghost use Rattle.channel_store.specs.Keeping.{IsStore};
+    ghost use Rattle.support_chain.specs.Real.{real};
 
     ghost Value = { List Kept };
 
     ghost view = { λ s. s.kept.items };
 
-    ghost invariant = { λ s. IsLent s.kept.items s.lent.chains.items s.lent.known.items s.lent.places.items };
+    ghost invariant = { λ s. IsStore real s.kept.items s.lent.chains.items s.lent.known.items s.lent.places.items };
 }
 
 fn is_of(k: &Kept, channel: &Name) -> bool
     ensures { result ≡ bytes_eq k.now.channel channel.now }
 {
     k.channel == *channel
-}
-
-fn has_fixed(k: &Kept, fixed: &Fixed) -> bool
-    ensures { result ≡ bytes_eq (spelled k.now.chain.fixed) (spelled fixed.now) }
-{
-    k.chain.fixed.bytes() == fixed.bytes()
 }
 
 fn place_of(kept: &[Kept], channel: &Name) -> usize
@@ -69,22 +66,19 @@ fn kept_of<'a>(kept: &'a [Kept], channel: &Name) -> Option<&'a Kept>
     kept.get(place_of(kept, channel))
 }
 
-/// The place of the channel with this fixed part, or the length where there is none.
-fn place_with(kept: &[Kept], fixed: &Fixed) -> usize
-    ensures { result ≡ place_with fixed.now kept.now }
+/// Whether a chain that was shown of a channel is adopted. Both are as before.
+#[tactic(auto, using(crate::proofs::Placing::put_same, crate::proofs::Placing::good_there, crate::proofs::Placing::newer_there, crate::proofs::Placing::none_there))]
+fn is_adopted(kept: &mut Vec<Kept>, channel: &Name, shown: &mut Chain) -> bool
+    requires { AreGood real kept.old.items }
+    ensures value { result ≡ is_adopted real channel.now (marked_of shown.old) kept.old.items }
+    ensures same { kept.new.items ≡ kept.old.items }
+    ensures shown { shown.new ≡ shown.old }
 {
-    for (place, k) in kept.iter().enumerate() {
-        if has_fixed(k, fixed) {
-            return place;
-        }
+    let place = place_of(kept, channel);
+    if place >= kept.len() {
+        return false;
     }
-    kept.len()
-}
-
-fn kept_with<'a>(kept: &'a [Kept], fixed: &Fixed) -> Option<&'a Kept>
-    ensures { option_map (λ m. m.now) result ≡ slice_get kept.now (place_with fixed.now kept.now) }
-{
-    kept.get(place_with(kept, fixed))
+    kept[place].is_newer(shown)
 }
 
 fn held_of<'a>(chains: &'a [HeldChain], channel: &Name) -> Option<&'a HeldChain>
@@ -143,7 +137,8 @@ impl Store {
     /// Keeps something else of the channel at a place.
     #[tactic(auto, using(crate::proofs::Placing::put_back, crate::proofs::Placing::lent_back))]
     fn set(&mut self, place: usize, k: Kept) -> Result<(), NoMemory>
-        requires { place < length self.old }
+        requires within { place < length self.old }
+        requires good { AreGood real (slice_set self.old place k) }
         ensures ok { OnOk result (self.new ≡ slice_set self.old place k) }
         ensures err { OnErr result (self.new ≡ self.old) }
     {
@@ -161,49 +156,110 @@ impl Store {
         }
     }
 
-    /// Notes the next state of a channel, which its mover signed, or says why not.
-    #[tactic(auto, using(crate::proofs::Calls::unknown, crate::proofs::Calls::refused, crate::proofs::Calls::notes, crate::proofs::Calls::wants_memory, std::proofs::lemmas::Option::slice_get_within))]
-    pub fn note(&mut self, channel: &Name, signed: Signed) -> Result<(), NoteFault>
-        ensures { Notes result (note_of real channel.now signed self.old) self.old self.new }
+    /// What is kept of a channel: it has no more states than the channel has people.
+    fn one(&self, channel: &Name) -> Option<&Kept>
+        ensures value { option_map (λ m. m.now) result ≡ kept_of channel.now self.now }
+        ensures few { IfSome result (λ m. length m.now.chain.states ≤ people m.now.chain.fixed) }
     {
-        let Some(k) = kept_of(&self.kept, channel) else {
+        match kept_of(&self.kept, channel) {
+            None => None,
+            Some(k) => Some(k),
+        }
+    }
+
+    /// What is kept of a channel with a state, or why it isn't noted; `own` says that the participant signed it.
+    #[tactic(auto, using(crate::proofs::Calls::unknown, crate::proofs::Calls::refused, crate::proofs::Calls::passed, crate::proofs::Calls::wants_memory, crate::proofs::Calls::noted_one))]
+    fn noted(&self, channel: &Name, signed: Signed, own: bool) -> Result<Kept, NoteFault>
+        ensures told { MatchResult result (λ k. refusal_of real channel.now signed self.now ≡ None)
+            (λ fault. fault ≡ fault_of (refusal_of real channel.now signed self.now)) }
+        ensures kept { IfOk result (λ k. option_map (noting real own signed) (kept_of channel.now self.now) ≡ Some k) }
+    {
+        let Some(k) = self.one(channel) else {
             return Err(NoteFault::Unknown);
         };
         k.check(&signed)?;
-        let noted = k.noted(signed)?;
+        let noted = k.noted(signed, own)?;
+        Ok(noted)
+    }
+
+    /// Notes a state; `own` says that the participant signed it.
+    #[tactic(auto, using(crate::proofs::Calls::wants_memory_of, crate::proofs::Calls::within, crate::proofs::Calls::noted_good, crate::proofs::Calls::noted_changes))]
+    fn note_as(&mut self, channel: &Name, signed: Signed, own: bool) -> Result<(), NoteFault>
+        ensures { Notes result (refusal_of real channel.now signed self.old)
+            (kept_with (noting real own signed) channel.now self.old) self.old self.new }
+    {
+        let noted = self.noted(channel, signed, own)?;
         let place = place_of(&self.kept, channel);
         self.set(place, noted)?;
         Ok(())
     }
 
-    /// Adopts a shown chain where its channel is kept, the chain is supported and none is held or the held one is older,
-    /// and tells whether it did.
-    #[tactic(auto, using(crate::proofs::Calls::adopts_nothing, crate::proofs::Calls::keeps, crate::proofs::Calls::adopts, crate::proofs::Calls::would_adopt, std::proofs::lemmas::Option::slice_get_within))]
-    pub fn adopt(&mut self, shown: Chain) -> Result<bool, NoMemory>
-        ensures { Adopts result (adopt_of real shown self.old) self.old self.new }
+    /// Notes the next state of a channel, which a message brought and its mover signed, or says why not.
+    pub fn note(&mut self, channel: &Name, signed: Signed) -> Result<(), NoteFault>
+        ensures { Notes result (refusal_of real channel.now signed self.old)
+            (kept_with (noting real false signed) channel.now self.old) self.old self.new }
     {
-        let Some(k) = kept_with(&self.kept, &shown.fixed) else {
-            return Ok(false);
-        };
-        if !k.is_newer(&shown) {
+        self.note_as(channel, signed, false)
+    }
+
+    /// Notes the next state of a channel, which the participant signed itself, or says why not.
+    pub fn note_own(&mut self, channel: &Name, signed: Signed) -> Result<(), NoteFault>
+        ensures { Notes result (refusal_of real channel.now signed self.old)
+            (kept_with (noting real true signed) channel.now self.old) self.old self.new }
+    {
+        self.note_as(channel, signed, true)
+    }
+
+    /// Why a state would not be noted, if it would not: the fault that `note` and `note_own` answer, without memory.
+    pub fn check(&self, channel: &Name, signed: &Signed) -> Result<(), NoteFault>
+        ensures { result_err result ≡ refusal_of real channel.now signed.now self.now }
+    {
+        match kept_of(&self.kept, channel) {
+            None => Err(NoteFault::Unknown),
+            Some(k) => k.check(signed),
+        }
+    }
+
+    /// Adopts a chain that was shown of a channel, and tells whether it did: where the channel is kept, the chain's
+    /// states and marks are supported with the channel's own fixed part, and no chain is held or the held one is older.
+    #[tactic(auto, using(crate::proofs::Calls::adopts_nothing, crate::proofs::Calls::changes_nothing, crate::proofs::Calls::keeps, crate::proofs::Calls::adopts, std::proofs::lemmas::Option::slice_get_within))]
+    pub fn adopt(&mut self, channel: &Name, mut shown: Chain) -> Result<bool, NoMemory>
+        ensures { Adopts result (is_adopted real channel.now (marked_of shown) self.old)
+            (kept_with (adopting real (marked_of shown)) channel.now self.old) self.old self.new }
+    {
+        if !is_adopted(&mut self.kept, channel, &mut shown) {
             return Ok(false);
         }
-        let place = place_with(&self.kept, &shown.fixed);
+        let Some(k) = kept_of(&self.kept, channel) else {
+            return Ok(false);
+        };
         let adopted = k.with_chain(shown)?;
+        let place = place_of(&self.kept, channel);
         self.set(place, adopted)?;
         Ok(true)
     }
 
+    /// What is kept of a channel, if it was added: the first round so far or the held chain, and the last state that
+    /// the participant signed.
+    pub fn kept(&self, channel: &Name) -> Option<&Kept>
+        ensures value { option_map (λ m. m.now) result ≡ kept_of channel.now self.now }
+        ensures good { AreGood real self.now }
+    {
+        kept_of(&self.kept, channel)
+    }
+
     /// The chain that is held of a channel.
     pub fn newest(&self, channel: &Name) -> Option<&HeldChain>
-        ensures { option_map (λ m. m.now) result ≡ find (λ held. bytes_eq held.channel channel.now) (flat_map held_chain self.now) }
+        ensures { option_map (λ m. m.now) result
+            ≡ find (λ held. bytes_eq held.channel channel.now) (flat_map held_chain self.now) }
     {
         held_of(&self.lent.chains, channel)
     }
 
     /// The newest state of a channel.
     pub fn latest(&self, channel: &Name) -> Option<&State>
-        ensures { option_map (λ m. m.now) result ≡ option_and_then (λ k. newest k.chain.states) (kept_of channel.now self.now) }
+        ensures { option_map (λ m. m.now) result
+            ≡ option_and_then (λ k. newest k.chain.states) (kept_of channel.now self.now) }
     {
         match kept_of(&self.kept, channel) {
             None => None,
@@ -231,9 +287,11 @@ impl Store {
         }
     }
 
-    /// The held chains, in the order in which their channels were added.
+    /// The held chains, in the order in which their channels were added. Each is supported.
+    #[tactic(auto, using(crate::proofs::Good::held_are_supported))]
     pub fn chains(&self) -> &[HeldChain]
-        ensures { result.now ≡ flat_map held_chain self.now }
+        ensures value { result.now ≡ flat_map held_chain self.now }
+        ensures supported { AreSupported real result.now }
     {
         self.lent.chains.as_slice()
     }

@@ -134,13 +134,24 @@ impl People {
         })
     }
 
+    /// Notes a state that its mover signed: the first person's own, or one that a message brought.
+    fn note(&mut self, store: &mut Store, parts: Parts) -> Result<(), Fail> {
+        let channel = self.channel()?;
+        let signed = self.signed(parts)?;
+        if parts.0 % 2 == 0 {
+            store.note_own(&channel, signed)?;
+        } else {
+            store.note(&channel, signed)?;
+        }
+        Ok(())
+    }
+
     /// A store of the first person that noted these.
     fn store(&mut self, noted: &[Parts]) -> Result<Store, Fail> {
         let mut store = Store::make(self.alloc);
         store.add_channel(self.fixed()?, 0)?;
-        let channel = self.channel()?;
         for parts in noted {
-            store.note(&channel, self.signed(*parts)?)?;
+            self.note(&mut store, *parts)?;
         }
         Ok(store)
     }
@@ -221,16 +232,16 @@ fn newer_chains_are_adopted(rt: HostRuntime) -> Result<(), Fail> {
     let mut people = People::make(alloc)?;
     let channel = people.channel()?;
     let mut store = people.store(&[])?;
-    assert!(rt; store.adopt(people.chain(S3, S4)?)?);
-    assert!(rt; !store.adopt(people.chain(S3, S4)?)?);
-    assert!(rt; store.adopt(people.chain(S5, S6)?)?);
-    assert!(rt; !store.adopt(people.chain(S3, S4)?)?);
-    assert!(rt; !store.adopt(people.chain(S3, S6)?)?);
+    assert!(rt; store.adopt(&channel, people.chain(S3, S4)?)?);
+    assert!(rt; !store.adopt(&channel, people.chain(S3, S4)?)?);
+    assert!(rt; store.adopt(&channel, people.chain(S5, S6)?)?);
+    assert!(rt; !store.adopt(&channel, people.chain(S3, S4)?)?);
+    assert!(rt; !store.adopt(&channel, people.chain(S3, S6)?)?);
     assert!(rt; turns_of(alloc, &store, &channel)? == vec![in alloc; 5, 6]?);
     assert_eq!(rt; store.next_turn(&channel), Some(7));
     assert_eq!(rt; store.last_signed(&channel).is_none(), true);
     let mut empty = Store::make(alloc);
-    assert!(rt; !empty.adopt(people.chain(S5, S6)?)?);
+    assert!(rt; !empty.adopt(&channel, people.chain(S5, S6)?)?);
     Ok(())
 }
 
@@ -246,5 +257,72 @@ fn nothing_is_noted_after_final_states(rt: HostRuntime) -> Result<(), Fail> {
     let after = store.note(&channel, people.signed((7, true, 4, 4))?);
     assert_eq!(rt; after, Err(NoteFault::NotNext(0)));
     assert_eq!(rt; store.next_turn(&channel), Some(7));
+    Ok(())
+}
+
+/// The turn of the last state that the first person signed, and how many channels it knows one of.
+fn last_of(store: &Store, channel: &Name) -> (Option<u64>, usize) {
+    let last = store.last_signed(channel).map(|state| state.turn());
+    (last, store.known().len())
+}
+
+#[test]
+fn a_state_that_a_message_brought_is_not_one_that_was_signed(rt: HostRuntime) -> Result<(), Fail> {
+    let mut people = People::make(rt.alloc())?;
+    let channel = people.channel()?;
+    let mut store = people.store(&[])?;
+    store.note(&channel, people.signed(S0)?)?;
+    store.note(&channel, people.signed(S1)?)?;
+    assert_eq!(rt; last_of(&store, &channel), (None, 0));
+    store.note_own(&channel, people.signed(S2)?)?;
+    assert_eq!(rt; last_of(&store, &channel), (Some(2), 1));
+    store.note(&channel, people.signed(S3)?)?;
+    store.note(&channel, people.signed(S4)?)?;
+    assert_eq!(rt; last_of(&store, &channel), (Some(2), 1));
+    Ok(())
+}
+
+#[test]
+fn a_check_tells_what_a_note_would(rt: HostRuntime) -> Result<(), Fail> {
+    let mut people = People::make(rt.alloc())?;
+    let channel = people.channel()?;
+    let store = people.store(&[S0, S1])?;
+    let next = people.signed(S2)?;
+    assert_eq!(rt; store.check(&channel, &next), Ok(()));
+    assert_eq!(rt; store.check(&[9; 32], &next), Err(NoteFault::Unknown));
+    let forged = people.signed_by(S2, false)?;
+    assert_eq!(rt;
+        store.check(&channel, &forged),
+        Err(NoteFault::BadSignature)
+    );
+    let late = people.signed(S4)?;
+    assert_eq!(rt; store.check(&channel, &late), Err(NoteFault::NotNext(2)));
+    assert_eq!(rt; store.next_turn(&channel), Some(2));
+    Ok(())
+}
+
+/// The participant's position, and how many states and marks are kept.
+fn counts_of(store: &Store, channel: &Name) -> Option<(u8, usize, usize)> {
+    let kept = store.kept(channel)?;
+    let chain = &kept.chain;
+    Some((
+        kept.me,
+        chain.states.as_slice().len(),
+        chain.marks.as_slice().len(),
+    ))
+}
+
+#[test]
+fn the_first_round_is_kept_as_it_comes(rt: HostRuntime) -> Result<(), Fail> {
+    let mut people = People::make(rt.alloc())?;
+    let channel = people.channel()?;
+    let mut store = people.store(&[])?;
+    assert_eq!(rt; counts_of(&store, &channel), Some((0, 0, 0)));
+    people.note(&mut store, S0)?;
+    assert_eq!(rt; counts_of(&store, &channel), Some((0, 1, 1)));
+    people.note(&mut store, S1)?;
+    people.note(&mut store, S2)?;
+    assert_eq!(rt; counts_of(&store, &channel), Some((0, 2, 2)));
+    assert_eq!(rt; counts_of(&store, &[9; 32]), None);
     Ok(())
 }

@@ -4,7 +4,8 @@ ghost use Rattle.std.specs.Prelude.{◌≡◌, List, [], fold, map, filter, true
 ghost use Rattle.channel_model.specs.Rules.{Rules};
 ghost use Rattle.channel_calls.specs.History.{Legal};
 ghost use Rattle.channel_calls.specs.declared.entry.Entry.{Entry as AnEntry};
-ghost use Rattle.channel_watcher.specs.Watching.{NamesChannels, StandsFor, unseeing, saw, is_stale, checkpoints, history_after, looks};
+ghost use Rattle.channel_calls.specs.Naming.{NamesChannels};
+ghost use Rattle.channel_watcher.specs.Watching.{StandsFor, unseeing, saw, is_stale, checkpoints, history_after, looks};
 
 use crate::rows::{Watched, record_told, watched_row};
 use channel_calls::{Call, Entry, HeldChain, time_set, top_turn};
@@ -13,11 +14,13 @@ use nitro_bytes::NoMemory;
 use std::alloc::Global;
 use std::marker::Model;
 
-/// A watcher. After it answered once that memory is gone it answers nothing else.
+/// A watcher, and the number of the last entry that it followed. After it answered once that memory is gone it answers
+/// nothing else.
 #[derive(Drop)]
 pub struct Watcher {
     time: u64,
     rows: Vec<Watched>,
+    seen: u32,
     is_lost: bool,
 }
 
@@ -26,7 +29,7 @@ impl Model for Watcher {
 
     ghost Value = { Watching };
 
-    ghost view = { λ w. record { time = w.time; rows = w.rows.items; is_lost = w.is_lost } };
+    ghost view = { λ w. record { time = w.time; rows = w.rows.items; seen = w.seen; is_lost = w.is_lost } };
 }
 
 impl Watcher {
@@ -38,8 +41,16 @@ impl Watcher {
         Watcher {
             time: 0,
             rows: Vec::new(alloc),
+            seen: 0,
             is_lost: false,
         }
+    }
+
+    /// How many entries of a legal history it has followed: the number of the last one.
+    pub fn seen(&self) -> u32
+        ensures { result ≡ self.now.seen }
+    {
+        self.seen
     }
 
     fn see(&mut self, entry: &Entry) -> Result<(), NoMemory>
@@ -49,6 +60,7 @@ impl Watcher {
         if let Some(to) = time_set(entry) {
             self.time = to;
         }
+        self.seen = entry.number;
         Ok(())
     }
 
@@ -95,12 +107,14 @@ impl Watcher {
     /// below that chain's turn, in the order of the chains.
     pub fn look(&mut self, entries: &[Entry], chains: &[HeldChain]) -> Result<Vec<Call>, NoMemory>
         // Over every legal history that goes on from one that it stands for.
-        ensures answer { (r : Rules) (h : List AnEntry) → NamesChannels r → StandsFor r h self.old → Legal r (history_after h entries.now)
-            → IfOk result (λ calls. calls.items ≡ looks r (history_after h entries.now) chains.now) }
-        ensures stands { (r : Rules) (h : List AnEntry) → NamesChannels r → StandsFor r h self.old → Legal r (history_after h entries.now)
-            → OnOk result (StandsFor r (history_after h entries.now) self.new) }
+        ensures answer { (r : Rules) (h : List AnEntry) → NamesChannels r → StandsFor r h self.old
+            → Legal r (history_after h entries.now) → IfOk result (λ calls. calls.items ≡ looks r (history_after h entries.now) chains.now) }
+        ensures stands { (r : Rules) (h : List AnEntry) → NamesChannels r → StandsFor r h self.old
+            → Legal r (history_after h entries.now) → OnOk result (StandsFor r (history_after h entries.now) self.new) }
 
+        // What it answers in any case, whatever it stands for.
         ensures seen { OnOk result (self.new ≡ fold saw self.old entries.now) }
+        ensures calls { IfOk result (λ calls. calls.items ≡ checkpoints (is_stale self.new) chains.now) }
         ensures lost { OnErr result (self.new.is_lost ≡ true) }
         ensures stays_lost { self.old.is_lost ≡ true → IsErr result }
     {

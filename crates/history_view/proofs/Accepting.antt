@@ -1,5 +1,5 @@
 -- What an accepted turning call tells of the row that it turns and of its chain, and how a channel stands from entry to entry.
-use Rattle.std.proofs.Common.{◌≡◌, ℕ, suc, ◌+◌, ◌^◌, ◌<◌, ◌≤◌, Bool, true, false, cond, not, ◌&&◌, List, [], ◌∷◌, length, Some, None, Ok, Err, refl, ap, subst, arith}
+use Rattle.std.proofs.Common.{◌≡◌, ℕ, suc, ◌+◌, ◌-◌, ◌^◌, ◌<◌, ◌≤◌, Bool, true, false, cond, not, ◌&&◌, ◌||◌, List, [], ◌∷◌, length, Some, None, Ok, Err, refl, ap, subst, arith}
 use Rattle.std.proofs.lemmas.Bool.Decides.{nat_tests}
 use Rattle.std.specs.Prelude.{nat_lt, nat_le, ◌==◌, Option, Result}
 use Rattle.std.specs.Result.{result_err}
@@ -8,12 +8,15 @@ use Rattle.nitro_bytes.specs.Parts.{FixedParts, StateParts}
 use Rattle.nitro_bytes.specs.declared.chain.Chain.{Chain}
 use Rattle.nitro_bytes.specs.declared.chain.Mark.{Mark}
 use Rattle.nitro_bytes.specs.declared.chain.Signed.{Signed}
+use Rattle.nitro_bytes.specs.declared.fault.SupportFault.{SupportFault}
+use Rattle.nitro_bytes.specs.declared.fault.SupportFault.TheVariants as faults
 use Rattle.deadline_clock.specs.Mode.{mode_at, is_final, is_challenged}
 use Rattle.deadline_clock.specs.declared.standing.Standing.{Standing}
 use Rattle.deadline_clock.specs.declared.standing.Standing.TheVariants.{Challenged, Final}
-use Rattle.channel_model.specs.Chains.{mover}
+use Rattle.channel_model.specs.Words.{fault_if, ◌⊳◌}
+use Rattle.channel_model.specs.Chains.{first_between, last_of, turn_fault, turn_unless, marked_row, mover}
 use Rattle.channel_model.specs.Rules.{Rules, people, top_turn, is_signed_well, signs_challenge}
-use Rattle.channel_model.specs.Support.{support_of, verified_marks}
+use Rattle.channel_model.specs.Support.{link_fault, support_of, verified_marks}
 use Rattle.channel_calls.specs.Refusing.{refuse_if, refuse_fault, told}
 use Rattle.channel_calls.specs.Rows.{is_stale, fixed_of, turned, after_challenge, after_turn, after_refute, after_conclude}
 use Rattle.channel_calls.specs.Replies as replies
@@ -87,6 +90,21 @@ has_state : (r : Rules) (f : FixedParts) (states : List StateParts) (marks : Lis
 has_state r f [] marks verified h = absurd cc
 has_state r f (s ∷ states) marks verified h = some_of (length states)
 
+-- and no more of them than people
+few_states : (r : Rules) (f : FixedParts) (states : List StateParts) (marks : List Mark) (verified : List Bool)
+    → result_err (support_of r (record { fixed = f; states = states; marks = marks }) verified) ≡ None → length states ≤ people f
+few_states r f [] marks verified h = omega arith
+few_states r f (s ∷ ss) marks verified h = go (nat_lt (people f) (length (s ∷ ss))) refl h
+  where
+    rest : Option SupportFault
+    rest = first_between turn_fault 1 s ss ⊳ fault_if (nat_lt (last_of s ss).turn (people f - 1)) faults.Length ⊳ first_between (link_fault r f) 1 s ss
+
+    go : (b : Bool) → nat_lt (people f) (length (s ∷ ss)) ≡ b
+        → result_err (marked_row f (s ∷ ss) marks verified (turn_unless (last_of s ss).turn (fault_if (b || not (length marks == people f)) faults.Length ⊳ rest))) ≡ None
+        → length (s ∷ ss) ≤ people f
+    go true e k = absurd cc
+    go false e k = at_most (length (s ∷ ss)) (people f) e
+
 -- ---- how a channel stands
 
 pub is_challenged_is : (m : Standing) → is_challenged m ≡ true → m ≡ Challenged
@@ -124,10 +142,11 @@ ended_now now = ap (λ (b : Bool). cond b Final Challenged) (reached now)
 
 -- ---- what accepted calls tell
 
--- the channel isn't final, and the chain has a state
+-- the channel isn't final, and the chain has a state, and no more than there are people
 pub record Shows (r : Rules) (channel : List ℕ) (h : List Entry) (chain : Chain) : Type 0 where
   pub still : is_final (mode r channel h) ≡ false
   pub some : nat_lt 0 (length chain.states) ≡ true
+  pub few : length chain.states ≤ people chain.fixed
 
 -- and its turn is at least the recorded one
 pub record ShowsNewer (r : Rules) (channel : List ℕ) (h : List Entry) (chain : Chain) : Type 0 where
@@ -160,7 +179,7 @@ challenge_tells r h chain who signature accepted =
     let b = passes_fault (result_err (support_of r chain (verified_marks r chain))) NotSupported third v.0 a.1 in
     let c = passes (is_stale (mode r (r.named chain.fixed) h) old.turn (top_turn chain.states)) (Stale old.turn) fourth v.0 b.1 in
     record {
-      shows = record { still = a.0; some = has_state r chain.fixed chain.states chain.marks (verified_marks r chain) b.0 };
+      shows = record { still = a.0; some = has_state r chain.fixed chain.states chain.marks (verified_marks r chain) b.0; few = few_states r chain.fixed chain.states chain.marks (verified_marks r chain) b.0 };
       turn = fresh_turn (mode r (r.named chain.fixed) h) old.turn (top_turn chain.states) c.0;
     }
 
@@ -175,7 +194,7 @@ checkpoint_tells r h chain accepted =
     let b = passes_fault (result_err (support_of r chain (verified_marks r chain))) NotSupported third v.0 a.1 in
     let c = passes (nat_le (top_turn chain.states) old.turn) (NotNewer old.turn) done v.0 b.1 in
     record {
-      shows = record { still = a.0; some = has_state r chain.fixed chain.states chain.marks (verified_marks r chain) b.0 };
+      shows = record { still = a.0; some = has_state r chain.fixed chain.states chain.marks (verified_marks r chain) b.0; few = few_states r chain.fixed chain.states chain.marks (verified_marks r chain) b.0 };
       turn = (let k = above (top_turn chain.states) old.turn c.0 in omega arith);
     }
 
@@ -188,7 +207,7 @@ conclude_tells r h chain accepted =
     let v = told_ok (λ (new : Row). Concluded new.turn) (replies.conclude r old (now_of h) chain) accepted in
     let a = passes (is_final (mode r (r.named chain.fixed) h)) IsFinal second v.0 v.1 in
     let b = passes_fault (result_err (support_of r chain (verified_marks r chain))) NotSupported third v.0 a.1 in
-    record { still = a.0; some = has_state r chain.fixed chain.states chain.marks (verified_marks r chain) b.0 }
+    record { still = a.0; some = has_state r chain.fixed chain.states chain.marks (verified_marks r chain) b.0; few = few_states r chain.fixed chain.states chain.marks (verified_marks r chain) b.0 }
 
 respond_tells : (r : Rules) (h : List Entry) (fixed : FixedParts) (from : StateParts) (next : Signed) → is_accepted (call_reply r h (Respond fixed from next)) ≡ true
     → Answers r (r.named fixed) h next

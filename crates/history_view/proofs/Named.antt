@@ -10,9 +10,9 @@ use Rattle.channel_calls.specs.declared.call.Op.{Op}
 use Rattle.channel_calls.specs.declared.entry.Entry.{Entry}
 use Rattle.channel_calls.specs.declared.view.ChannelView.{ChannelView}
 use Rattle.channel_calls.specs.declared.view.WorldView.{WorldView}
-use Rattle.history_view.specs.Naming.{name_of, NamesChannels}
+use Rattle.channel_calls.specs.Naming.{name_of, NamesChannels}
 use Rattle.history_view.specs.Views.{channel_turned, views_with, views_turned, views_moved, views_paid, paid_moved, followed}
-use Rattle.history_view.specs.Standing.{StandsFor}
+use Rattle.history_view.specs.Standing.{OfFew, StandsFor}
 use Rattle.history_view.proofs.Stands.{following_keeps_standing}
 
 turned_same : (named other : FixedParts → List ℕ) → ((f : FixedParts) → named f ≡ other f) → (op : Op) (f : Option FixedParts) (told : Option (ℕ × Option ℕ)) (views : List ChannelView)
@@ -31,8 +31,8 @@ followed_same r e w names =
     }) (turned_same r.named name_of names e.op (fixed_of e.op) (told_row w.now e.op e.reply) w.channels)
 
 -- what was followed stands for the longer history
-pub stands_followed : {A E : Type 0} (result : Result A E) (r : Rules) (h : List Entry) (e : Entry) (old new : WorldView) → NamesChannels r → StandsFor r h old → Legal r (e ∷ h)
+pub stands_followed : {A E : Type 0} (result : Result A E) (r : Rules) (h : List Entry) (e : Entry) (old new : WorldView) → NamesChannels r → StandsFor r h old → Legal r (e ∷ h) → OfFew (fixed_of e.op)
     → OnOk result (new ≡ followed name_of e old) → OnOk result (StandsFor r (e ∷ h) new)
-stands_followed (Ok done) r h e old new names st legal is =
-    subst (λ (w : WorldView). StandsFor r (e ∷ h) w) (followed_same r e old names ∙ sym is) (following_keeps_standing r h e old legal st).1
-stands_followed (Err error) r h e old new names st legal is = tt
+stands_followed (Ok done) r h e old new names st legal few is =
+    subst (λ (w : WorldView). StandsFor r (e ∷ h) w) (followed_same r e old names ∙ sym is) ((following_keeps_standing r h e old legal st).stands few)
+stands_followed (Err error) r h e old new names st legal few is = tt

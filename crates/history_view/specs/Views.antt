@@ -1,5 +1,5 @@
 -- Views: what is known of a history, and what one more entry makes of it.
-use Rattle.std.specs.Prelude.{◌≡◌, ℕ, ◌+◌, ◌-◌, ◌<◌, ◌^◌, ◌==◌, Bool, ◌&&◌, nat_lt, List, [], ◌∷◌, Option, Some, None, if◌then◌else◌}
+use Rattle.std.specs.Prelude.{◌≡◌, ℕ, ◌+◌, ◌-◌, ◌<◌, ◌^◌, ◌==◌, Bool, true, ◌&&◌, nat_le, nat_lt, List, [], ◌∷◌, length, Option, Some, None, if◌then◌else◌}
 use Rattle.std.specs.Option.{option_map}
 use Rattle.std.specs.Str.{bytes_eq}
 use Rattle.nitro_bytes.specs.Parts.{FixedParts}
@@ -26,7 +26,8 @@ use Rattle.channel_calls.specs.declared.view.WorldView.{WorldView}
 -- ---- what is known of a channel, what it holds of an asset, and what a person was paid
 
 abbrev pub unknown : List ℕ → ChannelView
-unknown channel = record { channel = channel; turn = 0; deadline = None; held = []; shown = None; settled = None; rest = None }
+unknown channel =
+    record { channel = channel; turn = 0; deadline = None; held = []; shown = None; settled = None; rest = None }
 
 abbrev pub is_of : List ℕ → ChannelView → Bool
 is_of channel v = bytes_eq v.channel channel
@@ -53,7 +54,8 @@ abbrev pub paid_amount : List (List ℕ × ℕ × ℕ) → List ℕ → ℕ → 
 paid_amount paid person asset = (found (is_paid person asset) (person, asset, 0) paid).2
 
 abbrev pub paid_with : (ℕ → ℕ) → List ℕ → ℕ → List (List ℕ × ℕ × ℕ) → List (List ℕ × ℕ × ℕ)
-paid_with change person asset paid = changed (is_paid person asset) (λ balance. (person, asset, change balance.2)) (person, asset, 0) paid
+paid_with change person asset paid =
+    changed (is_paid person asset) (λ balance. (person, asset, change balance.2)) (person, asset, 0) paid
 
 -- ---- the chain that is shown
 
@@ -78,10 +80,18 @@ shown_after _ before = before
 
 -- of which the recorded turn and the deadline are told
 abbrev pub channel_turned : Op → ℕ × Option ℕ → ChannelView → ChannelView
-channel_turned op told v = record v { turn = told.0; deadline = told.1; shown = shown_after op v.shown; settled = settles op v.settled; rest = settles op v.rest }
+channel_turned op told v =
+    record v {
+      turn = told.0;
+      deadline = told.1;
+      shown = shown_after op v.shown;
+      settled = settles op v.settled;
+      rest = settles op v.rest;
+    }
 
 -- `named` names channels by their fixed parts
-abbrev pub views_turned : (FixedParts → List ℕ) → Op → Option FixedParts → Option (ℕ × Option ℕ) → List ChannelView → List ChannelView
+abbrev pub views_turned :
+    (FixedParts → List ℕ) → Op → Option FixedParts → Option (ℕ × Option ℕ) → List ChannelView → List ChannelView
 views_turned named op None told views = views
 views_turned named op (Some f) None views = views
 views_turned named op (Some f) (Some told) views = views_with (channel_turned op told) (named f) views
@@ -104,7 +114,8 @@ views_got (Channel channel) asset amount views = views_with (channel_got asset a
 
 abbrev pub views_moved : List Flow → List ChannelView → List ChannelView
 views_moved [] views = views
-views_moved (flow ∷ flows) views = views_moved flows (views_got flow.to flow.asset flow.amount (views_gave flow.from flow.asset flow.amount views))
+views_moved (flow ∷ flows) views =
+    views_moved flows (views_got flow.to flow.asset flow.amount (views_gave flow.from flow.asset flow.amount views))
 
 abbrev pub paid_got : Dest → ℕ → ℕ → List (List ℕ × ℕ × ℕ) → List (List ℕ × ℕ × ℕ)
 paid_got (Person person) asset amount paid = paid_with (λ n. n + amount) person asset paid
@@ -117,11 +128,13 @@ paid_moved (flow ∷ flows) paid = paid_moved flows (paid_got flow.to flow.asset
 -- ---- payments of items
 
 abbrev pub channel_paid : Payment → ChannelView → ChannelView
-channel_paid payment v = record v { rest = option_map (λ outcome. lower_outcome outcome payment.asset payment.place payment.amount) v.rest }
+channel_paid payment v =
+    record v { rest = option_map (λ outcome. lower_outcome outcome payment.asset payment.place payment.amount) v.rest }
 
 abbrev pub views_paid : List Payment → List ChannelView → List ChannelView
 views_paid [] views = views
-views_paid (payment ∷ payments) views = views_paid payments (views_with (channel_paid payment) payment.channel views)
+views_paid (payment ∷ payments) views =
+    views_paid payments (views_with (channel_paid payment) payment.channel views)
 
 -- ---- one more entry
 
@@ -130,7 +143,10 @@ followed named e w =
     record {
       now = or_before (time_set e.op e.reply) w.now;
       count = e.number;
-      channels = views_paid (payment_of e.op e.reply) (views_moved (flow_of e.op e.reply) (views_turned named e.op (fixed_of e.op) (told_row w.now e.op e.reply) w.channels));
+      channels =
+          views_paid (payment_of e.op e.reply)
+          (views_moved (flow_of e.op e.reply)
+          (views_turned named e.op (fixed_of e.op) (told_row w.now e.op e.reply) w.channels));
       paid = paid_moved (flow_of e.op e.reply) w.paid;
     }
 
@@ -147,9 +163,23 @@ HasRoom (Channel channel) asset amount views paid = held_amount (view_of views c
 
 abbrev pub HaveRoom : List Flow → List ChannelView → List (List ℕ × ℕ × ℕ) → Type 0
 HaveRoom [] views paid = Unit {0}
-HaveRoom (flow ∷ flows) views paid = HasRoom flow.to flow.asset flow.amount (views_gave flow.from flow.asset flow.amount views) paid
+HaveRoom (flow ∷ flows) views paid =
+    HasRoom flow.to flow.asset flow.amount (views_gave flow.from flow.asset flow.amount views) paid
 
--- the entry is the next one, and what its call pays has room where it goes
-pub record CanFollow (e : Entry) (w : WorldView) : Type 0 where
+-- an answer is put on a chain of at most 255 states, since a place is one byte
+abbrev pub is_short : Op → Option Chain → Bool
+is_short (ops.Call (Respond f from next)) (Some shown) = nat_le (length shown.states) 255
+is_short _ _ = true
+
+-- where the call turns its channel
+abbrev pub turns_short :
+    (FixedParts → List ℕ) → Op → Option FixedParts → Option (ℕ × Option ℕ) → List ChannelView → Bool
+turns_short named op None told views = true
+turns_short named op (Some f) None views = true
+turns_short named op (Some f) (Some told) views = is_short op (view_of views (named f)).shown
+
+-- the entry is the next one, what its call pays has room where it goes, and so has its answer
+pub record CanFollow (named : FixedParts → List ℕ) (e : Entry) (w : WorldView) : Type 0 where
   pub next : e.number ≡ w.count + 1
   pub room : HaveRoom (flow_of e.op e.reply) w.channels w.paid
+  pub short : turns_short named e.op (fixed_of e.op) (told_row w.now e.op e.reply) w.channels ≡ true

@@ -46,8 +46,11 @@ pub(crate) fn place_of(views: &[ChannelView], channel: &Name) -> usize
 /// The place of what is known of the channel, which is added where nothing is.
 pub(crate) fn place_for(views: &mut Vec<ChannelView>, channel: &Name) -> Result<usize, NoMemory>
     ensures there { IfOk result (λ place. place < length views.new.items) }
-    ensures view { IfOk result (λ place. (other : AView) → slice_index_or views.new.items place other ≡ view_of views.old.items channel.now) }
-    ensures change { IfOk result (λ place. (change : AView → AView) → slice_set views.new.items place (change (view_of views.old.items channel.now)) ≡ views_with change channel.now views.old.items) }
+    ensures view { IfOk result (λ place. (other : AView)
+        → slice_index_or views.new.items place other ≡ view_of views.old.items channel.now) }
+    ensures change { IfOk result (λ place. (change : AView → AView)
+        → slice_set views.new.items place (change (view_of views.old.items channel.now))
+        ≡ views_with change channel.now views.old.items) }
 {
     let place = place_of(views, channel);
     if place < views.len() {

@@ -75,8 +75,10 @@ pub(crate) fn move_funds(
     paid: &mut Listed<(Name, u32, u64)>,
     flow: Flow,
 ) -> Result<(), NoMemory>
-    requires { HasRoom flow.to flow.asset flow.amount (views_gave flow.from flow.asset flow.amount views.old.items) paid.old }
-    ensures views { OnOk result (views.new.items ≡ views_got flow.to flow.asset flow.amount (views_gave flow.from flow.asset flow.amount views.old.items)) }
+    requires { HasRoom flow.to flow.asset flow.amount
+        (views_gave flow.from flow.asset flow.amount views.old.items) paid.old }
+    ensures views { OnOk result (views.new.items
+        ≡ views_got flow.to flow.asset flow.amount (views_gave flow.from flow.asset flow.amount views.old.items)) }
     ensures paid { OnOk result (paid.new ≡ paid_got flow.to flow.asset flow.amount paid.old) }
 {
     give(views, flow.from, flow.asset, flow.amount)?;

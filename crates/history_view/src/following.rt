@@ -1,19 +1,19 @@
 //! What one more entry makes of a view.
 
-ghost use Rattle.std.specs.Prelude.{◌≡◌, List, [], ◌∷◌, OnOk};
+ghost use Rattle.std.specs.Prelude.{◌≡◌, List, [], ◌∷◌, true, OnOk};
 ghost use Rattle.channel_model.specs.Rules.{Rules};
 ghost use Rattle.channel_calls.specs.History.{flow_of, payment_of, Legal};
 ghost use Rattle.channel_calls.specs.Rows.{fixed_of};
 ghost use Rattle.channel_calls.specs.Told.{told_row};
 ghost use Rattle.channel_calls.specs.declared.entry.Entry.{Entry as AnEntry};
-ghost use Rattle.history_view.specs.Naming.{name_of, NamesChannels};
-ghost use Rattle.history_view.specs.Standing.{StandsFor};
-ghost use Rattle.history_view.specs.Views.{views_turned, views_moved, views_paid, paid_moved, followed, unseen, HaveRoom, CanFollow};
+ghost use Rattle.channel_calls.specs.Naming.{name_of, NamesChannels};
+ghost use Rattle.history_view.specs.Standing.{OfFew, StandsFor};
+ghost use Rattle.history_view.specs.Views.{views_turned, views_moved, views_paid, paid_moved, followed, unseen, HaveRoom, turns_short, CanFollow};
 
 use crate::flows::move_funds;
 use crate::payments::{pay_item, payment_of};
 use crate::turning::turn_channel;
-use channel_calls::{ChannelView, Entry, WorldView, flow_of, time_set};
+use channel_calls::{ChannelView, Entry, Op, WorldView, fixed_of, flow_of, time_set};
 use nitro_bytes::{Listed, Name, NoMemory};
 use std::alloc::Global;
 use std::mem;
@@ -51,9 +51,13 @@ fn follow_calls(
     now: u64,
     entry: &Entry,
 ) -> Result<(), NoMemory>
-    requires { HaveRoom (flow_of entry.now.op entry.now.reply) views.old.items paid.old }
-    ensures views { OnOk result (views.new.items ≡ views_paid (payment_of entry.now.op entry.now.reply) (views_moved (flow_of entry.now.op entry.now.reply)
-        (views_turned name_of entry.now.op (fixed_of entry.now.op) (told_row now entry.now.op entry.now.reply) views.old.items))) }
+    requires room { HaveRoom (flow_of entry.now.op entry.now.reply) views.old.items paid.old }
+    requires short { turns_short name_of entry.now.op (fixed_of entry.now.op)
+        (told_row now entry.now.op entry.now.reply) views.old.items ≡ true }
+    ensures views { OnOk result (views.new.items ≡ views_paid (payment_of entry.now.op entry.now.reply)
+        (views_moved (flow_of entry.now.op entry.now.reply)
+        (views_turned name_of entry.now.op (fixed_of entry.now.op)
+        (told_row now entry.now.op entry.now.reply) views.old.items))) }
     ensures paid { OnOk result (paid.new ≡ paid_moved (flow_of entry.now.op entry.now.reply) paid.old) }
 {
     turn_channel(views, now, entry)?;
@@ -62,7 +66,9 @@ fn follow_calls(
 }
 
 fn follow_entry(view: &mut WorldView, entry: &Entry) -> Result<(), NoMemory>
-    requires { HaveRoom (flow_of entry.now.op entry.now.reply) view.old.channels view.old.paid }
+    requires room { HaveRoom (flow_of entry.now.op entry.now.reply) view.old.channels view.old.paid }
+    requires short { turns_short name_of entry.now.op (fixed_of entry.now.op)
+        (told_row view.old.now entry.now.op entry.now.reply) view.old.channels ≡ true }
     ensures { OnOk result (view.new ≡ followed name_of entry.now view.old) }
 {
     let now = view.now;
@@ -77,14 +83,25 @@ fn follow_entry(view: &mut WorldView, entry: &Entry) -> Result<(), NoMemory>
     Ok(())
 }
 
+/// No channel has more than four people.
+fn of_few(op: &Op)
+    ensures { OfFew (fixed_of op.now) }
+{
+    if let Some(fixed) = fixed_of(op) {
+        let _ = fixed.keys();
+    }
+}
+
 /// Brings the view forward by the entry that follows on what it has seen. After `NoMemory` it isn't used again.
 pub fn follow(view: &mut WorldView, entry: &Entry) -> Result<(), NoMemory>
-    requires { CanFollow entry.now view.old }
+    requires { CanFollow name_of entry.now view.old }
     ensures followed { OnOk result (view.new ≡ followed name_of entry.now view.old) }
 
     // Where the entry makes a longer legal history of the one that the view stands for.
-    ensures stands { (r : Rules) (h : List AnEntry) → NamesChannels r → StandsFor r h view.old → Legal r (entry.now ∷ h) → OnOk result (StandsFor r (entry.now ∷ h) view.new) }
+    ensures stands { (r : Rules) (h : List AnEntry) → NamesChannels r → StandsFor r h view.old → Legal r (entry.now ∷ h)
+        → OnOk result (StandsFor r (entry.now ∷ h) view.new) }
 {
+    of_few(&entry.op);
     follow_entry(view, entry)
 }
 

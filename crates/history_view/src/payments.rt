@@ -1,50 +1,17 @@
 //! What a payment makes of what is left of its channel's outcome.
 
-ghost use Rattle.std.specs.Prelude.{◌≡◌, ◌≤◌, length, Some, OnOk};
+ghost use Rattle.std.specs.Prelude.{◌≡◌, ◌≤◌, Some, OnOk};
 ghost use Rattle.std.specs.List.{AllByRecursion};
-ghost use Rattle.std.specs.Option.{option_map, option_to_list};
-ghost use Rattle.nitro_bytes.specs.Outcomes.{is_same, IsShape, IsAssetOutcome};
-ghost use Rattle.channel_model.specs.Items.{place_of};
+ghost use Rattle.std.specs.Option.{option_to_list};
+ghost use Rattle.nitro_bytes.specs.Outcomes.{IsShape, IsAssetOutcome};
 ghost use Rattle.channel_calls.specs.Dues.{shape_in};
 ghost use Rattle.channel_calls.specs.History.{listed_dest, place_in, payment_of};
 ghost use Rattle.history_view.specs.Views.{channel_paid, views_with};
 
 use crate::channels::place_for;
 use crate::lowering::lowered_outcome;
-use channel_calls::{Call, ChannelView, Op, Payment, Reply, shape_in};
-use nitro_bytes::{AssetOutcome, Dest, Item, NoMemory, Outcome, Shape};
-
-/// Whom a claim by a guarantee pays.
-fn listed_dest(shape: Option<&Shape>, position: u8) -> Option<Dest>
-    ensures { result ≡ listed_dest (option_map (λ s. s.now) shape.entry) position }
-{
-    match shape {
-        Some(Shape::Guarantee(_, list)) => match list.as_slice().get(position as usize) {
-            Some(to) => Some(*to),
-            None => None,
-        },
-        _ => None,
-    }
-}
-
-fn is_for(item: &Item, to: &Dest) -> bool
-    ensures { result ≡ is_same item.now.to to.now }
-{
-    item.to == *to
-}
-
-/// The place of a destination's item, or the length where it has none.
-fn place_of(items: &[Item], to: &Dest) -> usize
-    ensures value { result ≡ place_of items.now to.now }
-    ensures within { result ≤ length items.now }
-{
-    for (place, item) in items.iter().enumerate() {
-        if is_for(item, to) {
-            return place;
-        }
-    }
-    items.len()
-}
+use channel_calls::{Call, ChannelView, Op, Payment, Reply, listed_dest, place_of, shape_in};
+use nitro_bytes::{AssetOutcome, Dest, NoMemory, Outcome, Shape};
 
 /// The place of a destination's item in a shape.
 fn place_within(shape: &Shape, to: &Dest) -> usize
@@ -78,7 +45,8 @@ fn claimed_place(
     asset: u32,
     position: u8,
 ) -> u8
-    ensures { result ≡ place_in (shape_in target_outcome.now asset) (listed_dest (shape_in guarantor_outcome.now asset) position) }
+    ensures { result ≡ place_in (shape_in target_outcome.now asset)
+        (listed_dest (shape_in guarantor_outcome.now asset) position) }
 {
     match listed_dest(shape_in(guarantor_outcome, asset), position) {
         Some(to) => place_among(target_outcome.assets(), asset, &to) as u8,

@@ -14,7 +14,8 @@ use nitro_bytes::Name;
 #[tactic(auto, using(crate::proofs::Known::find_there, crate::proofs::Known::find_past, crate::proofs::Known::view_there, crate::proofs::Known::view_past))]
 pub fn view_of<'a>(view: &'a WorldView, channel: &Name) -> Option<&'a ChannelView>
     ensures found { option_map (λ v. v.now) result ≡ find (is_of channel.now) view.entry.now.channels }
-    ensures meant { MatchOption result (view_of view.entry.now.channels channel.now ≡ unknown channel.now) (λ v. view_of view.entry.now.channels channel.now ≡ v.now) }
+    ensures meant { MatchOption result (view_of view.entry.now.channels channel.now ≡ unknown channel.now)
+        (λ v. view_of view.entry.now.channels channel.now ≡ v.now) }
 {
     let views = view.channels.as_slice();
     let place = place_of(views, channel);

@@ -1,12 +1,12 @@
 //! What a turning call makes of what is known of its channel.
 
-ghost use Rattle.std.specs.Prelude.{◌≡◌, IfOk, OnOk};
+ghost use Rattle.std.specs.Prelude.{◌≡◌, true, IfOk, OnOk};
 ghost use Rattle.channel_model.specs.Rules.{top_outcome};
 ghost use Rattle.channel_calls.specs.History.{settles};
 ghost use Rattle.channel_calls.specs.Rows.{fixed_of};
 ghost use Rattle.channel_calls.specs.Told.{told_row};
-ghost use Rattle.history_view.specs.Naming.{name_of};
-ghost use Rattle.history_view.specs.Views.{newer_shown, shown_after, channel_turned, views_turned};
+ghost use Rattle.channel_calls.specs.Naming.{name_of};
+ghost use Rattle.history_view.specs.Views.{newer_shown, shown_after, channel_turned, views_turned, is_short, turns_short};
 
 use crate::channels::place_for;
 use crate::lowering::outcome_of;
@@ -31,6 +31,7 @@ fn newer_shown(before: Option<Chain>, chain: &Chain) -> Result<Chain, NoMemory>
 
 /// The chain that is shown after an accepted turning call.
 fn shown_after(op: &Op, before: Option<Chain>) -> Result<Option<Chain>, NoMemory>
+    requires { is_short op.now before ≡ true }
     ensures { IfOk result (λ shown. shown ≡ shown_after op.now before) }
 {
     match op {
@@ -85,6 +86,7 @@ fn turn_view(
     turn: u64,
     deadline: Option<u64>,
 ) -> Result<(), NoMemory>
+    requires { is_short op.now view.old.shown ≡ true }
     ensures { OnOk result (view.new ≡ channel_turned op.now (turn, deadline) view.old) }
 {
     let alloc = view.held.allocator();
@@ -102,7 +104,11 @@ pub(crate) fn turn_channel(
     now: u64,
     entry: &Entry,
 ) -> Result<(), NoMemory>
-    ensures { OnOk result (views.new.items ≡ views_turned name_of entry.now.op (fixed_of entry.now.op) (told_row now entry.now.op entry.now.reply) views.old.items) }
+    requires { turns_short name_of entry.now.op (fixed_of entry.now.op)
+        (told_row now entry.now.op entry.now.reply) views.old.items ≡ true }
+    ensures { OnOk result (views.new.items
+        ≡ views_turned name_of entry.now.op (fixed_of entry.now.op)
+        (told_row now entry.now.op entry.now.reply) views.old.items) }
 {
     let Some(fixed) = fixed_of(&entry.op) else {
         return Ok(());

@@ -1,5 +1,0 @@
-use Rattle.channel_store.proofs.Alone.{noting_is_alone}
-use Rattle.channel_store.proofs.laws.noting_is_alone.Goals as goal
-
-pub returns : goal.returns
-returns c = noting_is_alone
