@@ -1,9 +1,10 @@
-//! Judges signatures that another implementation made, and makes the keys that it made.
+//! Judges signatures that others made, and makes the keys and the signatures that others made.
 //!
-//! A line of the file is `NAME KEY MESSAGE SIGNATURE VERDICT`: the bytes in hex, `-` for the empty
-//! message, and what the other implementation said, which is not read here. Printed are a line
-//! `NAME accept` or `NAME reject` for each, and then a line `key NAME HEX` for the two names whose
-//! keys a signer can make.
+//! A line of a file is `NAME KEY MESSAGE SIGNATURE VERDICT`: the bytes in hex, `-` for the empty
+//! message, and what another implementation said, which is not read here. Printed are, for each line of
+//! the first file, `NAME accept` or `NAME reject`; then, for the two names whose keys a signer can make,
+//! `key NAME HEX` and, for each line of that name in the second file, `NAME same` where the signer's next
+//! signature of the message is the one of the line, and else `NAME other`.
 #![tactic(auto)]
 
 use anyhow::{Context, Result, anyhow};
@@ -59,27 +60,58 @@ fn judge(rt: &HostRuntime, line: &str) -> Result<()> {
     Ok(())
 }
 
-/// Prints the key of a name, whose seed and identifier are digests of the name.
-fn print_key(rt: &HostRuntime, name: &str, tall: bool) -> Result<()> {
+/// The signer of a name, whose seed and identifier are digests of the name.
+fn signer_of(rt: &HostRuntime, name: &str, tall: bool) -> Result<Signer> {
     let seed = Sha256::digest(format!(in rt.alloc(); "seed {name}")?.as_bytes());
     let digest = Sha256::digest(format!(in rt.alloc(); "id {name}")?.as_bytes());
     let mut id = [0; 16];
     id.copy_from_slice(&digest[..16]);
     let h = if tall { 10 } else { 5 };
-    let signer = Signer::make(rt.alloc(), seed, id, h).map_err(|_| anyhow!("no memory was left"))?;
+    Signer::make(rt.alloc(), seed, id, h).map_err(|_| anyhow!("no memory was left"))
+}
+
+/// Prints whether the signer's next signature of the vector's message is the vector's.
+fn sign_again(rt: &HostRuntime, signer: &mut Signer, vector: &Vector) -> Result<()> {
+    let made = signer
+        .sign(&vector.message)
+        .map_err(|_| anyhow!("nothing was signed"))?;
+    let word = if made == vector.signature {
+        "same"
+    } else {
+        "other"
+    };
+    println!(rt; "{} {word}", vector.name)?;
+    Ok(())
+}
+
+/// Prints the key of a name, and what comes of signing the messages of the lines with that name.
+fn make_again(rt: &HostRuntime, name: &str, tall: bool, lines: &str) -> Result<()> {
+    let mut signer = signer_of(rt, name, tall)?;
     let key = hex::encode(rt.alloc(), signer.public())?;
     println!(rt; "key {name} {key}")?;
+    for line in lines.lines() {
+        let vector = vector_of(rt, line)?;
+        if vector.name == name {
+            sign_again(rt, &mut signer, &vector)?;
+        }
+    }
     Ok(())
+}
+
+/// The text of the file that the next word names.
+fn text_of(rt: &HostRuntime, word: Option<String>) -> Result<String> {
+    let file = word.context("the name of a file is wanted")?;
+    Ok(fs::read_to_string(rt, file.as_str())?)
 }
 
 fn main(rt: HostRuntime) -> Result<()> {
     let mut words = env::args(&rt)?;
     let _program = words.next();
-    let file = words.next().context("the name of a file is wanted")?;
-    let text = fs::read_to_string(&rt, file.as_str())?;
-    for line in text.lines() {
+    let judged = text_of(&rt, words.next())?;
+    let made = text_of(&rt, words.next())?;
+    for line in judged.lines() {
         judge(&rt, line)?;
     }
-    print_key(&rt, "h5w4", false)?;
-    print_key(&rt, "h10w4", true)
+    make_again(&rt, "h5w4", false, made.as_str())?;
+    make_again(&rt, "h10w4", true, made.as_str())
 }
