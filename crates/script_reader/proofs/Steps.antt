@@ -1,9 +1,12 @@
 -- Steps that are read one after another.
-use Rattle.std.proofs.Common.{◌≡◌, ℕ, ◌+◌, List, [], ◌∷◌, ◌++◌, length, ap, ◌∙◌, ◌<◌, get_or, drop, Result, Ok, Err, arith, length-append}
+use Rattle.std.proofs.Common.{◌≡◌, ℕ, ◌+◌, List, [], ◌∷◌, ◌++◌, length, ap, ◌∙◌, ◌<◌, get_or, drop, Result, Ok, Err, Option, Some, None, arith, length-append, append-nil, refl}
 use Rattle.std.proofs.lemmas.List.{at_drop_more}
+use Rattle.std.proofs.lemmas.List.Elements.{filter_map-append}
 use Rattle.serde_json.specs.declared.value.Value.{Value}
 use Rattle.serde_json.specs.View.{view, items_view}
-use Rattle.script_reader.specs.Conditions.{after}
+use Rattle.sign_index.specs.Signing.{Signing}
+use Rattle.script_reader.specs.Bounds.{signers_of}
+use Rattle.script_reader.specs.Conditions.{after, signer_of}
 use Rattle.script_reader.specs.Reading.{step_of}
 use Rattle.script_reader.specs.Script.{◌>>=◌, at_step, steps_from}
 use Rattle.script_reader.specs.declared.context.Context.{Context}
@@ -29,3 +32,11 @@ stops c seen f vs i n d h same e =
 
 pub length_push : (seen : List Step) (s : Step) → length (seen ++ s ∷ []) ≡ length seen + 1
 length_push seen s = omega (arith, length-append seen (s ∷ []))
+
+pub signer_push : (seen : List Step) (s : Step) (x : Signing) → signer_of s ≡ Some x → signers_of (seen ++ s ∷ []) ≡ signers_of seen ++ x ∷ []
+signer_push seen s x h = filter_map-append signer_of seen (s ∷ []) ∙ cc
+
+pub signer_none : (seen : List Step) (s : Step) → signer_of s ≡ None → signers_of (seen ++ s ∷ []) ≡ signers_of seen
+signer_none seen s h =
+    let ends : signers_of (s ∷ []) ≡ [] = cc in
+    filter_map-append signer_of seen (s ∷ []) ∙ ap (λ l. signers_of seen ++ l) ends ∙ append-nil (signers_of seen)

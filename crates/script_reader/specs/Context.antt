@@ -1,9 +1,12 @@
 -- What earlier steps declared and used up, and the conditions on names.
 use Rattle.std.specs.Prelude.{ℕ, List, [], ◌∷◌, Bool, false, not, ◌&&◌, ◌||◌, ◌^◌, nat_lt, count_by, Option}
-use Rattle.std.specs.List.{list_any, list_all, find}
+use Rattle.std.specs.List.{list_any, find}
 use Rattle.std.specs.Str.{bytes_eq}
+use Rattle.script_reader.specs.Kinds.{is_hex}
 use Rattle.script_reader.specs.declared.context.Channel.{Channel}
 use Rattle.script_reader.specs.declared.context.Context.{Context}
+use Rattle.script_reader.specs.declared.context.Kind.{Kind}
+use Rattle.script_reader.specs.declared.context.Kind.TheVariants as kinds
 use Rattle.script_reader.specs.declared.context.Person.{Person}
 
 -- the person that is declared by this name
@@ -21,6 +24,9 @@ is_person c name = list_any (λ p. bytes_eq p.name name) c.people
 abbrev pub is_hand : Context → List ℕ → Bool
 is_hand c name = list_any (λ p. bytes_eq p.name name && not p.node) c.people
 
+abbrev pub is_node : Context → List ℕ → Bool
+is_node c name = list_any (λ p. bytes_eq p.name name && p.node) c.people
+
 abbrev pub is_channel : Context → List ℕ → Bool
 is_channel c name = list_any (λ k. bytes_eq k.name name) c.channels
 
@@ -34,11 +40,15 @@ is_new c name = not (is_person c name || is_channel c name || is_state c name)
 abbrev pub has_seed : Context → List ℕ → Bool
 has_seed c seed = list_any (λ p. bytes_eq p.seed seed) c.people
 
-abbrev pub are_people : Context → List (List ℕ) → Bool
-are_people c names = list_all (is_person c) names
-
-abbrev pub are_states : Context → List (List ℕ) → Bool
-are_states c names = list_all (is_state c) names
+-- the name is declared as what a key needs
+abbrev pub knows : Context → Kind → List ℕ → Bool
+knows c kinds.Person name = is_person c name
+knows c kinds.Hand name = is_hand c name
+knows c kinds.Node name = is_node c name
+knows c kinds.Channel name = is_channel c name
+knows c kinds.Place name = is_hex name || is_channel c name
+knows c kinds.State name = is_state c name
+knows c kinds.Dest name = is_person c name || is_channel c name
 
 -- a name stands twice
 abbrev pub repeats : List (List ℕ) → Bool

@@ -2,6 +2,7 @@
 use Rattle.std.specs.Prelude.{ℕ, List, [], ◌∷◌, ◌++◌, take}
 use Rattle.sha2.specs.Sha256.{sha256}
 use Rattle.sign_index.specs.Made.{made_key}
+use Rattle.sign_index.specs.Signing.{Signing}
 use Rattle.channel_name.specs.Digests.{name_of_channel, name_of_person}
 use Rattle.nitro_bytes.specs.Parts.{fixed_with}
 use Rattle.nitro_bytes.specs.Spelling.{fixed}
@@ -13,6 +14,10 @@ id_of seed = take 16 (sha256 (seed ++ 0x49 ∷ []))
 -- the public key of a seed, for a tree of height h
 unfoldable pub key_of : List ℕ → ℕ → List ℕ
 key_of seed h = made_key seed (id_of seed) h
+
+-- the signer of a seed, before it signs
+abbrev pub fresh : List ℕ → ℕ → Signing
+fresh seed h = record { seed = seed; id = id_of seed; h = h; used = 0 }
 
 -- the name of the person with this seed
 abbrev pub person_name : List ℕ → ℕ → List ℕ

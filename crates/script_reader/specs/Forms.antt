@@ -1,21 +1,19 @@
 -- The forms of steps: their words, and their keys in order with the kinds of their values. `do` is one of the keys that are counted.
-use Rattle.std.specs.Prelude.{ℕ, List, [], ◌∷◌, Bool, ◌&&◌, Result, Ok, Err, codes, if◌then◌else◌}
+use Rattle.std.specs.Prelude.{ℕ, List, [], ◌∷◌, Bool, Result, Ok, Err, codes, if◌then◌else◌}
 use Rattle.std.specs.List.{list_any}
 use Rattle.std.specs.Str.{bytes_eq}
 use Rattle.serde_json.specs.Data.{Data}
-use Rattle.script_reader.specs.Rules.{◌>>=◌, holds}
-use Rattle.script_reader.specs.Kinds.{keys, number_at, flag_at, name_at, place_at, names_at, seed_at, app_at}
-use Rattle.script_reader.specs.Context.{is_new, is_channel, is_hand}
+use Rattle.script_reader.specs.Rules.{◌>>=◌}
+use Rattle.script_reader.specs.Kinds.{keys, number_at, flag_at, name_at, place_at, names_at, numbers_at, seed_at, app_at}
 use Rattle.script_reader.specs.Written.{outcome_at}
-use Rattle.script_reader.specs.Resolved.{knows_outcome, outcome_in}
-use Rattle.script_reader.specs.declared.context.Context.{Context}
-use Rattle.script_reader.specs.declared.forms.sign.SignKeys.{SignKeys}
 use Rattle.script_reader.specs.declared.step.Rule.{Rule}
 use Rattle.script_reader.specs.declared.step.Rule.TheVariants as rules
 use Rattle.script_reader.specs.declared.step.Step.{Step}
-use Rattle.script_reader.specs.declared.step.Step.TheVariants.{Deposit, Time, Person, Channel, Sign, Challenge, Respond, Refute, Checkpoint, Conclude, Transfer, Claim}
+use Rattle.script_reader.specs.declared.step.Step.TheVariants.{Deposit, Time, Person, Channel, Catch, Send, Drop, Challenge, Respond, Refute, Checkpoint, Conclude, Transfer, Claim, Pay, Close, Exit, Rounds}
+use Rattle.script_reader.specs.declared.written.Written.{Written}
+use Rattle.script_reader.specs.declared.written.Written.TheVariants as written
 
--- the words of all forms, those that aren't built yet among them
+-- the words of all forms
 abbrev pub words : List (List ℕ)
 words =
     codes "deposit" ∷ codes "time" ∷ codes "person" ∷ codes "channel" ∷ codes "sign" ∷ codes "catch"
@@ -26,6 +24,16 @@ words =
 
 abbrev pub is_word : List ℕ → Bool
 is_word word = list_any (bytes_eq word) words
+
+-- the words of the forms that are played; `node` stands for a person with a node
+abbrev pub built_words : List (List ℕ)
+built_words =
+    codes "deposit" ∷ codes "time" ∷ codes "person" ∷ codes "channel" ∷ codes "sign" ∷ codes "challenge"
+    ∷ codes "respond" ∷ codes "refute" ∷ codes "checkpoint" ∷ codes "conclude" ∷ codes "transfer"
+    ∷ codes "claim" ∷ []
+
+abbrev pub is_built : List ℕ → Bool
+is_built word = list_any (bytes_eq word) built_words
 
 abbrev pub deposit_of : Data → Result Step Rule
 deposit_of d = do
@@ -62,8 +70,8 @@ channel_of d = do
   duration ← number_at (codes "duration") d
   Ok (Channel name people nonce app duration)
 
-abbrev pub sign_keys : Data → Result SignKeys Rule
-sign_keys d = do
+abbrev pub sign_of : Data → Result Written Rule
+sign_of d = do
   no_more ← keys 9 d
   name ← name_at (codes "name") d
   channel ← name_at (codes "channel") d
@@ -73,19 +81,7 @@ sign_keys d = do
   outcome ← outcome_at (codes "outcome") d
   votes ← number_at (codes "votes") d
   proposal ← outcome_at (codes "proposal") d
-  Ok (record { name = name; channel = channel; by = by; turn = turn; is_final = is_final; outcome = outcome; votes = votes; proposal = proposal })
-
-abbrev pub sign_named : Context → SignKeys → Bool
-sign_named c k = is_new c k.name && is_channel c k.channel && is_hand c k.by && knows_outcome c k.outcome && knows_outcome c k.proposal
-
--- the names of both outcomes come before the limits of either
-abbrev pub sign_of : Context → Data → Result Step Rule
-sign_of c d = do
-  k ← sign_keys d
-  named ← holds rules.Name (sign_named c k)
-  outcome ← outcome_in c k.outcome
-  proposal ← outcome_in c k.proposal
-  Ok (Sign k.name k.channel k.by k.turn k.is_final outcome k.votes proposal)
+  Ok (written.Sign (record { name = name; channel = channel; by = by; turn = turn; is_final = is_final; outcome = outcome; votes = votes; proposal = proposal }))
 
 abbrev pub challenge_of : Data → Result Step Rule
 challenge_of d = do
@@ -144,14 +140,96 @@ claim_of d = do
   position ← number_at (codes "position") d
   Ok (Claim guarantor state target target_state asset position)
 
--- the form of each word that is built
-abbrev pub step_by : Context → List ℕ → Data → Result Step Rule
-step_by c word d =
+abbrev pub catch_of : Data → Result Step Rule
+catch_of d = do
+  no_more ← keys 5 d
+  name ← name_at (codes "name") d
+  from ← name_at (codes "from") d
+  channel ← name_at (codes "channel") d
+  turn ← number_at (codes "turn") d
+  Ok (Catch name from channel turn)
+
+abbrev pub send_of : Data → Result Step Rule
+send_of d = do
+  no_more ← keys 3 d
+  to ← name_at (codes "to") d
+  state ← name_at (codes "state") d
+  Ok (Send to state)
+
+abbrev pub drop_of : Data → Result Step Rule
+drop_of d = do
+  no_more ← keys 2 d
+  to ← name_at (codes "to") d
+  Ok (Drop to)
+
+abbrev pub pay_of : Data → Result Step Rule
+pay_of d = do
+  no_more ← keys 5 d
+  who ← name_at (codes "who") d
+  channel ← name_at (codes "channel") d
+  asset ← number_at (codes "asset") d
+  amount ← number_at (codes "amount") d
+  Ok (Pay who channel asset amount)
+
+abbrev pub close_of : Data → Result Step Rule
+close_of d = do
+  no_more ← keys 3 d
+  who ← names_at (codes "who") d
+  channel ← name_at (codes "channel") d
+  Ok (Close who channel)
+
+abbrev pub exit_of : Data → Result Step Rule
+exit_of d = do
+  no_more ← keys 2 d
+  who ← names_at (codes "who") d
+  Ok (Exit who)
+
+abbrev pub rounds_of : Data → Result Step Rule
+rounds_of d = do
+  no_more ← keys 2 d
+  count ← number_at (codes "count") d
+  Ok (Rounds count)
+
+abbrev pub open_of : Data → Result Written Rule
+open_of d = do
+  no_more ← keys 4 d
+  who ← names_at (codes "who") d
+  channel ← name_at (codes "channel") d
+  outcome ← outcome_at (codes "outcome") d
+  Ok (written.Open (record { who = who; channel = channel; outcome = outcome }))
+
+abbrev pub open_on_of : Data → Result Written Rule
+open_on_of d = do
+  no_more ← keys 6 d
+  who ← names_at (codes "who") d
+  ledger ← name_at (codes "ledger") d
+  channel ← name_at (codes "channel") d
+  asset ← number_at (codes "asset") d
+  amounts ← numbers_at (codes "amounts") d
+  Ok (written.OpenOn (record { who = who; ledger = ledger; channel = channel; asset = asset; amounts = amounts }))
+
+abbrev pub open_virtual_of : Data → Result Written Rule
+open_virtual_of d = do
+  no_more ← keys 8 d
+  who ← names_at (codes "who") d
+  ledgers ← names_at (codes "ledgers") d
+  guarantors ← names_at (codes "guarantors") d
+  joint ← name_at (codes "joint") d
+  channel ← name_at (codes "channel") d
+  asset ← number_at (codes "asset") d
+  amounts ← numbers_at (codes "amounts") d
+  Ok (written.OpenVirtual (record { who = who; ledgers = ledgers; guarantors = guarantors; joint = joint; channel = channel; asset = asset; amounts = amounts }))
+
+-- the step that a value is by its word, where it has neither outcomes nor amounts
+abbrev pub plain_by : List ℕ → Data → Result Step Rule
+plain_by word d =
     if bytes_eq word (codes "deposit") then deposit_of d else (
     if bytes_eq word (codes "time") then time_of d else (
     if bytes_eq word (codes "person") then person_of d else (
     if bytes_eq word (codes "channel") then channel_of d else (
-    if bytes_eq word (codes "sign") then sign_of c d else (
+    if bytes_eq word (codes "catch") then catch_of d else (
+    if bytes_eq word (codes "send") then send_of d else (
+    if bytes_eq word (codes "drop") then drop_of d else (
     if bytes_eq word (codes "challenge") then challenge_of d else (
     if bytes_eq word (codes "respond") then respond_of d else (
     if bytes_eq word (codes "refute") then refute_of d else (
@@ -159,4 +237,26 @@ step_by c word d =
     if bytes_eq word (codes "conclude") then conclude_of d else (
     if bytes_eq word (codes "transfer") then transfer_of d else (
     if bytes_eq word (codes "claim") then claim_of d else (
-    if is_word word then Err rules.NotBuilt else Err rules.Shape))))))))))))
+    if bytes_eq word (codes "pay") then pay_of d else (
+    if bytes_eq word (codes "close") then close_of d else (
+    if bytes_eq word (codes "exit") then exit_of d else (
+    if bytes_eq word (codes "rounds") then rounds_of d else (
+    Err rules.Shape))))))))))))))))))
+
+abbrev pub plain_written : List ℕ → Data → Result Written Rule
+plain_written word d = plain_by word d >>= λ s. Ok (written.Plain s)
+
+-- outcomes or amounts are written otherwise than they stand in a step
+abbrev pub is_indirect : List ℕ → Bool
+is_indirect word = list_any (bytes_eq word) (codes "sign" ∷ codes "open" ∷ codes "open_on" ∷ codes "open_virtual" ∷ [])
+
+abbrev pub indirect_by : List ℕ → Data → Result Written Rule
+indirect_by word d =
+    if bytes_eq word (codes "sign") then sign_of d else (
+    if bytes_eq word (codes "open") then open_of d else (
+    if bytes_eq word (codes "open_on") then open_on_of d else (
+    if bytes_eq word (codes "open_virtual") then open_virtual_of d else Err rules.Shape)))
+
+-- the step that a value is by its word, as it is written
+abbrev pub written_by : List ℕ → Data → Result Written Rule
+written_by word d = if is_indirect word then indirect_by word d else plain_written word d

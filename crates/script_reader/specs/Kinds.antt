@@ -96,6 +96,10 @@ name_at key d = text_if is_name (text_in key d)
 abbrev pub names_at : List ℕ → Data → Result (List (List ℕ)) Rule
 names_at key d = array_at key d >>= many_in name_of []
 
+-- an array of numbers
+abbrev pub numbers_at : List ℕ → Data → Result (List ℕ) Rule
+numbers_at key d = array_at key d >>= many_in number_of []
+
 -- the 32 bytes that 64 digits spell
 abbrev pub seed_of : List ℕ → Result (List ℕ) Rule
 seed_of text = if is_hex text then given rules.Shape (result_ok (decode_sized text 32)) else Err rules.Shape

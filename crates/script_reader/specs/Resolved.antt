@@ -1,5 +1,5 @@
 -- Where the names of an outcome lead, by what earlier steps declared.
-use Rattle.std.specs.Prelude.{◌||◌, ◌&&◌, ◌^◌, ℕ, List, [], ◌∷◌, ◌++◌, Bool, nat_lt, is_ok, Option, Some, None, Result, Ok, Err}
+use Rattle.std.specs.Prelude.{◌&&◌, ◌^◌, ℕ, List, [], ◌∷◌, ◌++◌, Bool, nat_lt, is_ok, Option, Some, None, Result, Ok, Err}
 use Rattle.std.specs.List.{list_all}
 use Rattle.nitro_bytes.specs.declared.value.Dest.{Dest}
 use Rattle.nitro_bytes.specs.declared.value.Dest.TheVariants as dests
@@ -9,24 +9,30 @@ use Rattle.nitro_bytes.specs.declared.value.Shape.TheVariants.{Allocation, Guara
 use Rattle.nitro_bytes.specs.declared.value.AssetOutcome.{AssetOutcome}
 use Rattle.nitro_bytes.specs.Spelling.{outcome}
 use Rattle.nitro_bytes.specs.Reading.{outcome_of}
-use Rattle.script_reader.specs.Context.{person_by, channel_by, is_person, is_channel}
+use Rattle.script_reader.specs.Context.{person_by, channel_by, knows}
 use Rattle.script_reader.specs.Rules.{◌>>=◌, given, holds}
 use Rattle.script_reader.specs.declared.context.Channel.{Channel}
 use Rattle.script_reader.specs.declared.context.Context.{Context}
+use Rattle.script_reader.specs.declared.context.Kind.TheVariants as kinds
 use Rattle.script_reader.specs.declared.context.Person.{Person}
 use Rattle.script_reader.specs.declared.step.Rule.{Rule}
 use Rattle.script_reader.specs.declared.step.Rule.TheVariants as rules
+use Rattle.script_reader.specs.declared.step.Step.{Step}
+use Rattle.script_reader.specs.declared.step.Step.TheVariants as steps
 use Rattle.script_reader.specs.declared.written.Holding.{Holding}
+use Rattle.script_reader.specs.declared.written.OpenKeys.{OpenKeys}
+use Rattle.script_reader.specs.declared.written.OpenOnKeys.{OpenOnKeys}
+use Rattle.script_reader.specs.declared.written.OpenVirtualKeys.{OpenVirtualKeys}
+use Rattle.script_reader.specs.declared.written.SignKeys.{SignKeys}
+use Rattle.script_reader.specs.declared.written.Written.{Written}
+use Rattle.script_reader.specs.declared.written.Written.TheVariants as written
 use Rattle.script_reader.specs.declared.written.WrittenShape.{WrittenShape}
 use Rattle.script_reader.specs.declared.written.WrittenShape.TheVariants as shapes
 use Rattle.script_reader.specs.declared.written.WrittenAsset.{WrittenAsset}
 
-abbrev pub is_dest : Context → List ℕ → Bool
-is_dest c name = is_person c name || is_channel c name
-
 abbrev pub knows_shape : Context → WrittenShape → Bool
-knows_shape c (shapes.Items holdings) = list_all (λ h. is_dest c h.to) holdings
-knows_shape c (shapes.List target list) = is_channel c target && list_all (is_dest c) list
+knows_shape c (shapes.Items holdings) = list_all (λ h. knows c kinds.Dest h.to) holdings
+knows_shape c (shapes.List target list) = knows c kinds.Channel target && list_all (knows c kinds.Dest) list
 
 -- each name of the outcome is declared, and a target is a channel
 abbrev pub knows_outcome : Context → List WrittenAsset → Bool
@@ -76,3 +82,37 @@ outcome_in c os = do
   assets ← each (asset_in c) [] os
   valid ← holds rules.Limit (is_outcome assets)
   Ok assets
+
+-- exactly two amounts
+abbrev pub pair_in : List ℕ → Result (ℕ × ℕ) Rule
+pair_in (a ∷ b ∷ []) = Ok (a, b)
+pair_in amounts = Err rules.Limit
+
+abbrev pub signed : Context → SignKeys → Result Step Rule
+signed c k = do
+  outcome ← outcome_in c k.outcome
+  proposal ← outcome_in c k.proposal
+  Ok (steps.Sign k.name k.channel k.by k.turn k.is_final outcome k.votes proposal)
+
+abbrev pub opened : Context → OpenKeys → Result Step Rule
+opened c k = do
+  outcome ← outcome_in c k.outcome
+  Ok (steps.Open k.who k.channel outcome)
+
+abbrev pub opened_on : OpenOnKeys → Result Step Rule
+opened_on k = do
+  amounts ← pair_in k.amounts
+  Ok (steps.OpenOn k.who k.ledger k.channel k.asset amounts)
+
+abbrev pub opened_virtual : OpenVirtualKeys → Result Step Rule
+opened_virtual k = do
+  amounts ← pair_in k.amounts
+  Ok (steps.OpenVirtual k.who k.ledgers k.guarantors k.joint k.channel k.asset amounts)
+
+-- the step with the outcomes that its names give, and with its two amounts
+abbrev pub resolved : Context → Written → Result Step Rule
+resolved c (written.Plain s) = Ok s
+resolved c (written.Sign k) = signed c k
+resolved c (written.Open k) = opened c k
+resolved c (written.OpenOn k) = opened_on k
+resolved c (written.OpenVirtual k) = opened_virtual k

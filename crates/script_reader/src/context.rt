@@ -1,11 +1,28 @@
 //! What the steps so far declare.
 
 ghost use Rattle.std.specs.Prelude.{◌≡◌, option_map, nat_lt, ◌^◌};
-ghost use Rattle.std.specs.List.{list_any};
+ghost use Rattle.std.specs.List.{list_any, list_all};
 ghost use Rattle.std.specs.Str.{bytes_eq};
-ghost use Rattle.script_reader.specs.Context.{person_by, channel_by, is_person, is_hand, is_channel, is_state, is_new, has_seed, has_index, are_people, are_states, signs, repeats};
+ghost use Rattle.script_reader.specs.Context.{person_by, channel_by, is_person, is_hand, is_node, is_channel, is_state, is_new, knows, has_seed, has_index, signs, repeats};
 
+use crate::kinds::is_hex;
 use nitro_bytes::{Key, Label, Listed, Name};
+
+/// What a name must be declared as, where a key uses it.
+#[derive(Clone, Copy, Debug, PartialEq, Eq)]
+pub(crate) enum Kind {
+    Person,
+    /// A person without a node, whose hand the script leads.
+    Hand,
+    /// A person with a node.
+    Node,
+    Channel,
+    /// A channel, or 64 digits.
+    Place,
+    State,
+    /// A person or a channel, which can receive.
+    Dest,
+}
 
 /// A declared person, with its public key and the digest that names it.
 #[derive(Drop)]
@@ -31,11 +48,15 @@ pub struct Channel {
 #[derive(Drop)]
 pub struct Context {
     pub race: bool,
+    /// Whether forms that aren't built are read too. A script that is played has none.
+    pub all_forms: bool,
     pub people: Listed<Person>,
     pub channels: Listed<Channel>,
     pub states: Listed<Label>,
     /// Who signed, once for each sign and challenge step.
     pub signers: Listed<Label>,
+    /// The sum of all counts of rounds.
+    pub rounds: u64,
 }
 
 impl Context {
@@ -57,7 +78,7 @@ impl Context {
             .find(|k| k.name.as_str() == name)
     }
 
-    pub(crate) fn is_person(&self, name: &str) -> bool
+    fn is_person(&self, name: &str) -> bool
         ensures { result ≡ is_person self.now name.now }
     {
         self.people
@@ -66,7 +87,7 @@ impl Context {
             .any(|p| p.name.as_str() == name)
     }
 
-    pub(crate) fn is_hand(&self, name: &str) -> bool
+    fn is_hand(&self, name: &str) -> bool
         ensures { result ≡ is_hand self.now name.now }
     {
         self.people
@@ -75,7 +96,16 @@ impl Context {
             .any(|p| p.name.as_str() == name && !p.node)
     }
 
-    pub(crate) fn is_channel(&self, name: &str) -> bool
+    fn is_node(&self, name: &str) -> bool
+        ensures { result ≡ is_node self.now name.now }
+    {
+        self.people
+            .as_slice()
+            .iter()
+            .any(|p| p.name.as_str() == name && p.node)
+    }
+
+    fn is_channel(&self, name: &str) -> bool
         ensures { result ≡ is_channel self.now name.now }
     {
         self.channels
@@ -84,7 +114,7 @@ impl Context {
             .any(|c| c.name.as_str() == name)
     }
 
-    pub(crate) fn is_state(&self, name: &str) -> bool
+    fn is_state(&self, name: &str) -> bool
         ensures { result ≡ is_state self.now name.now }
     {
         self.states.as_slice().iter().any(|s| s.as_str() == name)
@@ -96,22 +126,32 @@ impl Context {
         !(self.is_person(name) || self.is_channel(name) || self.is_state(name))
     }
 
+    /// Whether the name is declared as the kind.
+    pub(crate) fn knows(&self, kind: Kind, name: &Label) -> bool
+        ensures { result ≡ knows self.now kind name.now }
+    {
+        let name = name.as_str();
+        match kind {
+            Kind::Person => self.is_person(name),
+            Kind::Hand => self.is_hand(name),
+            Kind::Node => self.is_node(name),
+            Kind::Channel => self.is_channel(name),
+            Kind::Place => is_hex(name) || self.is_channel(name),
+            Kind::State => self.is_state(name),
+            Kind::Dest => self.is_person(name) || self.is_channel(name),
+        }
+    }
+
+    pub(crate) fn knows_all(&self, kind: Kind, names: &[Label]) -> bool
+        ensures { result ≡ list_all (knows self.now kind) names.now }
+    {
+        names.iter().all(|n| self.knows(kind, n))
+    }
+
     pub(crate) fn has_seed(&self, seed: &[u8; 32]) -> bool
         ensures { result ≡ has_seed self.now seed.now }
     {
         self.people.as_slice().iter().any(|p| p.seed == *seed)
-    }
-
-    pub(crate) fn are_people(&self, names: &[Label]) -> bool
-        ensures { result ≡ are_people self.now names.now }
-    {
-        names.iter().all(|n| self.is_person(n.as_str()))
-    }
-
-    pub(crate) fn are_states(&self, names: &[Label]) -> bool
-        ensures { result ≡ are_states self.now names.now }
-    {
-        names.iter().all(|n| self.is_state(n.as_str()))
     }
 
     /// Whether a person has an index left to sign with.

@@ -1,9 +1,9 @@
-//! The keys that seeds give, and the fixed parts of channels.
+//! The signers that seeds give, and the fixed parts of channels.
 
 ghost use Rattle.std.specs.Prelude.{◌≡◌, ◌==◌, ◌||◌, IsTrue, IfOk, Ok, is_ok};
 ghost use Rattle.nitro_bytes.specs.Parts.{fixed_with};
 ghost use Rattle.nitro_bytes.specs.Reading.{fixed_of};
-ghost use Rattle.script_reader.specs.Digests.{id_of, key_of, spelled};
+ghost use Rattle.script_reader.specs.Digests.{id_of, fresh, spelled};
 ghost use Rattle.script_reader.specs.Rules.{Gives, holds};
 ghost use Rattle.script_reader.specs.declared.step.Rule.TheVariants as rules;
 
@@ -27,15 +27,15 @@ pub fn id_of(seed: &[u8; 32]) -> [u8; 16]
     id
 }
 
-/// The public key of a seed, for a tree of height `h`. It takes 2^h one-time keys.
-#[tactic(auto, unfolding(crate::specs::Digests::key_of))]
-pub(crate) fn key_of(alloc: Global, seed: &[u8; 32], h: u64) -> Result<Key, StepFault>
+/// The signer of a seed, of which no index is used, for a tree of height `h`. It takes 2^h one-time
+/// keys.
+pub(crate) fn signer_of(alloc: Global, seed: &[u8; 32], h: u64) -> Result<Signer, StepFault>
     requires { IsTrue (h == 5 || h == 10) }
-    ensures { Gives (λ k. k) result (Ok (key_of seed.now h)) }
+    ensures { Gives (λ s. s) result (Ok (fresh seed.now h)) }
 {
     let height = if h == 5 { 5 } else { 10 };
     let signer = Signer::make(alloc, *seed, id_of(seed), height)?;
-    Ok(signer.public())
+    Ok(signer)
 }
 
 /// The fixed part of a channel.

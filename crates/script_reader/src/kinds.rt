@@ -4,7 +4,7 @@ ghost use Rattle.std.specs.Prelude.{◌≡◌, [], option_map};
 ghost use Rattle.std.specs.List.{list_all};
 ghost use Rattle.serde_json.specs.View.{view, items_view};
 ghost use Rattle.script_reader.specs.Rules.{Gives};
-ghost use Rattle.script_reader.specs.Kinds.{has_keys, keys, text_in, word_at, number_of, number_at, flag_at, many_in, is_lower_digit, is_hex, is_letter, is_name_byte, is_name, name_of, name_at, names_at, place_at, array_at, seed_of, seed_at, app_of, app_at};
+ghost use Rattle.script_reader.specs.Kinds.{has_keys, keys, text_in, word_at, number_of, number_at, flag_at, many_in, is_lower_digit, is_hex, is_letter, is_name_byte, is_name, name_of, name_at, names_at, numbers_at, place_at, array_at, seed_of, seed_at, app_of, app_at};
 
 use crate::step::{Rule, StepFault};
 use hex::FromHex;
@@ -185,6 +185,26 @@ pub(crate) fn names_at(alloc: Global, value: &Value, key: &str) -> Result<Listed
 {
     let values = array_at(value, key)?;
     names_in(alloc, values)
+}
+
+#[tactic(auto, using(crate::proofs::Many::goes_on, crate::proofs::Many::stops))]
+fn numbers_in(alloc: Global, values: &[Value]) -> Result<Listed<u64>, StepFault>
+    ensures { Gives (λ l. l) result (many_in number_of [] (items_view values.now)) }
+{
+    let mut numbers = Listed::make(Vec::new(alloc));
+    for value in values {
+        let number = number_of(value)?;
+        numbers.push(number)?;
+    }
+    Ok(numbers)
+}
+
+/// The numbers that the array at the key holds.
+pub(crate) fn numbers_at(alloc: Global, value: &Value, key: &str) -> Result<Listed<u64>, StepFault>
+    ensures { Gives (λ l. l) result (numbers_at key.now (view value.now)) }
+{
+    let values = array_at(value, key)?;
+    numbers_in(alloc, values)
 }
 
 fn seed_of(text: &str) -> Result<[u8; 32], StepFault>

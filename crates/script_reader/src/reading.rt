@@ -3,46 +3,129 @@
 ghost use Rattle.std.specs.Prelude.{◌≡◌, IfOk};
 ghost use Rattle.serde_json.specs.View.{view};
 ghost use Rattle.script_reader.specs.Rules.{Gives};
-ghost use Rattle.script_reader.specs.Conditions.{after};
-ghost use Rattle.script_reader.specs.Reading.{checked, step_of};
+ghost use Rattle.script_reader.specs.Conditions.{after, signer_of};
+ghost use Rattle.script_reader.specs.Reading.{plays, wants_node, written_of, knows_names, named_of, led, limited, step_of};
 
-use crate::conditions::{enter, fits, is_built, is_named, runs_in_race};
 use crate::context::Context;
-use crate::forms::step_by;
+use crate::entering::enter;
+use crate::forms::{is_built, is_word, written_by};
 use crate::kinds::word_at;
+use crate::limits::{has_node, runs_in_race};
+use crate::resolve::{knows_outcome, resolved};
 use crate::step::{Rule, Step, StepFault};
+use crate::written::Written;
 use serde_json::Value;
+use sign_index::Signer;
 use std::alloc::Global;
 
-/// Tries the rules behind the shape, in their order, and takes note of what the step declares.
-fn check(alloc: Global, context: &mut Context, step: &Step) -> Result<(), StepFault>
-    ensures checked { Gives (λ _. step.now) result (checked context.old step.now) }
-    ensures noted { IfOk result (λ _. context.new ≡ after context.old step.now) }
+fn plays(context: &Context, word: &str) -> bool
+    ensures { result ≡ plays context.now word.now }
 {
-    if !is_built(step) {
+    context.all_forms || is_built(word)
+}
+
+fn wants_node(written: &Written) -> bool
+    ensures { result ≡ wants_node written.now }
+{
+    match written {
+        Written::Plain(step) => has_node(step),
+        _ => false,
+    }
+}
+
+/// Reads a step as it is written, if steps of its kind are played.
+fn written_of(alloc: Global, context: &Context, step: &Value) -> Result<Written, StepFault>
+    ensures { Gives (λ w. w) result (written_of context.now (view step.now)) }
+{
+    let word = word_at(step)?;
+    if !is_word(word) {
+        return Err(StepFault::Broken(Rule::Shape));
+    }
+    if !plays(context, word) {
         return Err(StepFault::Broken(Rule::NotBuilt));
     }
-    if !is_named(context, step) {
+    let written = written_by(alloc, word, step)?;
+    if wants_node(&written) && !plays(context, "node") {
+        return Err(StepFault::Broken(Rule::NotBuilt));
+    }
+    Ok(written)
+}
+
+/// Whether all names of a step are declared as what their keys need, those of its outcomes too.
+fn knows_names(context: &Context, written: &Written) -> bool
+    ensures { result ≡ knows_names context.now written.now }
+{
+    match written {
+        Written::Plain(step) => context.is_named(step),
+        Written::Sign(keys) => {
+            context.is_new(keys.name.as_str())
+                && context.knows_sign(&keys.channel, &keys.by)
+                && knows_outcome(context, keys.outcome.as_slice())
+                && knows_outcome(context, keys.proposal.as_slice())
+        }
+        Written::Open(keys) => {
+            context.knows_open(keys.who.as_slice(), &keys.channel)
+                && knows_outcome(context, keys.outcome.as_slice())
+        }
+        Written::OpenOn(keys) => {
+            context.knows_open_on(keys.who.as_slice(), &keys.ledger, &keys.channel)
+        }
+        Written::OpenVirtual(keys) => {
+            let (ledgers, guarantors) = (keys.ledgers.as_slice(), keys.guarantors.as_slice());
+            let who = keys.who.as_slice();
+            context.knows_open_virtual(who, ledgers, guarantors, &keys.joint, &keys.channel)
+        }
+    }
+}
+
+/// Reads a step as it is written, if its names are declared.
+fn named_of(alloc: Global, context: &Context, value: &Value) -> Result<Written, StepFault>
+    ensures { Gives (λ w. w) result (named_of context.now (view value.now)) }
+{
+    let written = written_of(alloc, context, value)?;
+    if !knows_names(context, &written) {
         return Err(StepFault::Broken(Rule::Name));
     }
-    if !fits(context, step) {
+    Ok(written)
+}
+
+/// Reads a step whose names lead somewhere.
+fn led(alloc: Global, context: &Context, value: &Value) -> Result<Step, StepFault>
+    ensures { Gives (λ s. s) result (led context.now (view value.now)) }
+{
+    let written = named_of(alloc, context, value)?;
+    resolved(alloc, context, written)
+}
+
+/// Tries the rules behind the names, in their order, and takes note of what the step declares.
+fn limited(alloc: Global, context: &mut Context, step: &Step) -> Result<Option<Signer>, StepFault>
+    ensures limited { Gives (λ _. step.now) result (limited context.old step.now) }
+    ensures noted { IfOk result (λ _. context.new ≡ after context.old step.now) }
+    ensures signer { IfOk result (λ s. s ≡ signer_of step.now) }
+{
+    if !context.fits(step) {
         return Err(StepFault::Broken(Rule::Limit));
     }
     let race = context.race;
-    enter(alloc, context, step)?;
+    let signer = enter(alloc, context, step)?;
     if race && !runs_in_race(step) {
         return Err(StepFault::Broken(Rule::NotInRace));
     }
-    Ok(())
+    Ok(signer)
 }
 
-/// Reads a step, tries its rules and takes note of what it declares.
-pub(crate) fn step_of(alloc: Global, context: &mut Context, step: &Value) -> Result<Step, StepFault>
-    ensures read { Gives (λ s. s) result (step_of context.old (view step.now)) }
-    ensures noted { IfOk result (λ s. context.new ≡ after context.old s) }
+/// Reads a step, tries its rules and takes note of what it declares. Beside it stands the signer of
+/// the person that it declares.
+pub(crate) fn step_of(
+    alloc: Global,
+    context: &mut Context,
+    value: &Value,
+) -> Result<(Step, Option<Signer>), StepFault>
+    ensures read { Gives (λ r. r.0) result (step_of context.old (view value.now)) }
+    ensures noted { IfOk result (λ r. context.new ≡ after context.old r.0) }
+    ensures signer { IfOk result (λ r. r.1 ≡ signer_of r.0) }
 {
-    let word = word_at(step)?;
-    let written = step_by(alloc, context, word, step)?;
-    check(alloc, context, &written)?;
-    Ok(written)
+    let step = led(alloc, context, value)?;
+    let signer = limited(alloc, context, &step)?;
+    Ok((step, signer))
 }

@@ -3,30 +3,21 @@
 ghost use Rattle.std.specs.Prelude.{◌≡◌, []};
 ghost use Rattle.std.specs.List.{list_all};
 ghost use Rattle.script_reader.specs.Rules.{Gives};
-ghost use Rattle.script_reader.specs.Resolved.{is_dest, knows_shape, knows_outcome, dest_of, item_of, each, shape_in, asset_in, outcome_in};
+ghost use Rattle.script_reader.specs.Resolved.{knows_shape, knows_outcome, dest_of, item_of, each, shape_in, asset_in, outcome_in, pair_in, signed, opened, opened_on, opened_virtual, resolved};
+ghost use Rattle.script_reader.specs.Context.{knows};
 
-use crate::context::Context;
-use crate::step::{Rule, StepFault};
-use crate::written::{Holding, WrittenAsset, WrittenShape};
+use crate::context::{Context, Kind};
+use crate::step::{Rule, Step, StepFault};
+use crate::written::{
+    Holding, OpenKeys, OpenOnKeys, OpenVirtualKeys, SignKeys, Written, WrittenAsset, WrittenShape,
+};
 use nitro_bytes::{AssetOutcome, ByteFault, Dest, Item, Label, Listed, Outcome, Shape};
 use std::alloc::Global;
 
-fn is_dest(context: &Context, name: &str) -> bool
-    ensures { result ≡ is_dest context.now name.now }
-{
-    context.is_person(name) || context.is_channel(name)
-}
-
-fn are_dests(context: &Context, names: &[Label]) -> bool
-    ensures { result ≡ list_all (is_dest context.now) names.now }
-{
-    names.iter().all(|n| is_dest(context, n.as_str()))
-}
-
 fn knows_holdings(context: &Context, holdings: &[Holding]) -> bool
-    ensures { result ≡ list_all (λ h. is_dest context.now h.to) holdings.now }
+    ensures { result ≡ list_all (λ h. knows context.now Kind.Dest h.to) holdings.now }
 {
-    holdings.iter().all(|h| is_dest(context, h.to.as_str()))
+    holdings.iter().all(|h| context.knows(Kind::Dest, &h.to))
 }
 
 fn knows_shape(context: &Context, shape: &WrittenShape) -> bool
@@ -35,7 +26,7 @@ fn knows_shape(context: &Context, shape: &WrittenShape) -> bool
     match shape {
         WrittenShape::Items(holdings) => knows_holdings(context, holdings.as_slice()),
         WrittenShape::List(target, list) => {
-            context.is_channel(target.as_str()) && are_dests(context, list.as_slice())
+            context.knows(Kind::Channel, target) && context.knows_all(Kind::Dest, list.as_slice())
         }
     }
 }
@@ -145,7 +136,7 @@ fn assets_in(
 }
 
 /// The outcome that the names give.
-pub(crate) fn outcome_in(
+fn outcome_in(
     alloc: Global,
     context: &Context,
     written: &[WrittenAsset],
@@ -157,5 +148,87 @@ pub(crate) fn outcome_in(
         Ok(outcome) => Ok(outcome),
         Err(ByteFault::NoMemory) => Err(StepFault::NoMemory),
         Err(_) => Err(StepFault::Broken(Rule::Limit)),
+    }
+}
+
+fn pair_in(amounts: &[u64]) -> Result<(u64, u64), StepFault>
+    ensures { Gives (λ p. p) result (pair_in amounts.now) }
+{
+    match amounts {
+        [first, second] => Ok((*first, *second)),
+        _ => Err(StepFault::Broken(Rule::Limit)),
+    }
+}
+
+fn signed(alloc: Global, context: &Context, keys: SignKeys) -> Result<Step, StepFault>
+    ensures { Gives (λ s. s) result (signed context.now keys) }
+{
+    let outcome = outcome_in(alloc, context, keys.outcome.as_slice())?;
+    let proposal = outcome_in(alloc, context, keys.proposal.as_slice())?;
+    Ok(Step::Sign {
+        name: keys.name,
+        channel: keys.channel,
+        by: keys.by,
+        turn: keys.turn,
+        is_final: keys.is_final,
+        outcome,
+        votes: keys.votes,
+        proposal,
+    })
+}
+
+fn opened(alloc: Global, context: &Context, keys: OpenKeys) -> Result<Step, StepFault>
+    ensures { Gives (λ s. s) result (opened context.now keys) }
+{
+    let outcome = outcome_in(alloc, context, keys.outcome.as_slice())?;
+    Ok(Step::Open {
+        who: keys.who,
+        channel: keys.channel,
+        outcome,
+    })
+}
+
+fn opened_on(keys: OpenOnKeys) -> Result<Step, StepFault>
+    ensures { Gives (λ s. s) result (opened_on keys) }
+{
+    let amounts = pair_in(keys.amounts.as_slice())?;
+    Ok(Step::OpenOn {
+        who: keys.who,
+        ledger: keys.ledger,
+        channel: keys.channel,
+        asset: keys.asset,
+        amounts,
+    })
+}
+
+fn opened_virtual(keys: OpenVirtualKeys) -> Result<Step, StepFault>
+    ensures { Gives (λ s. s) result (opened_virtual keys) }
+{
+    let amounts = pair_in(keys.amounts.as_slice())?;
+    Ok(Step::OpenVirtual {
+        who: keys.who,
+        ledgers: keys.ledgers,
+        guarantors: keys.guarantors,
+        joint: keys.joint,
+        channel: keys.channel,
+        asset: keys.asset,
+        amounts,
+    })
+}
+
+/// The step with the outcomes that its names give, and with its two amounts.
+pub(crate) fn resolved(
+    alloc: Global,
+    context: &Context,
+    written: Written,
+) -> Result<Step, StepFault>
+    ensures { Gives (λ s. s) result (resolved context.now written) }
+{
+    match written {
+        Written::Plain(step) => Ok(step),
+        Written::Sign(keys) => signed(alloc, context, keys),
+        Written::Open(keys) => opened(alloc, context, keys),
+        Written::OpenOn(keys) => opened_on(keys),
+        Written::OpenVirtual(keys) => opened_virtual(keys),
     }
 }

@@ -1,12 +1,13 @@
 //! Reads a whole script.
 
-ghost use Rattle.std.specs.Prelude.{◌≡◌, ◌≤◌, [], length, nat_le, IfOk};
+ghost use Rattle.std.specs.Prelude.{◌≡◌, ◌≤◌, [], length, nat_le, IfOk, All};
 ghost use Rattle.serde_json.specs.View.{view, items_view};
 ghost use Rattle.script_reader.specs.Rules.{Gives};
 ghost use Rattle.script_reader.specs.Listed.{few_items, listed};
-ghost use Rattle.script_reader.specs.Conditions.{after};
+ghost use Rattle.script_reader.specs.Conditions.{after, signer_of};
+ghost use Rattle.script_reader.specs.Bounds.{Fits, persons_of, rounds_of, signers_of};
 ghost use Rattle.script_reader.specs.Reading.{step_of};
-ghost use Rattle.script_reader.specs.Script.{Ends, fault_at, at_step, start, steps_from, script_of, IsReading, AreChecked};
+ghost use Rattle.script_reader.specs.Script.{Ends, fault_at, at_step, start, steps_from, script_of, IsReading, IsReadingIn, AreChecked};
 ghost use Rattle.script_reader.specs.declared.script.ScriptFault.TheVariants.{NoMemory as NoMemoryLeft};
 
 use crate::context::Context;
@@ -15,7 +16,10 @@ use crate::reading::step_of;
 use crate::step::{Rule, Step, StepFault};
 use nitro_bytes::{Listed, NoMemory};
 use serde_json::Value;
-use std::alloc::Global;
+use sign_index::Signer;
+use std::alloc::{AllocFailed, Global};
+use std::error::Error;
+use std::fmt;
 
 /// Why a script is refused: want of memory, or the rule that is broken first and its step.
 /// Steps count from 1; step 0 is the whole script.
@@ -25,10 +29,30 @@ pub enum ScriptFault {
     Broken { step: u32, rule: Rule },
 }
 
+impl fmt::Display for ScriptFault {
+    fn fmt<W: fmt::Write>(&self, f: &mut fmt::Formatter<W>) -> fmt::Result {
+        match self {
+            ScriptFault::NoMemory => write!(f, "out of memory"),
+            ScriptFault::Broken { step: 0, rule } => write!(f, "the script: {rule}"),
+            ScriptFault::Broken { step, rule } => write!(f, "step {step}: {rule}"),
+        }
+    }
+}
+
+impl Error for ScriptFault {}
+
 impl From<NoMemory> for ScriptFault {
     ghost from_gives = { λ _ e. e ≡ NoMemoryLeft };
 
     fn from(_: NoMemory) -> ScriptFault {
+        ScriptFault::NoMemory
+    }
+}
+
+impl<T: Drop> From<AllocFailed<T>> for ScriptFault {
+    ghost from_gives = { λ _ e. e ≡ NoMemoryLeft };
+
+    fn from(_: AllocFailed<T>) -> ScriptFault {
         ScriptFault::NoMemory
     }
 }
@@ -56,45 +80,56 @@ fn start(alloc: Global, race: bool) -> Context
 {
     Context {
         race,
+        all_forms: false,
         people: Listed::make(Vec::new(alloc)),
         channels: Listed::make(Vec::new(alloc)),
         states: Listed::make(Vec::new(alloc)),
         signers: Listed::make(Vec::new(alloc)),
+        rounds: 0,
     }
 }
 
-/// The step of this number.
+/// The step of this number, and the signer of the person that it declares.
 fn numbered(
     alloc: Global,
     context: &mut Context,
     number: u32,
     value: &Value,
-) -> Result<Step, ScriptFault>
-    ensures read { Ends (λ s. s) result (at_step number (step_of context.old (view value.now))) }
-    ensures noted { IfOk result (λ s. context.new ≡ after context.old s) }
+) -> Result<(Step, Option<Signer>), ScriptFault>
+    ensures read { Ends (λ r. r.0) result (at_step number (step_of context.old (view value.now))) }
+    ensures noted { IfOk result (λ r. context.new ≡ after context.old r.0) }
+    ensures signer { IfOk result (λ r. r.1 ≡ signer_of r.0) }
 {
     match step_of(alloc, context, value) {
-        Ok(step) => Ok(step),
+        Ok(read) => Ok(read),
         Err(fault) => Err(fault_at(number, fault)),
     }
 }
 
-#[tactic(auto, using(crate::proofs::Steps::goes_on, crate::proofs::Steps::stops, crate::proofs::Steps::length_push))]
-fn steps_in(alloc: Global, race: bool, values: &[Value]) -> Result<Listed<Step>, ScriptFault>
+#[tactic(auto, using(crate::proofs::Steps::goes_on, crate::proofs::Steps::stops, crate::proofs::Steps::length_push, crate::proofs::Steps::signer_push, crate::proofs::Steps::signer_none))]
+fn steps_in(
+    alloc: Global,
+    context: Context,
+    values: &[Value],
+) -> Result<(Listed<Step>, Vec<Signer>), ScriptFault>
     requires { length values.now ≤ STEP_LIMIT }
-    ensures read { Ends (λ l. l) result (steps_from (start race) [] (items_view values.now)) }
-    ensures kept { IfOk result (λ l. AreChecked (start race) l) }
-    ensures few { IfOk result (λ l. length l ≤ STEP_LIMIT) }
+    ensures read { Ends (λ r. r.0) result (steps_from context [] (items_view values.now)) }
+    ensures signers { IfOk result (λ r. r.1.items ≡ signers_of r.0) }
+    ensures few { IfOk result (λ r. length r.0 ≤ STEP_LIMIT) }
 {
-    let mut context = start(alloc, race);
+    let mut context = context;
     let mut steps = Listed::make(Vec::new(alloc));
+    let mut signers = Vec::new(alloc);
     let mut number = 0;
     for value in values {
         number += 1;
-        let step = numbered(alloc, &mut context, number, value)?;
+        let (step, signer) = numbered(alloc, &mut context, number, value)?;
         steps.push(step)?;
+        if let Some(signer) = signer {
+            signers.push(signer)?;
+        }
     }
-    Ok(steps)
+    Ok((steps, signers))
 }
 
 #[tactic(auto, using(crate::proofs::Counts::item_count_view))]
@@ -118,29 +153,71 @@ fn listed(value: &Value) -> Result<&[Value], StepFault>
     Ok(values)
 }
 
-fn script_of(alloc: Global, race: bool, value: &Value) -> Result<Listed<Step>, ScriptFault>
-    ensures read { Ends (λ l. l) result (script_of race (view value.now)) }
-    ensures kept { IfOk result (λ l. AreChecked (start race) l) }
-    ensures few { IfOk result (λ l. length l ≤ STEP_LIMIT) }
+fn script_of(
+    alloc: Global,
+    context: Context,
+    value: &Value,
+) -> Result<(Listed<Step>, Vec<Signer>), ScriptFault>
+    ensures read { Ends (λ r. r.0) result (script_of context (view value.now)) }
+    ensures signers { IfOk result (λ r. r.1.items ≡ signers_of r.0) }
+    ensures few { IfOk result (λ r. length r.0 ≤ STEP_LIMIT) }
 {
     match listed(value) {
-        Ok(values) => steps_in(alloc, race, values),
+        Ok(values) => steps_in(alloc, context, values),
         Err(fault) => Err(fault_at(0, fault)),
     }
 }
 
-/// The steps that the bytes are, or the rule that they break first. With `race` no step may be
-/// one that a race refuses.
-pub fn read_script(alloc: Global, bytes: &[u8], race: bool) -> Result<Script, ScriptFault>
-    ensures read { IsReading race bytes.now result }
-    ensures kept { IfOk result (λ script. AreChecked (start race) script.steps) }
-    ensures few { IfOk result (λ script. length script.steps ≤ STEP_LIMIT) }
+/// Reads a script behind what the context says is declared.
+pub(crate) fn read_behind(
+    alloc: Global,
+    context: Context,
+    bytes: &[u8],
+) -> Result<(Script, Vec<Signer>), ScriptFault>
+    ensures read { IsReadingIn context (λ r. r.0.steps) bytes.now result }
+    ensures signers { IfOk result (λ r. r.1.items ≡ signers_of r.0.steps) }
+    ensures kept { IfOk result (λ r. AreChecked context r.0.steps) }
+    ensures few { IfOk result (λ r. length r.0.steps ≤ STEP_LIMIT) }
 {
     let value = match Value::from_slice(alloc, bytes) {
         Ok(value) => value,
         Err(e) if e.is_memory() => return Err(ScriptFault::NoMemory),
         Err(_) => return Err(fault_at(0, StepFault::Broken(Rule::NotJson))),
     };
-    let steps = script_of(alloc, race, &value)?;
-    Ok(Script { steps })
+    let (steps, signers) = script_of(alloc, context, &value)?;
+    Ok((Script { steps }, signers))
+}
+
+/// The steps that the bytes are, or the rule that they break first; beside them the signers of the
+/// people that they declare, in the order of their steps, none of which has signed. With `race` no
+/// step may be one that a race refuses.
+#[tactic(auto, using(crate::proofs::Bounds::all_fit, crate::proofs::Bounds::few_people, crate::proofs::Bounds::few_rounds))]
+pub fn read_script_with_signers(
+    alloc: Global,
+    bytes: &[u8],
+    race: bool,
+) -> Result<(Script, Vec<Signer>), ScriptFault>
+    ensures read { IsReading race (λ r. r.0.steps) bytes.now result }
+    ensures signers { IfOk result (λ r. r.1.items ≡ signers_of r.0.steps) }
+    ensures kept { IfOk result (λ r. AreChecked (start race) r.0.steps) }
+    ensures fit { IfOk result (λ r. All Fits r.0.steps) }
+    ensures few { IfOk result (λ r. length r.0.steps ≤ STEP_LIMIT) }
+    ensures people { IfOk result (λ r. persons_of r.0.steps ≤ 16) }
+    ensures rounds { IfOk result (λ r. rounds_of r.0.steps ≤ 4096) }
+{
+    read_behind(alloc, start(alloc, race), bytes)
+}
+
+/// The steps that the bytes are, or the rule that they break first. With `race` no step may be
+/// one that a race refuses.
+pub fn read_script(alloc: Global, bytes: &[u8], race: bool) -> Result<Script, ScriptFault>
+    ensures read { IsReading race (λ s. s.steps) bytes.now result }
+    ensures kept { IfOk result (λ s. AreChecked (start race) s.steps) }
+    ensures fit { IfOk result (λ s. All Fits s.steps) }
+    ensures few { IfOk result (λ s. length s.steps ≤ STEP_LIMIT) }
+    ensures people { IfOk result (λ s. persons_of s.steps ≤ 16) }
+    ensures rounds { IfOk result (λ s. rounds_of s.steps ≤ 4096) }
+{
+    let (script, _) = read_script_with_signers(alloc, bytes, race)?;
+    Ok(script)
 }

@@ -6,6 +6,8 @@ ghost use Rattle.script_reader.specs.declared.source.ReadEnd.TheVariants.{NoMemo
 ghost use Rattle.script_reader.specs.Outside.{Rose, TakeGives};
 
 use std::alloc::{AllocError, Global};
+use std::error::Error;
+use std::fmt;
 
 /// A script has at most so many bytes.
 pub const READ_LIMIT: usize = 4_194_304;
@@ -39,6 +41,18 @@ pub enum ReadEnd {
     Failed,
     TooLong,
 }
+
+impl fmt::Display for ReadEnd {
+    fn fmt<W: fmt::Write>(&self, f: &mut fmt::Formatter<W>) -> fmt::Result {
+        match self {
+            ReadEnd::NoMemory => write!(f, "out of memory"),
+            ReadEnd::Failed => write!(f, "the source failed"),
+            ReadEnd::TooLong => write!(f, "more than {READ_LIMIT} bytes"),
+        }
+    }
+}
+
+impl Error for ReadEnd {}
 
 impl From<AllocError> for ReadEnd {
     ghost from_gives = { λ _ e. e ≡ NoMemory };

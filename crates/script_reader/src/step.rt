@@ -5,6 +5,8 @@ ghost use Rattle.script_reader.specs.declared.step.StepFault.TheVariants.{NoMemo
 
 use nitro_bytes::{Label, Listed, NoMemory, Outcome};
 use std::alloc::{AllocError, AllocFailed};
+use std::error::Error;
+use std::fmt;
 
 /// The rules of a script, in the order of their numbers in the text.
 #[derive(Clone, Copy, Debug, PartialEq, Eq)]
@@ -16,6 +18,24 @@ pub enum Rule {
     NotBuilt,
     NotInRace,
 }
+
+impl fmt::Display for Rule {
+    fn fmt<W: fmt::Write>(&self, f: &mut fmt::Formatter<W>) -> fmt::Result {
+        match self {
+            Rule::NotJson => write!(f, "not a JSON text"),
+            Rule::Shape => write!(f, "an unknown word, or keys or values of another kind"),
+            Rule::Name => write!(
+                f,
+                "a name that is taken, or isn't declared as what its key needs"
+            ),
+            Rule::Limit => write!(f, "a value beyond its limit"),
+            Rule::NotBuilt => write!(f, "a step that isn't played yet"),
+            Rule::NotInRace => write!(f, "a step that a race doesn't have"),
+        }
+    }
+}
+
+impl Error for Rule {}
 
 /// A step, whose fields are the keys of its form in order.
 #[derive(Drop)]
@@ -57,6 +77,20 @@ pub enum Step {
         votes: u64,
         proposal: Outcome,
     },
+    /// The state that the node of `from` signed at that turn, which is below 2^48.
+    Catch {
+        name: Label,
+        from: Label,
+        channel: Label,
+        turn: u64,
+    },
+    Send {
+        to: Label,
+        state: Label,
+    },
+    Drop {
+        to: Label,
+    },
     /// A chain names at most four states.
     Challenge {
         channel: Label,
@@ -95,6 +129,48 @@ pub enum Step {
         target_state: Label,
         asset: u64,
         position: u64,
+    },
+    /// People with nodes, as in all commands.
+    Open {
+        who: Listed<Label>,
+        channel: Label,
+        outcome: Outcome,
+    },
+    /// `asset` is below 2^32.
+    OpenOn {
+        who: Listed<Label>,
+        ledger: Label,
+        channel: Label,
+        asset: u64,
+        amounts: (u64, u64),
+    },
+    /// Two ledgers and two guarantors; `asset` is below 2^32.
+    OpenVirtual {
+        who: Listed<Label>,
+        ledgers: Listed<Label>,
+        guarantors: Listed<Label>,
+        joint: Label,
+        channel: Label,
+        asset: u64,
+        amounts: (u64, u64),
+    },
+    /// `asset` is below 2^32.
+    Pay {
+        who: Label,
+        channel: Label,
+        asset: u64,
+        amount: u64,
+    },
+    Close {
+        who: Listed<Label>,
+        channel: Label,
+    },
+    Exit {
+        who: Listed<Label>,
+    },
+    /// `count` is 1 to 64, and all counts of a script add up to at most 4,096.
+    Rounds {
+        count: u64,
     },
 }
 

@@ -1,4 +1,4 @@
-//! Outcomes as a script writes them, by names.
+//! Steps as a script writes them, before their names lead anywhere.
 
 ghost use Rattle.std.specs.Prelude.{◌≡◌, []};
 ghost use Rattle.serde_json.specs.View.{view, items_view};
@@ -6,8 +6,8 @@ ghost use Rattle.script_reader.specs.Rules.{Gives};
 ghost use Rattle.script_reader.specs.Kinds.{many_in};
 ghost use Rattle.script_reader.specs.Written.{has_items, holding_of, items_of, list_of, shape_of, asset_of, outcome_at};
 
-use crate::kinds::{has_keys, name_at, name_of, names_at, number_at, number_of};
-use crate::step::{Rule, StepFault};
+use crate::kinds::{array_at, has_keys, name_at, name_of, names_at, number_at, number_of};
+use crate::step::{Rule, Step, StepFault};
 use nitro_bytes::{Label, Listed};
 use serde_json::Value;
 use std::alloc::Global;
@@ -31,6 +31,60 @@ pub(crate) enum WrittenShape {
 pub(crate) struct WrittenAsset {
     pub(crate) asset: u64,
     pub(crate) shape: WrittenShape,
+}
+
+/// The keys of a sign step, with its outcomes as they are written.
+#[derive(Drop)]
+pub(crate) struct SignKeys {
+    pub(crate) name: Label,
+    pub(crate) channel: Label,
+    pub(crate) by: Label,
+    pub(crate) turn: u64,
+    pub(crate) is_final: bool,
+    pub(crate) outcome: Listed<WrittenAsset>,
+    pub(crate) votes: u64,
+    pub(crate) proposal: Listed<WrittenAsset>,
+}
+
+/// The keys of an open step, with its outcome as it is written.
+#[derive(Drop)]
+pub(crate) struct OpenKeys {
+    pub(crate) who: Listed<Label>,
+    pub(crate) channel: Label,
+    pub(crate) outcome: Listed<WrittenAsset>,
+}
+
+/// The keys of an open_on step, with any number of amounts.
+#[derive(Drop)]
+pub(crate) struct OpenOnKeys {
+    pub(crate) who: Listed<Label>,
+    pub(crate) ledger: Label,
+    pub(crate) channel: Label,
+    pub(crate) asset: u64,
+    pub(crate) amounts: Listed<u64>,
+}
+
+/// The keys of an open_virtual step, with any number of amounts.
+#[derive(Drop)]
+pub(crate) struct OpenVirtualKeys {
+    pub(crate) who: Listed<Label>,
+    pub(crate) ledgers: Listed<Label>,
+    pub(crate) guarantors: Listed<Label>,
+    pub(crate) joint: Label,
+    pub(crate) channel: Label,
+    pub(crate) asset: u64,
+    pub(crate) amounts: Listed<u64>,
+}
+
+/// A step of which nothing but the shape is known.
+#[derive(Drop)]
+pub(crate) enum Written {
+    /// A step that has its values as they are written.
+    Plain(Step),
+    Sign(SignKeys),
+    Open(OpenKeys),
+    OpenOn(OpenOnKeys),
+    OpenVirtual(OpenVirtualKeys),
 }
 
 #[tactic(auto, using(crate::proofs::Counts::item_count_view))]
@@ -72,10 +126,9 @@ fn holdings_in(alloc: Global, values: &[Value]) -> Result<Listed<Holding>, StepF
 fn items_of(alloc: Global, value: &Value) -> Result<WrittenShape, StepFault>
     ensures { Gives (λ s. s) result (items_of (view value.now)) }
 {
-    match value.get("items").and_then(Value::as_array) {
-        Some(values) => Ok(WrittenShape::Items(holdings_in(alloc, values)?)),
-        None => Err(StepFault::Broken(Rule::Shape)),
-    }
+    let values = array_at(value, "items")?;
+    let holdings = holdings_in(alloc, values)?;
+    Ok(WrittenShape::Items(holdings))
 }
 
 fn list_of(alloc: Global, value: &Value) -> Result<WrittenShape, StepFault>
@@ -126,8 +179,6 @@ pub(crate) fn outcome_at(
 ) -> Result<Listed<WrittenAsset>, StepFault>
     ensures { Gives (λ l. l) result (outcome_at key.now (view value.now)) }
 {
-    match value.get(key).and_then(Value::as_array) {
-        Some(values) => assets_in(alloc, values),
-        None => Err(StepFault::Broken(Rule::Shape)),
-    }
+    let values = array_at(value, key)?;
+    assets_in(alloc, values)
 }

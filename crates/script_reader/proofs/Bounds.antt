@@ -1,0 +1,187 @@
+-- What the limits give of all steps that were read.
+use Rattle.std.proofs.Common.{◌≡◌, ◌≤◌, ◌<◌, ◌+◌, ◌^◌, ℕ, List, [], ◌∷◌, length, refl, sym, ◌∙◌, ap, true, false, arith, length-append}
+use Rattle.std.specs.Prelude.{Bool, ◌&&◌, ◌||◌, ◌==◌, not, nat_lt, nat_le, All, IsTrue, if◌then◌else◌}
+use Rattle.std.proofs.lemmas.Bool.{ltb-true, leb-true, eqb-true}
+use Rattle.std.proofs.lemmas.List.Elements.{All-nil, All-cons}
+use Rattle.std.proofs.lemmas.List.Sums.{sum_by-cons}
+use Rattle.script_reader.specs.Bounds.{Fits, persons, persons_of, rounds, rounds_of}
+use Rattle.script_reader.specs.Conditions.{after, fits, fits_nodes, is_able, within}
+use Rattle.script_reader.specs.Context.{has_index}
+use Rattle.script_reader.specs.Digests.{key_of, person_name}
+use Rattle.script_reader.specs.Reading.{Keeps}
+use Rattle.script_reader.specs.Script.{start, AreChecked}
+use Rattle.script_reader.specs.declared.context.Context.{Context}
+use Rattle.script_reader.specs.declared.step.Step.{Step}
+use Rattle.script_reader.specs.declared.step.Step.TheVariants as steps
+
+both : (a b : Bool) → a && b ≡ true → (a ≡ true) × (b ≡ true)
+both true b e = (refl, e)
+both false b e = absurd (cc)
+
+few_watchers : (node : Bool) (watchers : ℕ) → (if node then within watchers 1 4 else watchers == 0) ≡ true → watchers ≤ 4
+few_watchers true watchers e = leb-true watchers 4 ((both (nat_le 1 watchers) (nat_le watchers 4) e).1)
+few_watchers false watchers e = let none = eqb-true watchers 0 e in omega (arith, none)
+
+able_fits : (h : ℕ) (node : Bool) (watchers : ℕ) → is_able h node watchers ≡ true → IsTrue (h == 5 || h == 10) × (watchers ≤ 4)
+able_fits h node watchers e =
+    let p = both (h == 5 || h == 10) (if node then within watchers 1 4 else watchers == 0) e in
+    (p.0, few_watchers node watchers p.1)
+
+pair_fits : (a b : ℕ) → nat_lt a (2 ^ 32) && nat_lt b (2 ^ 8) ≡ true → (a < 2 ^ 32) × (b < 2 ^ 8)
+pair_fits a b e = let p = both (nat_lt a (2 ^ 32)) (nat_lt b (2 ^ 8)) e in (ltb-true a (2 ^ 32) p.0, ltb-true b (2 ^ 8) p.1)
+
+step_fits : (c : Context) (s : Step) → fits c s ≡ true → Fits s
+step_fits c (steps.Deposit channel asset expected amount) e = ltb-true asset (2 ^ 32) e
+step_fits c (steps.Time to) e = tt
+step_fits c (steps.Person name seed h node watchers) e = able_fits h node watchers ((both (is_able h node watchers) (nat_lt (length c.people) 16) e).0)
+step_fits c (steps.Channel name people nonce app duration) e =
+    let p = both (within (length people) 2 4 && (not (app == 1) || length people == 2) && within duration 1 4294967295) (nat_lt (length c.channels) 64) e in
+    let q = both (within (length people) 2 4 && (not (app == 1) || length people == 2)) (within duration 1 4294967295) p.0 in
+    let d = leb-true duration 4294967295 ((both (nat_le 1 duration) (nat_le duration 4294967295) q.1).1) in
+    omega (arith, d)
+step_fits c (steps.Sign name channel by turn is_final outcome votes proposal) e =
+    let p = both (nat_lt turn (2 ^ 48) && nat_le votes 3 && (not (votes == 0) || length proposal == 0)) (has_index c by) e in
+    let q = both (nat_lt turn (2 ^ 48) && nat_le votes 3) (not (votes == 0) || length proposal == 0) p.0 in
+    leb-true votes 3 ((both (nat_lt turn (2 ^ 48)) (nat_le votes 3) q.0).1)
+step_fits c (steps.Catch name from channel turn) e = tt
+step_fits c (steps.Send to state) e = tt
+step_fits c (steps.Drop to) e = tt
+step_fits c (steps.Challenge channel chain by) e = leb-true (length chain) 4 ((both (nat_le (length chain) 4) (has_index c by) e).0)
+step_fits c (steps.Respond channel from state) e = tt
+step_fits c (steps.Refute channel state) e = tt
+step_fits c (steps.Checkpoint channel chain) e = leb-true (length chain) 4 e
+step_fits c (steps.Conclude channel chain) e = leb-true (length chain) 4 e
+step_fits c (steps.Transfer channel state asset index) e = pair_fits asset index e
+step_fits c (steps.Claim guarantor state target target_state asset position) e = pair_fits asset position e
+step_fits c (steps.Open who channel outcome) e = tt
+step_fits c (steps.OpenOn who ledger channel asset amounts) e = ltb-true asset (2 ^ 32) e
+step_fits c (steps.OpenVirtual who ledgers guarantors joint channel asset amounts) e =
+    ltb-true asset (2 ^ 32) ((both (length ledgers == 2 && length guarantors == 2) (nat_lt asset (2 ^ 32)) e).1)
+step_fits c (steps.Pay who channel asset amount) e = ltb-true asset (2 ^ 32) e
+step_fits c (steps.Close who channel) e = tt
+step_fits c (steps.Exit who) e = tt
+step_fits c (steps.Rounds count) e = tt
+
+pub all_fit : (c : Context) (ss : List Step) → AreChecked c ss → All Fits ss
+all_fit c [] h = All-nil Fits
+all_fit c (s ∷ ss) h = All-cons Fits s ss (step_fits c s (h.0).fit) (all_fit (after c s) ss h.1)
+
+-- ---- people
+
+more_people : (c : Context) (s : Step) → length (after c s).people ≡ length c.people + persons s
+more_people c (steps.Deposit channel asset expected amount) = omega arith
+more_people c (steps.Time to) = omega arith
+more_people c (steps.Person name seed h node watchers) = length-append c.people (record { name = name; seed = seed; h = h; node = node; key = key_of seed h; digest = person_name seed h } ∷ [])
+more_people c (steps.Channel name people nonce app duration) = omega arith
+more_people c (steps.Sign name channel by turn is_final outcome votes proposal) = omega arith
+more_people c (steps.Catch name from channel turn) = omega arith
+more_people c (steps.Send to state) = omega arith
+more_people c (steps.Drop to) = omega arith
+more_people c (steps.Challenge channel chain by) = omega arith
+more_people c (steps.Respond channel from state) = omega arith
+more_people c (steps.Refute channel state) = omega arith
+more_people c (steps.Checkpoint channel chain) = omega arith
+more_people c (steps.Conclude channel chain) = omega arith
+more_people c (steps.Transfer channel state asset index) = omega arith
+more_people c (steps.Claim guarantor state target target_state asset position) = omega arith
+more_people c (steps.Open who channel outcome) = omega arith
+more_people c (steps.OpenOn who ledger channel asset amounts) = omega arith
+more_people c (steps.OpenVirtual who ledgers guarantors joint channel asset amounts) = omega arith
+more_people c (steps.Pay who channel asset amount) = omega arith
+more_people c (steps.Close who channel) = omega arith
+more_people c (steps.Exit who) = omega arith
+more_people c (steps.Rounds count) = omega arith
+
+room_for_people : (c : Context) (s : Step) → fits c s ≡ true → length c.people ≤ 16 → length (after c s).people ≤ 16
+room_for_people c (steps.Deposit channel asset expected amount) e l = l
+room_for_people c (steps.Time to) e l = l
+room_for_people c (steps.Person name seed h node watchers) e l =
+    let few = ltb-true (length c.people) 16 ((both (is_able h node watchers) (nat_lt (length c.people) 16) e).1) in
+    omega (arith, few, more_people c (steps.Person name seed h node watchers))
+room_for_people c (steps.Channel name people nonce app duration) e l = l
+room_for_people c (steps.Sign name channel by turn is_final outcome votes proposal) e l = l
+room_for_people c (steps.Catch name from channel turn) e l = l
+room_for_people c (steps.Send to state) e l = l
+room_for_people c (steps.Drop to) e l = l
+room_for_people c (steps.Challenge channel chain by) e l = l
+room_for_people c (steps.Respond channel from state) e l = l
+room_for_people c (steps.Refute channel state) e l = l
+room_for_people c (steps.Checkpoint channel chain) e l = l
+room_for_people c (steps.Conclude channel chain) e l = l
+room_for_people c (steps.Transfer channel state asset index) e l = l
+room_for_people c (steps.Claim guarantor state target target_state asset position) e l = l
+room_for_people c (steps.Open who channel outcome) e l = l
+room_for_people c (steps.OpenOn who ledger channel asset amounts) e l = l
+room_for_people c (steps.OpenVirtual who ledgers guarantors joint channel asset amounts) e l = l
+room_for_people c (steps.Pay who channel asset amount) e l = l
+room_for_people c (steps.Close who channel) e l = l
+room_for_people c (steps.Exit who) e l = l
+room_for_people c (steps.Rounds count) e l = l
+
+people_behind : (c : Context) (ss : List Step) → AreChecked c ss → length c.people ≤ 16 → length c.people + persons_of ss ≤ 16
+people_behind c [] h l = omega (arith, l)
+people_behind c (s ∷ ss) h l =
+    let rest = people_behind (after c s) ss h.1 (room_for_people c s (h.0).fit l) in
+    omega (arith, rest, more_people c s, sum_by-cons persons s ss)
+
+pub few_people : (race : Bool) (ss : List Step) → AreChecked (start race) ss → persons_of ss ≤ 16
+few_people race ss h = let t = people_behind (start race) ss h (omega arith) in omega (arith, t)
+
+-- ---- rounds
+
+more_rounds : (c : Context) (s : Step) → (after c s).rounds ≡ c.rounds + rounds s
+more_rounds c (steps.Deposit channel asset expected amount) = omega arith
+more_rounds c (steps.Time to) = omega arith
+more_rounds c (steps.Person name seed h node watchers) = omega arith
+more_rounds c (steps.Channel name people nonce app duration) = omega arith
+more_rounds c (steps.Sign name channel by turn is_final outcome votes proposal) = omega arith
+more_rounds c (steps.Catch name from channel turn) = omega arith
+more_rounds c (steps.Send to state) = omega arith
+more_rounds c (steps.Drop to) = omega arith
+more_rounds c (steps.Challenge channel chain by) = omega arith
+more_rounds c (steps.Respond channel from state) = omega arith
+more_rounds c (steps.Refute channel state) = omega arith
+more_rounds c (steps.Checkpoint channel chain) = omega arith
+more_rounds c (steps.Conclude channel chain) = omega arith
+more_rounds c (steps.Transfer channel state asset index) = omega arith
+more_rounds c (steps.Claim guarantor state target target_state asset position) = omega arith
+more_rounds c (steps.Open who channel outcome) = omega arith
+more_rounds c (steps.OpenOn who ledger channel asset amounts) = omega arith
+more_rounds c (steps.OpenVirtual who ledgers guarantors joint channel asset amounts) = omega arith
+more_rounds c (steps.Pay who channel asset amount) = omega arith
+more_rounds c (steps.Close who channel) = omega arith
+more_rounds c (steps.Exit who) = omega arith
+more_rounds c (steps.Rounds count) = refl
+
+room_for_rounds : (c : Context) (s : Step) → fits c s ≡ true → c.rounds ≤ 4096 → (after c s).rounds ≤ 4096
+room_for_rounds c (steps.Deposit channel asset expected amount) e l = l
+room_for_rounds c (steps.Time to) e l = l
+room_for_rounds c (steps.Person name seed h node watchers) e l = l
+room_for_rounds c (steps.Channel name people nonce app duration) e l = l
+room_for_rounds c (steps.Sign name channel by turn is_final outcome votes proposal) e l = l
+room_for_rounds c (steps.Catch name from channel turn) e l = l
+room_for_rounds c (steps.Send to state) e l = l
+room_for_rounds c (steps.Drop to) e l = l
+room_for_rounds c (steps.Challenge channel chain by) e l = l
+room_for_rounds c (steps.Respond channel from state) e l = l
+room_for_rounds c (steps.Refute channel state) e l = l
+room_for_rounds c (steps.Checkpoint channel chain) e l = l
+room_for_rounds c (steps.Conclude channel chain) e l = l
+room_for_rounds c (steps.Transfer channel state asset index) e l = l
+room_for_rounds c (steps.Claim guarantor state target target_state asset position) e l = l
+room_for_rounds c (steps.Open who channel outcome) e l = l
+room_for_rounds c (steps.OpenOn who ledger channel asset amounts) e l = l
+room_for_rounds c (steps.OpenVirtual who ledgers guarantors joint channel asset amounts) e l = l
+room_for_rounds c (steps.Pay who channel asset amount) e l = l
+room_for_rounds c (steps.Close who channel) e l = l
+room_for_rounds c (steps.Exit who) e l = l
+room_for_rounds c (steps.Rounds count) e l = leb-true (c.rounds + count) 4096 ((both (within count 1 64) (nat_le (c.rounds + count) 4096) e).1)
+
+rounds_behind : (c : Context) (ss : List Step) → AreChecked c ss → c.rounds ≤ 4096 → c.rounds + rounds_of ss ≤ 4096
+rounds_behind c [] h l = omega (arith, l)
+rounds_behind c (s ∷ ss) h l =
+    let rest = rounds_behind (after c s) ss h.1 (room_for_rounds c s (h.0).fit l) in
+    omega (arith, rest, more_rounds c s, sum_by-cons rounds s ss)
+
+pub few_rounds : (race : Bool) (ss : List Step) → AreChecked (start race) ss → rounds_of ss ≤ 4096
+few_rounds race ss h = let t = rounds_behind (start race) ss h (omega arith) in omega (arith, t)
