@@ -1,3 +1,7 @@
+pub mod Alike
+pub mod Backed
 pub mod Completes
-pub mod Plays
+pub mod InTime
+pub mod Numbers
+pub mod Printed
 pub mod Texts

@@ -1,5 +1,5 @@
--- What a docket keeps of its adjudicator and its history.
-use Rattle.std.specs.Prelude.{List}
+-- What a run keeps of its adjudicator and its history.
+use Rattle.std.specs.Prelude.{◌<◌, ◌^◌, List, length}
 use Rattle.channel_calls.specs.History.{Legal}
 use Rattle.channel_calls.specs.declared.entry.Entry.{Entry}
 use Rattle.support_chain.specs.Real.{real}
@@ -9,3 +9,4 @@ use Rattle.adjudicator_core.specs.Standing.{Standing, StandsFor}
 pub record IsKept (history : List Entry) (adjudicator : Standing) : Type 0 where
   pub stands : StandsFor real history adjudicator
   pub legal : Legal real history
+  pub few : length history < 2 ^ 32

@@ -1,7 +1,6 @@
-pub mod Chains
-pub mod Hands
 pub mod Kept
+pub mod Nobody
 pub mod Outside
-pub mod Play
+pub mod Printed
 pub mod Run
 pub mod Text

@@ -1,6 +1,7 @@
 -- What a run of the program comes to.
-use Rattle.std.specs.Prelude.{◌≡◌, ◌≤◌, ◌<◌, ℕ, List, [], ◌∷◌, length, false, Option, Some, None, codes}
+use Rattle.std.specs.Prelude.{◌≡◌, ◌≤◌, ◌<◌, ℕ, List, [], ◌∷◌, length, Bool, false, Option, Some, None, codes, if◌then◌else◌}
 use Rattle.std.specs.Fmt.{decimal}
+use Rattle.std.specs.Str.{bytes_eq}
 use Rattle.std.specs.Io.KnownBytes.{Consumes, IsAtEnd}
 use Rattle.channel_calls.specs.History.{newest_first}
 use Rattle.script_reader.specs.Outside.{Rose}
@@ -8,11 +9,14 @@ use Rattle.script_reader.specs.Script.{IsScript, Breaks}
 use Rattle.script_reader.specs.declared.step.Rule.{Rule}
 use Rattle.script_reader.specs.declared.step.Rule.TheVariants as rules
 use Rattle.script_reader.specs.declared.step.Step.{Step}
-use Rattle.script_run.specs.Play.{play}
+use Rattle.script_play.specs.Play.{play}
+use Rattle.script_run.specs.Nobody.{no_ways}
 use Rattle.script_run.specs.Text.{text_of, ◌&◌, ended}
 use Rattle.script_run.specs.declared.run.Status.{Status}
 use Rattle.script_run.specs.declared.run.Status.TheVariants.{Done, NoMemory, Usage, Script, ReadFault, WriteFault, TooLong}
-use Rattle.script_run.specs.declared.run.Report.{Report}
+use Rattle.script_run.specs.declared.asking.Asked.{Asked}
+use Rattle.script_run.specs.declared.asking.Asked.TheVariants.{Run}
+use Rattle.script_run.specs.declared.report.Report.{Report}
 
 -- the words and the source that a run was handed: what was left of it and its count of faults, before and after
 pub record Given : Type 0 where
@@ -36,9 +40,18 @@ code_of ReadFault = 4
 code_of WriteFault = 5
 code_of TooLong = 6
 
--- the words are `run` alone
-abbrev pub IsRun : List (List ℕ) → Type 0
-IsRun words = words ≡ codes "run" ∷ []
+-- what the words ask for, if anything
+abbrev pub asked : List (List ℕ) → Option Asked
+asked (word ∷ []) = if bytes_eq word (codes "run") then Some Run else None
+asked _ = None
+
+-- the words ask for something
+abbrev pub Asks : Given → (Asked → Type 0) → Type 0
+Asks g P = (a : Asked) × (asked g.words ≡ Some a) × P a
+
+-- whether the script is one for a race
+abbrev pub is_race : Asked → Bool
+is_race Run = false
 
 -- some bytes were taken
 abbrev pub Takes : Given → (List ℕ → Type 0) → Type 0
@@ -48,17 +61,21 @@ Takes g P = (bytes : List ℕ) × Consumes g.before g.after bytes × P bytes
 abbrev pub Reads : Given → (List ℕ → Type 0) → Type 0
 Reads g P = (bytes : List ℕ) × Consumes g.before g.after bytes × IsAtEnd g.after × (length bytes ≤ 4194304) × P bytes
 
--- the bytes are a script, of whose play the report tells the history in the order of time, and the declared names
-abbrev pub IsPlayed : Report → List ℕ → Type 0
-IsPlayed report bytes = (steps : List Step) × IsScript false bytes steps × (newest_first report.history ≡ (play steps).docket) × (report.labels ≡ (play steps).labels)
+-- the report tells the history of the play of these steps, in the order of time, and the declared names
+abbrev pub IsPlayed : Report → List Step → Type 0
+IsPlayed report steps = (newest_first report.history ≡ (play no_ways steps).world.history) × (report.labels ≡ (play no_ways steps).names.labels)
+
+-- what was asked for comes to this report
+abbrev pub Comes : Asked → Given → Report → Type 0
+Comes Run g report = Reads g (λ bytes. (steps : List Step) × IsScript false bytes steps × IsPlayed report steps)
 
 -- Why a run comes to each end, before its text is put.
 abbrev pub EndsAs : Given → Status → Option Report → Type 0
-EndsAs g Done (Some report) = IsRun g.words × Reads g (IsPlayed report)
-EndsAs g Usage None = ¬ (IsRun g.words)
-EndsAs g (Script step rule) None = IsRun g.words × Reads g (Breaks false step rule)
-EndsAs g ReadFault None = IsRun g.words × Takes g (λ bytes. length bytes ≤ 4194304) × Rose g.faults_before g.faults_after
-EndsAs g TooLong None = IsRun g.words × Takes g (λ bytes. 4194304 < length bytes)
+EndsAs g Done (Some report) = Asks g (λ a. Comes a g report)
+EndsAs g Usage None = asked g.words ≡ None
+EndsAs g (Script step rule) None = Asks g (λ a. Reads g (Breaks (is_race a) step rule))
+EndsAs g ReadFault None = Asks g (λ a. Takes g (λ bytes. length bytes ≤ 4194304) × Rose g.faults_before g.faults_after)
+EndsAs g TooLong None = Asks g (λ a. Takes g (λ bytes. 4194304 < length bytes))
 -- no other end, and no other report
 EndsAs g Done None = ⊥
 EndsAs g NoMemory report = ⊥
@@ -94,10 +111,20 @@ owed TooLong report = ended (codes "too long")
 
 -- the words are `run`, and the source tells a script that is short enough, and doesn't fail
 pub record IsSound (g : Given) : Type 0 where
-  pub words : IsRun g.words
+  pub words : asked g.words ≡ Some Run
   pub bytes : List ℕ
   pub told : g.before ≡ Some bytes
   pub short : length bytes ≤ 4194304
   pub steps : List Step
   pub script : IsScript false bytes steps
   pub faultless : ¬ (Rose g.faults_before g.faults_after)
+
+-- these words, and a source that tells these bytes, and doesn't fail
+pub record IsCalm (words : List (List ℕ)) (bytes : List ℕ) (g : Given) : Type 0 where
+  pub words_are : g.words ≡ words
+  pub told : g.before ≡ Some bytes
+  pub faultless : ¬ (Rose g.faults_before g.faults_after)
+
+-- calm runs over the same words and bytes come to the same end, with the same report
+abbrev pub EndsAlike : Given → Given → Type 0
+EndsAlike g h = (s t : Status) (p q : Option Report) → EndsAs g s p → EndsAs h t q → (s ≡ t) × (p ≡ q)

@@ -1,29 +1,30 @@
 //! From the bytes of a script to the printed history.
 #![tactic(auto)]
 
-mod chains;
-mod docket;
+mod asking;
 mod entry_text;
 mod flows;
-mod hands;
+mod laws;
 mod memory;
 mod names;
-mod replay;
+mod nobody;
+mod records;
+mod report;
 mod run;
 mod sink;
-mod stage;
 mod standard;
 #[cfg(test)]
 mod tests;
 mod text;
 
-pub use chains::NamedState;
-pub use docket::Docket;
-pub use hands::{Hand, Hands};
+pub use asking::Asked;
+pub use laws::{
+    calm_runs_end_alike, printed_assets_are_those_deposited, printed_balances_come_once,
+};
 pub use memory::{CalmSink, ListSink};
-pub use replay::play;
-pub use run::{Ended, Report, Status, run_words};
+pub use nobody::NoNode;
+pub use records::Records;
+pub use report::{Report, text_of};
+pub use run::{Ended, Status, asked, run_words};
 pub use sink::{Gave, Sink, SinkFailed, put_all};
-pub use stage::{NamedChannel, Stage};
 pub use standard::StdSink;
-pub use text::text_of;

@@ -1,20 +1,24 @@
 //! The top call: from words and a source to a status and the text that was put.
 
-ghost use Rattle.std.specs.Prelude.{◌≡◌, ◌≢◌, ◌≤◌, ◌↔◌, ◌⊎◌, ℕ, List, false, length, IsTrue, IfOk, IfSome, IsNone, string_bytes};
+ghost use Rattle.std.specs.Prelude.{◌≡◌, ◌≢◌, ◌≤◌, ◌⊎◌, ℕ, List, Some, None, length, IfOk, IfSome, IsNone, string_bytes};
 ghost use Rattle.std.specs.Io.KnownBytes.{Keeps, Consumes, Appends, IsAtEnd};
-ghost use Rattle.channel_calls.specs.History.{Legal, newest_first, IsConserved};
+ghost use Rattle.channel_calls.specs.Flows.{AreConserved};
+ghost use Rattle.channel_calls.specs.History.{Legal, newest_first, flows_of};
 ghost use Rattle.support_chain.specs.Real.{real};
 ghost use Rattle.script_reader.specs.Outside.{Rose};
 ghost use Rattle.script_run.specs.Outside.{AppendsPart};
+ghost use Rattle.script_run.specs.declared.asking.Asked.{Asked};
 ghost use Rattle.script_run.specs.declared.run.Status.{Status};
-ghost use Rattle.script_run.specs.Run.{Given, IsRun, IsSound, given, code_of, EndsAs, rule_text, owed};
+ghost use Rattle.script_run.specs.Run.{Given, IsSound, given, code_of, asked, EndsAs, rule_text, owed};
 
-use crate::replay::play;
+use crate::asking::Asked;
+use crate::nobody::NoNode;
+use crate::records::Records;
+use crate::report::{Report, text_of};
 use crate::sink::{Sink, put_all};
-use crate::text::text_of;
-use channel_calls::Entry;
-use nitro_bytes::{Dest, Label, Listed, NoMemory};
-use script_reader::{ReadEnd, Rule, ScriptFault, Source, read_all, read_script};
+use nitro_bytes::{Label, Listed, NoMemory};
+use script_play::{Scene, play};
+use script_reader::{ReadEnd, Rule, ScriptFault, Source, read_all, read_script_with_signers};
 use std::alloc::{AllocError, Global};
 
 /// How a run ended. A script that is refused has the step, counted from 1, and the rule that it breaks
@@ -47,14 +51,6 @@ impl Status {
     }
 }
 
-/// What a run made: its history, in the order of time, and the names of the declared people and channels, in the order
-/// of declaration.
-#[derive(Drop)]
-pub struct Report {
-    pub history: Listed<Entry>,
-    pub labels: Listed<(Dest, Label)>,
-}
-
 /// What a run answers. The report is there where the script was played.
 #[derive(Drop)]
 pub struct Ended {
@@ -62,12 +58,13 @@ pub struct Ended {
     pub report: Option<Report>,
 }
 
-fn is_run(words: &[Label]) -> bool
-    ensures { IsTrue result ↔ IsRun words.now }
+/// What the words ask for, if anything.
+pub fn asked(words: &[Label]) -> Option<Asked>
+    ensures { result ≡ asked words.now }
 {
     match words {
-        [word] => word.as_str() == "run",
-        _ => false,
+        [word] if word.as_str() == "run" => Some(Asked::Run),
+        _ => None,
     }
 }
 
@@ -82,19 +79,21 @@ fn without_report(status: Status) -> Ended
 
 /// What a script comes to that was read whole.
 fn run_script(alloc: Global, bytes: &[u8]) -> Result<Ended, NoMemory>
-    ensures ends { (given : Given) → IsRun given.words → Consumes given.before given.after bytes.now
+    ensures ends { (given : Given) → asked given.words ≡ Some Asked.Run → Consumes given.before given.after bytes.now
         → IsAtEnd given.after → length bytes.now ≤ 4194304
         → IfOk result (λ ended. EndsAs given ended.status ended.report) }
     ensures legal { IfOk result (λ ended. IfSome ended.report (λ report. Legal real (newest_first report.history))) }
 {
-    match read_script(alloc, bytes, false) {
+    match read_script_with_signers(alloc, bytes, false) {
         Err(ScriptFault::NoMemory) => Err(NoMemory),
         Err(ScriptFault::Broken { step, rule }) => Ok(without_report(Status::Script(step, rule))),
-        Ok(script) => {
-            let stage = play(alloc, script.steps.as_slice())?;
+        Ok((script, signers)) => {
+            let steps = script.steps.as_slice();
+            let scene: Scene<NoNode, Records> = play(alloc, steps, signers)?;
+            let (names, history) = scene.into_parts();
             let report = Report {
-                history: Listed::make(stage.docket.into_history()),
-                labels: stage.labels,
+                history: Listed::make(history),
+                labels: names.labels,
             };
             Ok(Ended {
                 status: Status::Done,
@@ -109,9 +108,9 @@ fn work<S: Source>(alloc: Global, words: &[Label], source: &mut S) -> Result<End
     ensures ends { IfOk result (λ ended. EndsAs (given S.left S.faults words.now source.old source.new) ended.status ended.report) }
     ensures legal { IfOk result (λ ended. IfSome ended.report (λ report. Legal real (newest_first report.history))) }
 {
-    if !is_run(words) {
+    let Some(Asked::Run) = asked(words) else {
         return Ok(without_report(Status::Usage));
-    }
+    };
     match read_all(alloc, source) {
         Ok(bytes) => run_script(alloc, &bytes),
         Err(ReadEnd::NoMemory) => Err(NoMemory),
@@ -133,16 +132,11 @@ fn rule_text(rule: Rule) -> &'static str
     }
 }
 
-/// The text that an end owes.
-fn owed(alloc: Global, ended: &Ended) -> Result<String, AllocError>
-    requires { IfSome ended.now.report (λ report. Legal real (newest_first report.history)) }
-    ensures { IfOk result (λ text. string_bytes text ≡ owed ended.now.status ended.now.report) }
+/// A line that is no history.
+fn line_of(alloc: Global, status: Status) -> Result<String, AllocError>
+    ensures { IfOk result (λ text. string_bytes text ≡ owed status None) }
 {
-    match ended.status {
-        Status::Done => match &ended.report {
-            Some(report) => text_of(alloc, report.history.as_slice(), report.labels.as_slice()),
-            None => Ok(String::new(alloc)),
-        },
+    match status {
         Status::Usage => String::from_str(alloc, "usage\n"),
         Status::Script(step, rule) => {
             let rule = rule_text(rule);
@@ -150,12 +144,26 @@ fn owed(alloc: Global, ended: &Ended) -> Result<String, AllocError>
         }
         Status::ReadFault => String::from_str(alloc, "read fault\n"),
         Status::TooLong => String::from_str(alloc, "too long\n"),
-        Status::NoMemory | Status::WriteFault => Ok(String::new(alloc)),
+        Status::Done | Status::NoMemory | Status::WriteFault => Ok(String::new(alloc)),
+    }
+}
+
+/// The bytes that an end owes.
+fn owed(alloc: Global, ended: &Ended) -> Result<Vec<u8>, NoMemory>
+    requires { IfSome ended.now.report (λ report. Legal real (newest_first report.history)) }
+    ensures { IfOk result (λ text. text.items ≡ owed ended.now.status ended.now.report) }
+{
+    match (ended.status, &ended.report) {
+        (Status::Done, Some(report)) => text_of(report),
+        (status, _) => {
+            let line = line_of(alloc, status)?;
+            Ok(line.into_bytes())
+        }
     }
 }
 
 /// Does all that the program does: reads the script, replays it and puts the text of the history.
-#[tactic(auto, using(channel_calls::proofs::Conservation::conserved, crate::proofs::Completes::completes))]
+#[tactic(auto, using(crate::proofs::Numbers::conserved_in_time, crate::proofs::Completes::completes))]
 pub fn run_words<S: Source, K: Sink>(
     alloc: Global,
     words: &[Label],
@@ -179,8 +187,8 @@ pub fn run_words<S: Source, K: Sink>(
     // Each reply of the history is the sequential adjudicator's at its place.
     ensures legal { IfSome result.report (λ report. Legal real (newest_first report.history)) }
 
-    // Of each asset, what was deposited is what the channels hold.
-    ensures conserved { IfSome result.report (λ report. IsConserved (newest_first report.history)) }
+    // Of each asset, the printed numbers agree: what was deposited is what the channels hold and what the persons were paid.
+    ensures conserved { IfSome result.report (λ report. AreConserved (flows_of report.history)) }
 
     // A sound script runs to its end, unless memory runs out.
     ensures complete { IsSound (given S.left S.faults words.now source.old source.new)
@@ -193,7 +201,7 @@ pub fn run_words<S: Source, K: Sink>(
     let Ok(text) = owed(alloc, &ended) else {
         return without_report(Status::NoMemory);
     };
-    match put_all(sink, text.as_bytes()) {
+    match put_all(sink, &text) {
         Ok(()) => ended,
         Err(_) => Ended {
             status: Status::WriteFault,

@@ -1,8 +1,6 @@
-//! Whole runs: what is printed, and what comes of faults.
+//! What comes of words, sources and sinks. Whole scripts with their texts are files, in `examples`.
 
-mod disputes;
 mod names;
-mod payouts;
 
 use crate::{ListSink, Status, run_words};
 use nitro_bytes::Label;
@@ -30,70 +28,22 @@ fn ends(
     Ok(())
 }
 
-/// Scripts that are played, each with what is printed.
-const PLAYED: [(&str, &str); 5] = [
-    (r#"{"steps":[]}"#, "end entries 0 now 0\n"),
-    (
-        r#"{"steps":[{"do":"deposit","channel":"1111111111111111111111111111111111111111111111111111111111111111","asset":0,"expected":0,"amount":5}]}"#,
-        "1 0 deposit 1111111111111111111111111111111111111111111111111111111111111111 0 0 5 ok held 5\nend entries 1 now 0\nasset 0 deposited 5 held 5 paid 0\nheld 1111111111111111111111111111111111111111111111111111111111111111 0 5\n",
-    ),
-    (
-        r#"{"steps":[{"do":"deposit","channel":"1111111111111111111111111111111111111111111111111111111111111111","asset":0,"expected":0,"amount":4},{"do":"deposit","channel":"1111111111111111111111111111111111111111111111111111111111111111","asset":0,"expected":5,"amount":1},{"do":"deposit","channel":"1111111111111111111111111111111111111111111111111111111111111111","asset":0,"expected":0,"amount":0}]}"#,
-        "1 0 deposit 1111111111111111111111111111111111111111111111111111111111111111 0 0 4 ok held 4\n2 0 deposit 1111111111111111111111111111111111111111111111111111111111111111 0 5 1 no 14 Underheld 4\n3 0 deposit 1111111111111111111111111111111111111111111111111111111111111111 0 0 0 no 13 Zero\nend entries 3 now 0\nasset 0 deposited 4 held 4 paid 0\nheld 1111111111111111111111111111111111111111111111111111111111111111 0 4\n",
-    ),
-    (
-        r#"{"steps":[{"do":"deposit","channel":"1111111111111111111111111111111111111111111111111111111111111111","asset":0,"expected":0,"amount":18446744073709551615},{"do":"deposit","channel":"1111111111111111111111111111111111111111111111111111111111111111","asset":0,"expected":0,"amount":1},{"do":"deposit","channel":"1111111111111111111111111111111111111111111111111111111111111111","asset":1,"expected":0,"amount":1}]}"#,
-        "1 0 deposit 1111111111111111111111111111111111111111111111111111111111111111 0 0 18446744073709551615 ok held 18446744073709551615\n2 0 deposit 1111111111111111111111111111111111111111111111111111111111111111 0 0 1 no 15 AssetFull 18446744073709551615\n3 0 deposit 1111111111111111111111111111111111111111111111111111111111111111 1 0 1 ok held 1\nend entries 3 now 0\nasset 0 deposited 18446744073709551615 held 18446744073709551615 paid 0\nasset 1 deposited 1 held 1 paid 0\nheld 1111111111111111111111111111111111111111111111111111111111111111 0 18446744073709551615\nheld 1111111111111111111111111111111111111111111111111111111111111111 1 1\n",
-    ),
-    (
-        r#"{"steps":[{"do":"time","to":7},{"do":"time","to":6},{"do":"time","to":7},{"do":"time","to":4611686018427387904},{"do":"time","to":4611686018427387905}]}"#,
-        "1 0 time 7 ok now 7\n2 0 time 6 no 24 Backwards 7\n3 0 time 7 ok now 7\n4 0 time 4611686018427387904 ok now 4611686018427387904\n5 0 time 4611686018427387905 no 25 TooLate\nend entries 5 now 4611686018427387904\n",
-    ),
-];
-
 #[test]
-fn scripts_are_played_and_printed(rt: HostRuntime) -> Result<(), Fail> {
-    for (script, text) in PLAYED {
-        ends(&rt, "run", script, Status::Done, text)?;
-    }
-    Ok(())
+fn a_script_is_played_and_printed(rt: HostRuntime) -> Result<(), Fail> {
+    let script = r#"{"steps":[{"do":"time","to":7},{"do":"time","to":6}]}"#;
+    let text = "1 0 time 7 ok now 7\n2 0 time 6 no 24 Backwards 7\nend entries 2 now 7\n";
+    ends(&rt, "run", script, Status::Done, text)
 }
 
-/// Scripts that are refused, each with the step, the rule and what is printed.
-const REFUSED: [(&str, u32, Rule, &str); 6] = [
-    (r#"{"steps":[]}x"#, 0, Rule::NotJson, "script 0 1 NotJson\n"),
-    (r#"{"steps":{}}"#, 0, Rule::Shape, "script 0 2 Shape\n"),
-    (
-        r#"{"steps":[{"do":"time"}]}"#,
-        1,
-        Rule::Shape,
-        "script 1 2 Shape\n",
-    ),
-    (
-        r#"{"steps":[{"do":"deposit","channel":"Q","asset":0,"expected":0,"amount":1}]}"#,
-        1,
-        Rule::Name,
-        "script 1 3 Name\n",
-    ),
-    (
-        r#"{"steps":[{"do":"time","to":1},{"do":"deposit","channel":"1111111111111111111111111111111111111111111111111111111111111111","asset":4294967296,"expected":0,"amount":1}]}"#,
-        2,
-        Rule::Limit,
-        "script 2 4 Limit\n",
-    ),
-    (
-        r#"{"steps":[{"do":"rounds","count":1}]}"#,
-        1,
-        Rule::NotBuilt,
-        "script 1 5 NotBuilt\n",
-    ),
-];
+#[test]
+fn a_refused_script_has_one_line(rt: HostRuntime) -> Result<(), Fail> {
+    let script = r#"{"steps":[{"do":"time"}]}"#;
+    let status = Status::Script(1, Rule::Shape);
+    ends(&rt, "run", script, status, "script 1 2 Shape\n")
+}
 
 #[test]
-fn refused_scripts_have_one_line(rt: HostRuntime) -> Result<(), Fail> {
-    for (script, step, rule, text) in REFUSED {
-        ends(&rt, "run", script, Status::Script(step, rule), text)?;
-    }
+fn other_words_ask_for_nothing(rt: HostRuntime) -> Result<(), Fail> {
     ends(&rt, "fly", r#"{"steps":[]}"#, Status::Usage, "usage\n")
 }
 

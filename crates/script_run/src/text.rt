@@ -221,7 +221,7 @@ fn append_payouts(
 /// The printed text of a history, whose entries are in the order of time. `labels` are the names in the order of
 /// declaration.
 #[tactic(auto, using(channel_calls::proofs::Conservation::within_in_time))]
-pub fn text_of(
+pub(crate) fn history_text(
     alloc: Global,
     history: &[Entry],
     labels: &[(Dest, Label)],

@@ -1,0 +1,35 @@
+//! Where ops are entered.
+
+ghost use Rattle.std.specs.Prelude.{◌≡◌, ◌<◌, ◌-◌, ◌^◌, [], List, length, OnOk};
+ghost use Rattle.channel_calls.specs.History.{Legal, newest_first};
+ghost use Rattle.channel_calls.specs.declared.entry.Entry.{Entry as AnEntry};
+ghost use Rattle.support_chain.specs.Real.{real};
+ghost use Rattle.net_world.specs.Entered.{entered, oldest_first};
+
+use channel_calls::{Entry, Op};
+use nitro_bytes::NoMemory;
+use std::alloc::Global;
+
+/// An adjudicator with its history, the newest entry first, which is legal.
+pub trait Docket: Drop {
+    ghost history: { Self → List AnEntry };
+
+    fn make(alloc: Global) -> Self
+        ensures { history result ≡ [] };
+
+    /// Enters an op, with the reply of the adjudicator.
+    fn enter(&mut self, by: u32, op: Op) -> Result<(), NoMemory>
+        requires { length (history self.old) < 2 ^ 32 - 1 }
+        ensures { OnOk result (history self.new ≡ entered (history self.old) by op) };
+
+    /// The entries in the order of time.
+    fn entries(&self) -> &[Entry]
+        ensures same { result.now ≡ oldest_first (history self.now) }
+        ensures few { length result.now < 2 ^ 32 }
+        ensures legal { Legal real (history self.now) };
+
+    /// The entries in the order of time, after which nothing is entered.
+    fn into_entries(self) -> Vec<Entry>
+        ensures same { newest_first result.items ≡ history self }
+        ensures legal { Legal real (history self) };
+}

@@ -1,0 +1,214 @@
+//! The world, one happening after another.
+
+ghost use Rattle.std.specs.Prelude.{◌≡◌, ◌≤◌, ◌<◌, ◌-◌, ◌^◌, ◌==◌, ◌||◌, true, length, IfOk, IfSome, OnOk, OnErr, IsErr, IsTrue, slice_get};
+ghost use Rattle.std.specs.List.{position};
+ghost use Rattle.std.specs.Option.{option_map};
+ghost use Rattle.channel_calls.specs.History.{Legal, newest_first};
+ghost use Rattle.channel_calls.specs.declared.call.Op.TheVariants as ops;
+ghost use Rattle.support_chain.specs.Real.{real};
+ghost use Rattle.net_party.specs.Ways.{quiet};
+ghost use Rattle.net_world.specs.Entered.{entered, oldest_first};
+ghost use Rattle.net_world.specs.Worlds.{WorldOf, new_world, place_of, member, happened, given, most_calls, joined, journal};
+ghost use Rattle.net_world.specs.declared.happening.Happening.TheVariants as happenings;
+
+use crate::docket::Docket;
+use crate::happening::Happening;
+use crate::member::Member;
+use channel_calls::{Call, Entry, Event, Op};
+use net_party::{Command, Outs, Party, no_outs};
+use nitro_bytes::{Listed, NoMemory};
+use std::alloc::Global;
+use std::marker::Model;
+
+/// One history, and the nodes with their watchers. After want of memory it answers nothing else.
+#[derive(Drop)]
+pub struct World<P: Party, D: Docket> {
+    alloc: Global,
+    docket: D,
+    members: Vec<Member<P>>,
+    is_lost: bool,
+}
+
+impl<P: Party, D: Docket> Model for World<P, D> {
+    ghost use Rattle.net_world.specs.Worlds.{WorldOf};
+
+    ghost Value = { WorldOf P };
+
+    ghost view = { λ w. record { history = D.history w.docket; members = w.members.items; is_lost = w.is_lost } };
+}
+
+impl<P: Party, D: Docket> World<P, D> {
+    pub fn make(alloc: Global) -> World<P, D>
+        ensures { result ≡ new_world }
+    {
+        World {
+            alloc,
+            docket: D::make(alloc),
+            members: Vec::new(alloc),
+            is_lost: false,
+        }
+    }
+
+    /// The entries in the order of time.
+    pub fn history(&self) -> &[Entry]
+        ensures { result.now ≡ oldest_first self.now.history }
+    {
+        self.docket.entries()
+    }
+
+    /// The entries in the order of time, after which nothing happens.
+    pub fn into_history(self) -> Vec<Entry>
+        ensures same { newest_first result.items ≡ self.history }
+        ensures legal { Legal real self.history }
+    {
+        self.docket.into_entries()
+    }
+
+    /// The journal of the node of this number, or nothing.
+    pub fn journal(&self, number: u32) -> &[Event]
+        ensures { result.now ≡ journal P.ways self.now number }
+    {
+        match self.place_of(number) {
+            Some(place) => self.members[place].node().journal(),
+            None => &[],
+        }
+    }
+
+    fn place_of(&self, number: u32) -> Option<usize>
+        ensures place { result ≡ place_of P.ways self.now.members number }
+        ensures inside { IfSome result (λ place. place < length self.now.members) }
+    {
+        self.members
+            .iter()
+            .position(|m| m.node().number() == number)
+    }
+
+    /// A new node joins, with so many watchers.
+    pub fn join(
+        &mut self,
+        number: u32,
+        seed: [u8; 32],
+        h: u8,
+        watchers: u32,
+    ) -> Result<(), NoMemory>
+        requires { IsTrue (h == 5 || h == 10) }
+        ensures { OnOk result (self.new ≡ joined P.ways number seed h watchers self.old) }
+    {
+        let member = Member::make(self.alloc, number, seed, h, watchers)?;
+        self.members.push(member)?;
+        Ok(())
+    }
+
+    fn enter(&mut self, by: u32, op: Op) -> Result<(), NoMemory>
+        requires { length self.old.history < 2 ^ 32 - 1 }
+        ensures { OnOk result (self.new ≡ record self.old { history = entered self.old.history by op }) }
+    {
+        self.docket.enter(by, op)
+    }
+
+    fn see(&mut self, number: u32) -> Result<(), NoMemory>
+        ensures { OnOk result (self.new ≡ happened P.ways (happenings.See number) self.old) }
+    {
+        let Some(place) = self.place_of(number) else {
+            return Ok(());
+        };
+        let member = &mut self.members[place];
+        member.see(self.docket.entries())
+    }
+
+    fn command(&mut self, number: u32, step: u32, command: Command) -> Result<Outs, NoMemory>
+        ensures made { OnOk result (self.new ≡ happened P.ways (happenings.Command number step command) self.old) }
+        ensures given { IfOk result (λ outs. outs ≡ given P.ways (happenings.Command number step command) self.old) }
+        ensures few { IfOk result (λ outs. length outs.calls ≤ 8192) }
+    {
+        let alloc = self.alloc;
+        let Some(place) = self.place_of(number) else {
+            return Ok(no_outs(alloc));
+        };
+        let member = &mut self.members[place];
+        member.command(alloc, step, command)
+    }
+
+    fn deliver(&mut self, number: u32, bytes: &[u8]) -> Result<(), NoMemory>
+        ensures { OnOk result (self.new ≡ happened P.ways (happenings.Deliver number bytes.now) self.old) }
+    {
+        let Some(place) = self.place_of(number) else {
+            return Ok(());
+        };
+        let member = &mut self.members[place];
+        member.handle(bytes)
+    }
+
+    fn tick(&mut self, number: u32) -> Result<Outs, NoMemory>
+        ensures made { OnOk result (self.new ≡ happened P.ways (happenings.Tick number) self.old) }
+        ensures given { IfOk result (λ outs. outs ≡ given P.ways (happenings.Tick number) self.old) }
+        ensures few { IfOk result (λ outs. length outs.calls ≤ 8192) }
+    {
+        let Some(place) = self.place_of(number) else {
+            return Ok(no_outs(self.alloc));
+        };
+        let member = &mut self.members[place];
+        member.tick()
+    }
+
+    fn watch(&mut self, number: u32, watcher: u32) -> Result<Outs, NoMemory>
+        ensures made { OnOk result (self.new ≡ happened P.ways (happenings.Watch number watcher) self.old) }
+        ensures given { IfOk result (λ outs. outs ≡ given P.ways (happenings.Watch number watcher) self.old) }
+        ensures few { IfOk result (λ outs. length outs.calls ≤ 64) }
+    {
+        let alloc = self.alloc;
+        let Some(place) = self.place_of(number) else {
+            return Ok(no_outs(alloc));
+        };
+        let member = &mut self.members[place];
+        let calls = member.watch(alloc, self.docket.entries(), watcher)?;
+        let mut outs = no_outs(alloc);
+        outs.calls = Listed::make(calls);
+        Ok(outs)
+    }
+
+    fn step(&mut self, event: Happening) -> Result<Outs, NoMemory>
+        requires { length self.old.history < 2 ^ 32 - 1 }
+        ensures made { OnOk result (self.new ≡ happened P.ways event self.old) }
+        ensures given { IfOk result (λ outs. outs ≡ given P.ways event self.old) }
+        ensures few { IfOk result (λ outs. length outs.calls ≤ most_calls event) }
+    {
+        let alloc = self.alloc;
+        match event {
+            Happening::Enter(by, call) => self.enter(by, Op::Call(call))?,
+            Happening::Time(to) => self.enter(0, Op::Time(to))?,
+            Happening::See(number) => self.see(number)?,
+            Happening::Command(number, step, command) => {
+                return self.command(number, step, command);
+            }
+            Happening::Deliver(number, bytes) => self.deliver(number, bytes.as_slice())?,
+            Happening::Tick(number) => return self.tick(number),
+            Happening::Watch(number, place) => return self.watch(number, place),
+        }
+        Ok(no_outs(alloc))
+    }
+}
+
+/// Makes exactly this happening, and answers what is given at it.
+pub fn world_step<P: Party, D: Docket>(
+    world: &mut World<P, D>,
+    event: Happening,
+) -> Result<Outs, NoMemory>
+    requires { length world.old.history < 2 ^ 32 - 1 }
+    ensures made { OnOk result (world.new ≡ happened P.ways event world.old) }
+    ensures given { IfOk result (λ outs. outs ≡ given P.ways event world.old) }
+    ensures few { IfOk result (λ outs. length outs.calls ≤ most_calls event) }
+    ensures lost { OnErr result (world.new.is_lost ≡ true) }
+    ensures stays_lost { world.old.is_lost ≡ true → IsErr result }
+{
+    if world.is_lost {
+        return Err(NoMemory);
+    }
+    match world.step(event) {
+        Ok(outs) => Ok(outs),
+        Err(NoMemory) => {
+            world.is_lost = true;
+            Err(NoMemory)
+        }
+    }
+}

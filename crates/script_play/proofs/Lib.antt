@@ -1,0 +1,4 @@
+pub mod Meant
+pub mod Weights
+pub mod Steps
+pub mod Kept

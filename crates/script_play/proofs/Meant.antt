@@ -1,0 +1,114 @@
+-- What a step means declares at most one person, and asks for no more entries than its weight.
+use Rattle.std.proofs.Common.{◌≡◌, ℕ, ◌+◌, ◌*◌, ◌≤◌, true, false, List, [], ◌∷◌, ◌++◌, length, refl, arith, rules, length-append}
+use Rattle.std.proofs.lemmas.List.{length-set}
+use Rattle.std.specs.Prelude.{Option, Some, None, unwrap_or, slice_set}
+use Rattle.script_reader.specs.Bounds.{Fits, persons}
+use Rattle.script_play.specs.Growth.{FitsEffect, effect_weight, weight}
+use Rattle.channel_calls.specs.declared.call.Op.{Op}
+use Rattle.channel_calls.specs.declared.call.Op.TheVariants as ops
+use Rattle.net_party.specs.declared.command.Command.{Command}
+use Rattle.script_play.specs.declared.effect.Effect.TheVariants.{Enter, Tell, Post, Lose, Catch, Rounds}
+use Rattle.script_play.specs.Meanings.{Meaning, learning, doing, meant, meaning}
+use Rattle.script_play.specs.Names.{◌>>=◌, SignedBy, sign, sign_challenge}
+use Rattle.script_play.specs.declared.chains.NamedState.{NamedState}
+use Rattle.script_play.specs.declared.names.Names.{Names}
+use Rattle.script_play.specs.declared.people.Person.{Person}
+use Rattle.script_reader.specs.declared.step.Step.{Step}
+use Rattle.script_reader.specs.declared.step.Step.TheVariants as steps
+use Rattle.nitro_bytes.specs.Parts.{FixedParts}
+
+-- ---- who signs stays
+
+abbrev Keeps : List Person → Option SignedBy → Type 0
+Keeps people None = Unit {0}
+Keeps people (Some s) = length s.people ≡ length people
+
+keeps_after : {A : Type 0} (people : List Person) (o : Option A) (f : A → Option SignedBy) → ((x : A) → Keeps people (f x)) → Keeps people (o >>= f)
+keeps_after people None f h = tt
+keeps_after people (Some x) f h = h x
+
+set_keeps : (people : List Person) (place : ℕ) (person : Person) (signature : List ℕ) → Keeps people (Some (record { signature = signature; people = slice_set people place person }))
+set_keeps people place person signature = length-set people place person
+
+sign_keeps : (people : List Person) (name message : List ℕ) → Keeps people (sign people name message)
+sign_keeps people name message = search (rules, keeps_after, set_keeps)
+
+challenge_keeps : (people : List Person) (by : List ℕ) (f : FixedParts) (states : List NamedState) (who : ℕ) → Keeps people (sign_challenge people by f states who)
+challenge_keeps people by f [] who = refl
+challenge_keeps people by f (last ∷ earlier) who = sign_keeps people by _
+
+-- ---- growth
+
+-- at most so many people and entries more
+pub record Grows (n : Names) (people entries : ℕ) (m : Meaning) : Type 0 where
+  pub few : length m.names.people ≤ length n.people + people
+  pub light : effect_weight m.effect ≤ entries
+  pub fits : FitsEffect m.effect
+
+abbrev GrowsIf : Names → ℕ → ℕ → Option Meaning → Type 0
+GrowsIf n people entries None = Unit {0}
+GrowsIf n people entries (Some m) = Grows n people entries m
+
+after : {A : Type 0} (n : Names) (p w : ℕ) (o : Option A) (f : A → Option Meaning) → ((x : A) → GrowsIf n p w (f x)) → GrowsIf n p w (o >>= f)
+after n p w None f h = tt
+after n p w (Some x) f h = h x
+
+after_signed : (n : Names) (p w : ℕ) (o : Option SignedBy) (f : SignedBy → Option Meaning) → Keeps n.people o → ((s : SignedBy) → length s.people ≡ length n.people → GrowsIf n p w (f s)) → GrowsIf n p w (o >>= f)
+after_signed n p w None f k h = tt
+after_signed n p w (Some s) f k h = h s k
+
+whole : (n : Names) (p w : ℕ) (o : Option Meaning) → GrowsIf n p w o → Grows n p w (unwrap_or o (learning n))
+whole n p w None g = record { few = omega (arith); light = omega (arith); fits = tt }
+whole n p w (Some m) g = g
+
+one_more : (people : List Person) (p : Person) → length (people ++ p ∷ []) ≤ length people + 1
+one_more people p = omega (arith, length-append people (p ∷ []))
+
+nothing : (n n' : Names) → length n'.people ≡ length n.people → Grows n 0 1 (learning n')
+nothing n n' same = record { few = omega (arith, same); light = omega (arith); fits = tt }
+
+enters : (n n' : Names) (op : Op) → length n'.people ≡ length n.people → Grows n 0 1 (doing n' (Enter op))
+enters n n' op same = record { few = omega (arith, same); light = omega (arith); fits = tt }
+
+tells : (n : Names) (numbers : List ℕ) (command : Command) → Grows n 0 1 (doing n (Tell numbers command))
+tells n numbers command = record { few = omega (arith); light = omega (arith); fits = tt }
+
+posts : (n : Names) (to bytes : List ℕ) → Grows n 0 1 (doing n (Post to bytes))
+posts n to bytes = record { few = omega (arith); light = omega (arith); fits = tt }
+
+loses : (n : Names) (to : List ℕ) → Grows n 0 1 (doing n (Lose to))
+loses n to = record { few = omega (arith); light = omega (arith); fits = tt }
+
+catches : (n : Names) (name : List ℕ) (number : ℕ) (key channel : List ℕ) (turn : ℕ) → Grows n 0 1 (doing n (Catch name number key channel turn))
+catches n name number key channel turn = record { few = omega (arith); light = omega (arith); fits = tt }
+
+plays : (n : Names) (count : ℕ) → Grows n 0 (count * 135168) (doing n (Rounds count))
+plays n count = record { few = omega (arith); light = omega (arith); fits = tt }
+
+meant_grows : (n : Names) (step : Step) → Fits step → GrowsIf n (persons step) (weight step) (meant n step)
+meant_grows n (steps.Deposit channel asset expected amount) fit = search (rules, after, enters)
+meant_grows n (steps.Time to) fit = enters n n (ops.Time to) refl
+meant_grows n (steps.Person name seed h true watchers) fit = record { few = one_more n.people _; light = omega (arith); fits = fit.0 }
+meant_grows n (steps.Person name seed h false watchers) fit = record { few = one_more n.people _; light = omega (arith); fits = tt }
+meant_grows n (steps.Channel name people nonce app duration) fit = search (rules, after, nothing)
+meant_grows n (steps.Sign name channel by turn is_final items votes proposal) fit = search (rules, after, after_signed, sign_keeps, nothing)
+meant_grows n (steps.Catch name from channel turn) fit = search (rules, after, catches)
+meant_grows n (steps.Send to state) fit = search (rules, after, posts)
+meant_grows n (steps.Drop to) fit = search (rules, after, loses)
+meant_grows n (steps.Challenge channel chain by) fit = search (rules, after, after_signed, challenge_keeps, enters)
+meant_grows n (steps.Respond channel from next) fit = search (rules, after, enters)
+meant_grows n (steps.Refute channel next) fit = search (rules, after, enters)
+meant_grows n (steps.Checkpoint channel chain) fit = search (rules, after, enters)
+meant_grows n (steps.Conclude channel chain) fit = search (rules, after, enters)
+meant_grows n (steps.Transfer channel state asset index) fit = search (rules, after, enters)
+meant_grows n (steps.Claim guarantor promise target ending asset position) fit = search (rules, after, enters)
+meant_grows n (steps.Open who channel opening) fit = search (rules, after, tells)
+meant_grows n (steps.OpenOn who ledger channel asset amounts) fit = search (rules, after, tells)
+meant_grows n (steps.OpenVirtual who ledgers guarantors joint channel asset amounts) fit = search (rules, after, tells)
+meant_grows n (steps.Pay who channel asset amount) fit = search (rules, after, tells)
+meant_grows n (steps.Close who channel) fit = search (rules, after, tells)
+meant_grows n (steps.Exit who) fit = tells n _ _
+meant_grows n (steps.Rounds count) fit = plays n count
+
+pub meaning_grows : (n : Names) (step : Step) → Fits step → Grows n (persons step) (weight step) (meaning n step)
+meaning_grows n step fit = whole n (persons step) (weight step) (meant n step) (meant_grows n step fit)

@@ -1,0 +1,5 @@
+use Rattle.script_run.proofs.Alike.{alike}
+use Rattle.script_run.proofs.laws.calm_runs_end_alike.Goals as goal
+
+pub returns : goal.returns
+returns c = alike

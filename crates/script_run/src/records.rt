@@ -1,0 +1,66 @@
+//! The history that a run makes, entry by entry.
+
+ghost use Rattle.std.specs.Prelude.{◌≡◌, ◌<◌, ◌-◌, ◌^◌, [], length, OnOk};
+ghost use Rattle.channel_calls.specs.History.{Legal, newest_first};
+ghost use Rattle.support_chain.specs.Real.{real};
+ghost use Rattle.net_world.specs.Entered.{entered, oldest_first};
+
+use adjudicator_core::Adjudicator;
+use channel_calls::{Entry, Op};
+use net_world::Docket;
+use nitro_bytes::NoMemory;
+use std::alloc::Global;
+use std::marker::Model;
+
+/// An adjudicator, with the history that it stands for. Contracts see the history, the newest entry first; it is legal.
+#[derive(Drop)]
+pub struct Records {
+    adjudicator: Adjudicator,
+    history: Vec<Entry>,
+}
+
+impl Model for Records {
+    ghost use Rattle.std.specs.Prelude.{List};
+    ghost use Rattle.channel_calls.specs.History.{newest_first};
+    ghost use Rattle.channel_calls.specs.declared.entry.Entry.{Entry};
+    ghost use Rattle.script_run.specs.Kept.{IsKept};
+
+    ghost Value = { List Entry };
+
+    ghost view = { λ d. newest_first d.history.items };
+
+    ghost invariant = { λ d. IsKept (newest_first d.history.items) d.adjudicator };
+}
+
+impl Docket for Records {
+    ghost history = { λ d. d };
+
+    fn make(alloc: Global) -> Records {
+        Records {
+            adjudicator: Adjudicator::make(alloc),
+            history: Vec::new(alloc),
+        }
+    }
+
+    fn enter(&mut self, by: u32, op: Op) -> Result<(), NoMemory> {
+        self.adjudicator.reserve()?;
+        self.history.reserve(1)?;
+        let number = (self.history.len() + 1) as u32;
+        let reply = self.adjudicator.apply(&op);
+        self.history.push_reserved(Entry {
+            number,
+            by,
+            op,
+            reply,
+        });
+        Ok(())
+    }
+
+    fn entries(&self) -> &[Entry] {
+        self.history.as_slice()
+    }
+
+    fn into_entries(self) -> Vec<Entry> {
+        self.history
+    }
+}
