@@ -17,7 +17,7 @@ use Rattle.channel_model.specs.Amounts.{due}
 use Rattle.channel_model.specs.Rules.{Rules}
 use Rattle.channel_calls.specs.Refusing.{refuse_if, told}
 use Rattle.channel_calls.specs.Flows.{brings, takes, held_in, pays, paid_of_item}
-use Rattle.channel_calls.specs.Dues.{no_dest, no_item, dest_at, place_of, rest_at, rest_of, shape_in, pay, transfer_of, claim_of_items, claim_of}
+use Rattle.channel_calls.specs.Dues.{no_dest, no_item, dest_in, place_of, rest_at, rest_of, shape_in, pay, transfer_of, claim_of_items, claim_of}
 use Rattle.channel_calls.specs.Rest.{rest_shape, rest_outcome, lower_shape, lower_outcome, amount_in, left_of}
 use Rattle.channel_calls.specs.Replies as replies
 use Rattle.channel_calls.specs.History.{item_dest, listed_dest, place_in, flow_to, flow_of, flows_of, payment_of, payments_of, held_of, paid_of, row, now_of, reply_to}
@@ -125,7 +125,7 @@ claim_due_of paid held (Some (Guarantee named list)) target None position d e = 
 claim_due_of paid held (Some (Allocation items)) target (Some shape) position d e = absurd cc
 claim_due_of paid held (Some (Guarantee named list)) target (Some (Guarantee other dests)) position d e = absurd cc
 claim_due_of paid held (Some (Guarantee named list)) target (Some (Allocation items)) position d e =
-    let to = dest_at list position in
+    let to = dest_in list position in
     let place = place_of items to in
     let n = due (rest_of paid items list) position held in
     let a = past_ok (not (bytes_eq named target)) WrongTarget (claim_of_items paid held list items position) d e in

@@ -2,7 +2,7 @@
 use Rattle.std.specs.Prelude.{ℕ, ◌-◌, ◌==◌, not, nat_le, List, [], ◌∷◌, length, slice_index_or, if◌then◌else◌, Option, Some, None, Result, Ok, Err}
 use Rattle.std.specs.Str.{bytes_eq}
 use Rattle.channel_model.specs.Amounts.{due}
-pub use Rattle.channel_model.specs.Items.{no_dest, no_item, amount_at, dest_at, place_of, amount_of}
+pub use Rattle.channel_model.specs.Items.{no_dest, no_item, amount_at, dest_in, place_of}
 use Rattle.channel_calls.specs.Refusing.{refuse_if}
 use Rattle.nitro_bytes.specs.declared.value.Dest.{Dest}
 use Rattle.nitro_bytes.specs.declared.value.Item.{Item}
@@ -19,7 +19,7 @@ abbrev pub rest_at : (ℕ → ℕ) → List Item → ℕ → ℕ
 rest_at paid items place = amount_at items place - paid place
 
 abbrev pub rest_of : (ℕ → ℕ) → List Item → List Dest → ℕ → ℕ
-rest_of paid items list position = rest_at paid items (place_of items (dest_at list position))
+rest_of paid items list position = rest_at paid items (place_of items (dest_in list position))
 
 -- what an outcome has for an asset
 abbrev pub shape_in : List AssetOutcome → ℕ → Option Shape
@@ -42,8 +42,8 @@ transfer_of paid held (Some (Allocation items)) index =
 abbrev pub claim_of_items : (ℕ → ℕ) → ℕ → List Dest → List Item → ℕ → Result Due Refusal
 claim_of_items paid held list items position =
     refuse_if (nat_le (length list) position) NotListed (
-    refuse_if (nat_le (length items) (place_of items (dest_at list position))) NoItem (
-    pay (dest_at list position) (place_of items (dest_at list position)) held
+    refuse_if (nat_le (length items) (place_of items (dest_in list position))) NoItem (
+    pay (dest_in list position) (place_of items (dest_in list position)) held
     (due (rest_of paid items list) position held)))
 
 -- what a claim on the shapes of the guarantor and of its target pays

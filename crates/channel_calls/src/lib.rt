@@ -5,6 +5,7 @@ mod answering;
 mod balances;
 mod call;
 mod copying;
+mod display;
 mod entry;
 mod event;
 mod flows;

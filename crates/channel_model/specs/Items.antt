@@ -15,13 +15,9 @@ no_item = record { to = no_dest; amount = 0 }
 abbrev pub amount_at : List Item → ℕ → ℕ
 amount_at items place = (slice_index_or items place no_item).amount
 
-abbrev pub dest_at : List Dest → ℕ → Dest
-dest_at list position = slice_index_or list position no_dest
+abbrev pub dest_in : List Dest → ℕ → Dest
+dest_in list position = slice_index_or list position no_dest
 
 -- the place of a destination's item, or past the end where it has none
 abbrev pub place_of : List Item → Dest → ℕ
 place_of items to = position_or_len (λ item. is_same item.to to) items
-
--- the amount of a destination, or 0
-abbrev pub amount_of : List Item → Dest → ℕ
-amount_of items to = amount_at items (place_of items to)

@@ -31,9 +31,9 @@ abbrev pub turn_of : Option StateParts → ℕ
 turn_of None = 0
 turn_of (Some s) = s.turn
 
-abbrev pub outcome_of : Option StateParts → List AssetOutcome
-outcome_of None = []
-outcome_of (Some s) = s.outcome
+abbrev pub outcome_or_none : Option StateParts → List AssetOutcome
+outcome_or_none None = []
+outcome_or_none (Some s) = s.outcome
 
 abbrev pub digest_of : Rules → FixedParts → Option StateParts → List ℕ
 digest_of r f None = []
@@ -44,7 +44,7 @@ abbrev pub top_turn : List StateParts → ℕ
 top_turn states = turn_of (newest states)
 
 abbrev pub top_outcome : List StateParts → List AssetOutcome
-top_outcome states = outcome_of (newest states)
+top_outcome states = outcome_or_none (newest states)
 
 abbrev pub top_digest : Rules → FixedParts → List StateParts → List ℕ
 top_digest r f states = digest_of r f (newest states)

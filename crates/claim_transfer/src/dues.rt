@@ -4,7 +4,7 @@ ghost use Rattle.std.specs.Prelude.{◌≡◌, ◌<◌, ◌≤◌, ◌+◌, ◌^
 ghost use Rattle.nitro_bytes.specs.Outcomes.{IsShape};
 ghost use Rattle.nitro_bytes.specs.declared.value.Shape.TheVariants.{Allocation};
 ghost use Rattle.channel_model.specs.Amounts.{due};
-ghost use Rattle.channel_model.specs.Items.{dest_at, place_of};
+ghost use Rattle.channel_model.specs.Items.{dest_in, place_of};
 ghost use Rattle.claim_transfer.specs.Payments.{amount_of_item};
 ghost use Rattle.channel_calls.specs.Dues.{rest_at, rest_of, transfer_due, claim_due};
 
@@ -47,7 +47,7 @@ fn listed_due(
     requires position { position < length list.now }
     ensures value { result ≡ due (rest_of (amount_of_item paid.now target.now asset) items.now list.now) position held }
     ensures fits { 0 < result
-        → amount_of_item paid.now target.now asset (place_of items.now (dest_at list.now position)) + result < 2 ^ 64 }
+        → amount_of_item paid.now target.now asset (place_of items.now (dest_in list.now position)) + result < 2 ^ 64 }
 {
     let rest = rest_of(paid, target, items, asset);
     claimable(rest.as_slice(), list, position, held)

@@ -7,7 +7,7 @@ use Rattle.nitro_bytes.specs.declared.chain.Signed.{Signed}
 use Rattle.nitro_bytes.specs.declared.value.AssetOutcome.{AssetOutcome}
 use Rattle.deadline_clock.specs.Mode.{mode_at, is_final}
 use Rattle.deadline_clock.specs.declared.standing.Standing.TheVariants.{Challenged, Final}
-use Rattle.channel_model.specs.Rules.{Rules, people, outcome_of, top_turn, top_outcome, KeepsFinal}
+use Rattle.channel_model.specs.Rules.{Rules, people, outcome_or_none, top_turn, top_outcome, KeepsFinal}
 use Rattle.channel_calls.specs.Rows.{fixed_of, turned}
 use Rattle.channel_calls.specs.History.{is_accepted, time_set, now_of, is_named, turning, row, mode, Legal, settles, settled}
 use Rattle.channel_calls.specs.Marked.{Marked, nothing, marked_of, chain_of, is_supported}
@@ -34,7 +34,7 @@ use Rattle.history_laws.proofs.Keeps.{HoldsNewer}
 use Rattle.history_laws.proofs.Safe.{Setting, MadeLine, honest-at, honest-suffix, rises, own_line, made-mover, noted-held, shown-held, closed-held, AllClosed, all_closed, noted_closed, chain_closed, valid-shown}
 
 top-closed : (states : List StateParts) (outcome : List AssetOutcome) → IsClosed states outcome → top_outcome states ≡ outcome
-top-closed states outcome c = ap outcome_of c.is ∙ c.same
+top-closed states outcome c = ap outcome_or_none c.is ∙ c.same
 
 trans-le : (a b c : ℕ) → a ≤ b → b ≤ c → a ≤ c
 trans-le a b c p q = omega arith

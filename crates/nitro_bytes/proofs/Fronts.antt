@@ -25,7 +25,7 @@ GoesOn whole more (Err f) all = (f ≡ faults.Cut whole) ⊎ ((g : ByteFault) ×
 abbrev pub IsSteady : {A : Type 0} → (ℕ → List ℕ → Result (A × List ℕ) ByteFault) → Type 0
 IsSteady at = (whole : ℕ) (more bytes : List ℕ) → GoesOn whole more (at whole bytes) (at whole (bytes ++ more))
 
-then_on : {A B : Type 0} (whole : ℕ) (more : List ℕ) (r s : Result (A × List ℕ) ByteFault) (f g : A × List ℕ → Result (B × List ℕ) ByteFault)
+pub then_on : {A B : Type 0} (whole : ℕ) (more : List ℕ) (r s : Result (A × List ℕ) ByteFault) (f g : A × List ℕ → Result (B × List ℕ) ByteFault)
     → GoesOn whole more r s → ((x : A × List ℕ) → GoesOn whole more (f x) (g (x.0, x.1 ++ more))) → GoesOn whole more (r >>= f) (s >>= g)
 then_on whole more (Ok x) s f g e on = subst (λ (z : Result _ ByteFault). GoesOn whole more (f x) (z >>= g)) (sym e) (on x)
 then_on whole more (Err d) s f g (inl e) on = inl e
@@ -36,12 +36,12 @@ test_on : {B : Type 0} (whole : ℕ) (more : List ℕ) (b : Bool) (d e : ByteFau
 test_on whole more true d e f g on = inr (e, refl)
 test_on whole more false d e f g on = on
 
-if_on : {B : Type 0} (whole : ℕ) (more : List ℕ) (b : Bool) (r s t u : Result (B × List ℕ) ByteFault)
+pub if_on : {B : Type 0} (whole : ℕ) (more : List ℕ) (b : Bool) (r s t u : Result (B × List ℕ) ByteFault)
     → GoesOn whole more r s → GoesOn whole more t u → GoesOn whole more (cond b r t) (cond b s u)
 if_on whole more true r s t u on other = on
 if_on whole more false r s t u on other = other
 
-byte_on : IsSteady byte_at
+pub byte_on : IsSteady byte_at
 byte_on whole more [] = inl refl
 byte_on whole more (b ∷ rest) = refl
 
@@ -59,10 +59,10 @@ part_on whole n make more bytes =
           rw (long, longer, take-append-le n bytes more le, drop-append-le n bytes more le) refl
     ]
 
-front_on : (n whole : ℕ) (more bytes : List ℕ) → GoesOn whole more (front_at whole n bytes) (front_at whole n (bytes ++ more))
+pub front_on : (n whole : ℕ) (more bytes : List ℕ) → GoesOn whole more (front_at whole n bytes) (front_at whole n (bytes ++ more))
 front_on n whole more bytes = part_on whole n (λ front. front) more bytes
 
-number_on : (w : Width) (whole : ℕ) (more bytes : List ℕ) → GoesOn whole more (number_at whole w bytes) (number_at whole w (bytes ++ more))
+pub number_on : (w : Width) (whole : ℕ) (more bytes : List ℕ) → GoesOn whole more (number_at whole w bytes) (number_at whole w (bytes ++ more))
 number_on w whole more bytes = part_on whole (byte_len w) (from_be_bytes w) more bytes
 
 -- ---- outcomes
@@ -152,7 +152,7 @@ flag_on whole more bytes =
     if_on whole more (eqb flag.0 0) _ _ _ _ refl
     (if_on whole more (eqb flag.0 1) _ _ _ _ refl (inr (faults.BadTag (whole - length (bytes ++ more)), refl))))
 
-sized_on : (limit whole : ℕ) (more bytes : List ℕ) → GoesOn whole more (sized_at whole limit bytes) (sized_at whole limit (bytes ++ more))
+pub sized_on : (limit whole : ℕ) (more bytes : List ℕ) → GoesOn whole more (sized_at whole limit bytes) (sized_at whole limit (bytes ++ more))
 unfolding sized_at
 sized_on limit whole more bytes =
     then_on whole more _ _ _ _ (number_on w16 whole more bytes) (λ len.

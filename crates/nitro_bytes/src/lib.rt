@@ -3,6 +3,7 @@
 
 mod chain;
 mod cursor;
+mod display;
 mod fault;
 mod fixed;
 mod flat;

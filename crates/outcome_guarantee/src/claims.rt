@@ -2,7 +2,7 @@
 
 ghost use Rattle.std.specs.Prelude.{◌≡◌, ◌<◌, length};
 ghost use Rattle.channel_model.specs.Amounts.{amt, due};
-ghost use Rattle.channel_model.specs.Items.{dest_at};
+ghost use Rattle.channel_model.specs.Items.{dest_in};
 
 use nitro_bytes::{Dest, Item};
 
@@ -22,7 +22,7 @@ fn amount_for(items: &[Item], to: &Dest) -> u64
 #[tactic(auto, using(channel_model::proofs::Before::before_more))]
 pub fn claimable(target_items: &[Item], list: &[Dest], position: usize, balance: u64) -> u64
     requires { position < length list.now }
-    ensures { result ≡ due (λ k. amt target_items.now (dest_at list.now k)) position balance }
+    ensures { result ≡ due (λ k. amt target_items.now (dest_in list.now k)) position balance }
 {
     let mut left = balance;
     for k in 0..position {

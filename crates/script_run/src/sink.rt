@@ -5,6 +5,9 @@ ghost use Rattle.std.specs.Io.KnownBytes.{Appends};
 ghost use Rattle.script_reader.specs.Outside.{Rose};
 ghost use Rattle.script_run.specs.Outside.{PutGives, AppendsPart};
 
+use std::error::Error;
+use std::fmt;
+
 /// What a sink answers.
 #[derive(Clone, Copy, Debug, PartialEq, Eq)]
 pub enum Gave {
@@ -29,6 +32,14 @@ pub trait Sink {
 /// The sink failed.
 #[derive(Clone, Copy, Debug, PartialEq, Eq)]
 pub struct SinkFailed;
+
+impl fmt::Display for SinkFailed {
+    fn fmt<W: fmt::Write>(&self, f: &mut fmt::Formatter<W>) -> fmt::Result {
+        write!(f, "the sink failed")
+    }
+}
+
+impl Error for SinkFailed {}
 
 /// Puts the text piece by piece.
 pub fn put_all<K: Sink>(sink: &mut K, text: &[u8]) -> Result<(), SinkFailed>

@@ -4,7 +4,7 @@ use Rattle.std.specs.List.{AllByRecursion, slice_get}
 use Rattle.nitro_bytes.specs.declared.value.AssetOutcome.{AssetOutcome}
 use Rattle.nitro_bytes.specs.Parts.{StateParts, IsState}
 use Rattle.channel_model.specs.Chains.{mover, last_of, last_turn}
-use Rattle.channel_model.specs.Rules.{people, turn_of, outcome_of, top_outcome}
+use Rattle.channel_model.specs.Rules.{people, turn_of, outcome_or_none, top_outcome}
 use Rattle.channel_model.proofs.Rows.{others_move, support_tells}
 use Rattle.support_chain.specs.Real.{real}
 use Rattle.support_laws.specs.May.{OneOf, Ends, may, SupportKeepsMay}
@@ -27,7 +27,7 @@ support_keeps chain fits valid verified turn h j me mark there s at own =
     let top : (last_of from.state (drop (suc mark.place) chain.states)).turn ≡ turn = ap turn_of (sym from.last) ∙ supported.top in
     let others = others_move (people chain.fixed) j turn from.state (drop (suc mark.place) chain.states) from.rises (omega arith) from.late in
     let kept = steps_keep chain.fixed fits j me from.state v.0 (drop (suc mark.place) chain.states) v.1 from.steps from.few others in
-    let ends : (last_of from.state (drop (suc mark.place) chain.states)).outcome ≡ top_outcome chain.states = ap outcome_of (sym from.last) in
+    let ends : (last_of from.state (drop (suc mark.place) chain.states)).outcome ≡ top_outcome chain.states = ap outcome_or_none (sym from.last) in
     let kept2 = subst (λ (p : List AssetOutcome). OneOf (λ o. Ends chain.fixed j o p) (may chain.fixed from.state)) ends kept in
     subst (λ (q : StateParts). (q.turn ≡ last_turn (people chain.fixed) j turn) × OneOf (λ o. Ends chain.fixed j o (top_outcome chain.states)) (may chain.fixed q)) it
     (from.own (ap (λ (q : StateParts). mover (people chain.fixed) q.turn) it ∙ own), kept2)

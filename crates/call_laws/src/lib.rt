@@ -1,0 +1,17 @@
+//! Laws alone: where the bytes of a call or of a message are cut off, that is the fault, and its place.
+#![tactic(auto)]
+
+ghost use Rattle.nitro_bytes.specs.Spelled.{FrontsCut};
+ghost use Rattle.channel_calls.specs.Limits.{IsCall, IsMessage};
+ghost use Rattle.channel_calls.specs.Reading.{call_of, message_of};
+ghost use Rattle.channel_calls.specs.Spelling.{call, message};
+
+/// Each proper front of a call's bytes ends too early, and its end is the place of the fault.
+pub fn fronts_of_calls_are_cut()
+    ensures { FrontsCut call_of call IsCall }
+{}
+
+/// Each proper front of a message's bytes ends too early, and its end is the place of the fault.
+pub fn fronts_of_messages_are_cut()
+    ensures { FrontsCut message_of message IsMessage }
+{}
