@@ -7,29 +7,31 @@ ghost use Rattle.channel_calls.specs.declared.entry.Entry.{Entry as AnEntry};
 ghost use Rattle.channel_calls.specs.Naming.{NamesChannels};
 ghost use Rattle.channel_watcher.specs.Watching.{StandsFor, unseeing, saw, is_stale, checkpoints, history_after, looks};
 
-use crate::rows::{Watched, record_told, watched_row};
+use crate::rows::{Told, record_told, watched_row};
 use channel_calls::{Call, Entry, HeldChain, time_set, top_turn};
 use deadline_clock::{Standing, mode};
-use nitro_bytes::NoMemory;
+use indexmap::IndexMap;
+use nitro_bytes::{Name, NoMemory};
 use std::alloc::Global;
 use std::marker::Model;
 
-/// A watcher, and the number of the last entry that it followed. After it answered once that memory is gone it answers
-/// nothing else.
+/// A watcher, and the number of the last entry that it followed. A look takes time for new entries and for the chains,
+/// and none for older entries or other channels. After it answered once that memory is gone it answers nothing else.
 #[derive(Drop)]
 pub struct Watcher {
     time: u64,
-    rows: Vec<Watched>,
+    rows: IndexMap<Name, Told>,
     seen: u32,
     is_lost: bool,
 }
 
 impl Model for Watcher {
+    ghost use Rattle.channel_watcher.specs.Rows.{rows_of};
     ghost use Rattle.channel_watcher.specs.Watching.{Watching};
 
     ghost Value = { Watching };
 
-    ghost view = { λ w. record { time = w.time; rows = w.rows.items; seen = w.seen; is_lost = w.is_lost } };
+    ghost view = { λ w. record { time = w.time; rows = rows_of w.rows.entries; seen = w.seen; is_lost = w.is_lost } };
 }
 
 impl Watcher {
@@ -40,7 +42,7 @@ impl Watcher {
     {
         Watcher {
             time: 0,
-            rows: Vec::new(alloc),
+            rows: IndexMap::new(alloc),
             seen: 0,
             is_lost: false,
         }
