@@ -1,4 +1,5 @@
 pub mod Placing
+pub mod Lists
 pub mod Held
 pub mod Good
 pub mod Calls

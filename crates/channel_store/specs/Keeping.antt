@@ -100,6 +100,17 @@ pub record IsLent (kept : List Kept) (chains : List HeldChain) (known : List Kno
   pub known_are : known ≡ flat_map known_state kept
   pub places_are : places ≡ map place_in kept
 
+-- what is lent of one channel
+pub record IsLentOne (k : Kept) (chain : List HeldChain) (known : List Known) (place : Place) : Type 0 where
+  pub chain_is : chain ≡ held_chain k
+  pub known_is : known ≡ known_state k
+  pub place_is : place ≡ place_in k
+
+-- a chain is held of both or of neither, and a last state known of both or of neither
+abbrev pub are_alike : Kept → Kept → Bool
+are_alike old new =
+    (length (held_chain old) == length (held_chain new)) && (length (known_state old) == length (known_state new))
+
 -- each of these chains is supported
 abbrev pub AreSupported : Rules → List HeldChain → Type 0
 AreSupported r chains = All (λ held. is_ok (supports r held.chain) ≡ true) chains

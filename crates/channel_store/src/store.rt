@@ -15,7 +15,7 @@ ghost use Rattle.channel_store.specs.Storing.{place_of, kept_of, kept_with, adde
 
 use crate::fault::NoteFault;
 use crate::kept::Kept;
-use crate::lent::{Lent, lists_of};
+use crate::lent::{Lent, are_alike, lent_of, lists_of};
 use channel_calls::{HeldChain, Known, Place};
 use channel_name::channel_name;
 use nitro_bytes::{Chain, Fixed, Listed, Name, NoMemory, Signed, State};
@@ -143,6 +143,12 @@ impl Store {
         ensures err { OnErr result (self.new ≡ self.old) }
     {
         let alloc = *self.kept.allocator();
+        if are_alike(&self.kept[place], &k) {
+            let one = lent_of(alloc, &k)?;
+            self.lent.put(&self.kept, place, &k, one);
+            self.kept[place] = k;
+            return Ok(());
+        }
         let old = mem::replace(&mut self.kept[place], k);
         match lists_of(alloc, &self.kept) {
             Ok(lent) => {

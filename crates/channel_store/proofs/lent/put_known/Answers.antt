@@ -1,0 +1,11 @@
+use Rattle.std.proofs.Common.{rules, ◌<◌, length, ◌∙◌, ap, sym}
+use Rattle.std.specs.Option.{option_to_list}
+use Rattle.channel_store.proofs.Lists.{known_inside}
+use Rattle.channel_store.proofs.lent.put_known.Goals as goal
+
+pub index_mut-requires : goal.index_mut-requires
+index_mut-requires c =
+    let inside : c.known_count-rank.result < length c.args.list.now.items =
+    known_inside c.args.kept.now c.args.place c.known_count-rank.result c.args.k.now c.args.list.now.items c.in-Some.known c.requires.within c.requires.alike
+    (ap option_to_list (sym c.in-Some.is) ∙ c.requires.is) c.requires.before c.known_count-rank.ensures.value in
+    search rules
