@@ -2,6 +2,8 @@
 //! and her watcher answers. What is printed was worked out by hand.
 #![tactic(auto)]
 
+ghost use Rattle.std.specs.Prelude.{◌+◌, ◌<◌};
+
 mod people;
 mod tower;
 
@@ -49,75 +51,91 @@ fn noted(rt: &HostRuntime, people: &mut People) -> Result<Store> {
     Ok(store)
 }
 
-/// Enters an op, prints the reply, and then enters and prints what the watcher answers.
-fn enter(rt: &HostRuntime, tower: &mut Tower, op: Op) -> Result<()> {
-    let (reply, calls) = tower.enter(op)?;
-    let (word, value) = told(reply);
-    println!(rt; "{word} {value}")?;
-    for call in calls {
-        let (reply, more) = tower.enter(Op::Call(call))?;
-        let (word, value) = told(reply);
-        println!(rt; "watcher {word} {value} then {}", more.len())?;
-    }
-    Ok(())
-}
-
-/// Enters the deposit, and a time.
-fn fund(rt: &HostRuntime, tower: &mut Tower, channel: Name) -> Result<()> {
-    let deposit = Call::Deposit {
-        channel,
-        asset: 0,
-        expected: 0,
-        amount: 8,
-    };
-    enter(rt, tower, Op::Call(deposit))?;
-    enter(rt, tower, Op::Time(100))
-}
-
-/// Enters Bob's challenge of two states.
-fn challenge(
-    rt: &HostRuntime,
-    tower: &mut Tower,
-    people: &mut People,
-    odd: Terms,
-    even: Terms,
-) -> Result<()> {
-    let call = people.challenge(odd, even)?;
-    enter(rt, tower, Op::Call(call))
-}
-
-/// Enters the transfer of an item of the newest outcome.
-fn transfer(
-    rt: &HostRuntime,
-    tower: &mut Tower,
-    people: &People,
+/// Both people, their channel, and Alice's side of the ledger of record.
+#[derive(Drop)]
+struct Drill {
+    people: People,
+    tower: Tower,
     channel: Name,
-    index: u8,
-) -> Result<()> {
-    let call = Call::Transfer {
-        channel,
-        outcome: people.outcome(2, 6)?,
-        asset: 0,
-        index,
-    };
-    enter(rt, tower, Op::Call(call))
+}
+
+impl Drill {
+    fn make(rt: &HostRuntime) -> Result<Drill> {
+        let mut people = People::make(rt.alloc())?;
+        let channel = people.channel()?;
+        let store = noted(rt, &mut people)?;
+        Ok(Drill {
+            people,
+            tower: Tower::make(rt.alloc(), store),
+            channel,
+        })
+    }
+
+    /// Enters an op, prints the reply, and then enters and prints what the watcher answers.
+    fn enter(&mut self, rt: &HostRuntime, op: Op) -> Result<()> {
+        let (reply, calls) = self.tower.enter(op)?;
+        let (word, value) = told(reply);
+        println!(rt; "{word} {value}")?;
+        for call in calls {
+            let (reply, more) = self.tower.enter(Op::Call(call))?;
+            let (word, value) = told(reply);
+            println!(rt; "watcher {word} {value} then {}", more.len())?;
+        }
+        Ok(())
+    }
+
+    /// Enters the deposit, and a time.
+    fn fund(&mut self, rt: &HostRuntime) -> Result<()> {
+        let deposit = Call::Deposit {
+            channel: self.channel,
+            asset: 0,
+            expected: 0,
+            amount: 8,
+        };
+        self.enter(rt, Op::Call(deposit))?;
+        self.enter(rt, Op::Time(100))
+    }
+
+    /// Enters Bob's challenge with the states of two places of the round.
+    fn challenge(&mut self, rt: &HostRuntime, odd: usize) -> Result<()>
+        requires { odd + 1 < 7 }
+    {
+        let call = self.people.challenge(ROUND[odd], ROUND[odd + 1])?;
+        self.enter(rt, Op::Call(call))
+    }
+
+    /// Enters the transfer of an item of the newest outcome.
+    fn transfer(&mut self, rt: &HostRuntime, index: u8) -> Result<()> {
+        let call = Call::Transfer {
+            channel: self.channel,
+            outcome: self.people.outcome(2, 6)?,
+            asset: 0,
+            index,
+        };
+        self.enter(rt, Op::Call(call))
+    }
+
+    fn dispute(&mut self, rt: &HostRuntime) -> Result<()> {
+        // Bob challenges with turn 4, which is over; the watcher answers with turn 6.
+        self.challenge(rt, 3)?;
+        self.tower.tell(rt, &self.channel)?;
+        // The same again is refused, and nobody has to answer.
+        self.challenge(rt, 3)?;
+        // With the newest states nothing has to be answered either, and the time runs out.
+        self.challenge(rt, 5)
+    }
+
+    fn pay_out(&mut self, rt: &HostRuntime) -> Result<()> {
+        self.transfer(rt, 0)?;
+        self.enter(rt, Op::Time(110))?;
+        self.transfer(rt, 1)?;
+        self.tower.tell(rt, &self.channel)
+    }
 }
 
 fn main(rt: HostRuntime) -> Result<()> {
-    let mut people = People::make(rt.alloc())?;
-    let channel = people.channel()?;
-    let store = noted(&rt, &mut people)?;
-    let mut tower = Tower::make(rt.alloc(), store);
-    fund(&rt, &mut tower, channel)?;
-    // Bob challenges with turn 4, which is over; the watcher answers with turn 6.
-    challenge(&rt, &mut tower, &mut people, ROUND[3], ROUND[4])?;
-    tower.tell(&rt, &channel)?;
-    // The same again is refused, and nobody has to answer.
-    challenge(&rt, &mut tower, &mut people, ROUND[3], ROUND[4])?;
-    // With the newest states nothing has to be answered either, and the time runs out.
-    challenge(&rt, &mut tower, &mut people, ROUND[5], ROUND[6])?;
-    transfer(&rt, &mut tower, &people, channel, 0)?;
-    enter(&rt, &mut tower, Op::Time(110))?;
-    transfer(&rt, &mut tower, &people, channel, 1)?;
-    tower.tell(&rt, &channel)
+    let mut drill = Drill::make(&rt)?;
+    drill.fund(&rt)?;
+    drill.dispute(&rt)?;
+    drill.pay_out(&rt)
 }

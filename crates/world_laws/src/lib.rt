@@ -1,0 +1,18 @@
+//! Laws alone: whatever happens in a world, its history stays legal and its journals honest.
+#![tactic(auto)]
+
+ghost use Rattle.std.specs.Prelude.{List};
+ghost use Rattle.channel_calls.specs.declared.entry.Entry.{Entry};
+ghost use Rattle.net_party.specs.Ways.{Ways};
+ghost use Rattle.net_world.specs.Worlds.{WorldOf, happened};
+ghost use Rattle.net_world.specs.declared.happening.Happening.{Happening};
+ghost use Rattle.world_laws.specs.Standing.{AreKept, IsWorld, AreHonest};
+
+use net_party::Party;
+
+/// Whatever happens, a world stays one, and its journals are honest, where its nodes keep what they must.
+pub fn every_happening_keeps_the_world<P: Party>()
+    ensures stays { AreKept P.ways P.stands
+        → (w : WorldOf P) (event : Happening) → IsWorld P.stands w → IsWorld P.stands (happened P.ways event w) }
+    ensures honest { AreKept P.ways P.stands → (w : WorldOf P) → IsWorld P.stands w → AreHonest P.ways w }
+{}
