@@ -1,0 +1,8 @@
+use Rattle.std.proofs.Common.{◌≡◌, ◌++◌, take}
+use Rattle.std.specs.List.{flat_map}
+use Rattle.exit_script.specs.Calls.{other_calls}
+use Rattle.exit_script.specs.Exits.{ended_in}
+use Rattle.exit_script.proofs.exits.put_other_of.Given as goal
+
+abbrev pub invariant-loop-asset : goal.invariant-loop-asset
+invariant-loop-asset l = l.calls.items ≡ l.initial.calls.items ++ flat_map (other_calls (ended_in l.world) l.me l.part) (take l.asset-index l.assets)

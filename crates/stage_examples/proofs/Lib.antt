@@ -1,0 +1,3 @@
+pub mod ChildRuns
+pub mod EndRuns
+pub mod MiddleRuns

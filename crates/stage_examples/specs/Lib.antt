@@ -1,0 +1,4 @@
+pub mod Words
+pub mod ChildRuns
+pub mod EndRuns
+pub mod MiddleRuns
