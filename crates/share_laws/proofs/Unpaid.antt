@@ -1,0 +1,106 @@
+-- Nothing is paid of a channel's items before it is final.
+use Rattle.std.proofs.Common.{◌≡◌, ℕ, suc, ◌-◌, Bool, true, false, cond, ◌&&◌, List, [], ◌∷◌, refl, ◌∙◌, ap, subst, arith}
+use Rattle.std.specs.Prelude.{◌==◌, Result, Ok, Err}
+use Rattle.std.specs.Str.{bytes_eq}
+use Rattle.std.proofs.lemmas.List.Sums.{sum_by-cons, sum_by-append}
+use mathlib.Core.Path.{fun_ext}
+use Rattle.nitro_bytes.specs.declared.value.AssetOutcome.{AssetOutcome}
+use Rattle.nitro_bytes.specs.declared.value.Item.{Item}
+use Rattle.nitro_bytes.specs.declared.value.Shape.{Shape}
+use Rattle.nitro_bytes.specs.declared.value.Shape.TheVariants.{Allocation, Guarantee}
+use Rattle.deadline_clock.specs.Mode.{is_final}
+use Rattle.channel_model.specs.Rules.{Rules}
+use Rattle.channel_calls.specs.Dues.{shape_in}
+use Rattle.channel_calls.specs.Flows.{pays, paid_of_item}
+use Rattle.channel_calls.specs.Refusing.{told}
+use Rattle.channel_calls.specs.Rest.{less_paid, rest_shape, rest_outcome}
+use Rattle.channel_calls.specs.Replies as replies
+use Rattle.channel_calls.specs.History.{Legal, now_of, row, mode, held_of, paid_of, payment_of, payments_of, place_in, listed_dest, reply_to}
+use Rattle.channel_calls.specs.declared.call.Call.TheVariants.{Transfer, Claim}
+use Rattle.channel_calls.specs.declared.call.Op.{Op}
+use Rattle.channel_calls.specs.declared.call.Op.TheVariants as ops
+use Rattle.channel_calls.specs.declared.entry.Entry.{Entry}
+use Rattle.channel_calls.specs.declared.funds.Due.{Due}
+use Rattle.channel_calls.specs.declared.funds.Payment.{Payment}
+use Rattle.channel_calls.specs.declared.refusal.Refusal.{Refusal}
+use Rattle.channel_calls.specs.declared.refusal.Reply.{Reply}
+use Rattle.channel_calls.specs.declared.refusal.Reply.TheVariants.{Paid}
+use Rattle.channel_calls.proofs.Names.{same_bytes}
+use Rattle.chain_laws.proofs.Tests.{clash}
+use Rattle.share_laws.proofs.Final.{final-stays}
+use Rattle.share_laws.proofs.Payouts.{transfer_ok, claim_ok}
+
+module _ (r : Rules) (past : List Entry) (n : List ℕ) (open' : is_final (mode r n past) ≡ false) (a i : ℕ) where
+  of_another : (channel : List ℕ) (asset place k : ℕ) → is_final (mode r channel past) ≡ true →
+      paid_of_item (record { channel = channel; asset = asset; place = place; amount = k } ∷ []) n a i ≡ 0
+  of_another channel asset place k final =
+      let p : Payment = record { channel = channel; asset = asset; place = place; amount = k } in
+      let s = sum_by-cons (pays n a i) p [] in
+      let z : pays n a i p ≡ 0 = ap (λ (b : Bool). cond (b && ((asset == a) && (place == i))) k 0) (go (bytes_eq channel n) refl) in
+      omega (arith, s, z)
+    where
+      go : (b : Bool) → bytes_eq channel n ≡ b → b ≡ false
+      go true e = absurd (clash (is_final (mode r n past)) (subst (λ (m : List ℕ). is_final (mode r m past) ≡ true) (same_bytes channel n e) final) open')
+      go false e = refl
+
+  by_transfer : (channel : List ℕ) (outcome : List AssetOutcome) (asset index : ℕ) (x : Result Due Refusal) →
+      replies.transfer r (row r channel past) (now_of past) (paid_of past channel asset) (held_of past channel asset) channel outcome asset index ≡ x →
+      paid_of_item (payment_of (ops.Call (Transfer channel outcome asset index)) (told (λ due. Paid due.amount) x)) n a i ≡ 0
+  by_transfer channel outcome asset index (Ok d) e =
+      of_another channel asset index d.amount (transfer_ok r (row r channel past) (now_of past) (paid_of past channel asset) (held_of past channel asset) channel outcome asset index d e).0.final
+  by_transfer channel outcome asset index (Err refusal) e = refl
+
+  by_claim : (guarantor : List ℕ) (promise : List AssetOutcome) (target : List ℕ) (outcome : List AssetOutcome) (asset position : ℕ) (x : Result Due Refusal) →
+      replies.claim r (row r guarantor past) (row r target past) (now_of past) (paid_of past target asset) (held_of past guarantor asset) guarantor promise target outcome asset position ≡ x →
+      paid_of_item (payment_of (ops.Call (Claim guarantor promise target outcome asset position)) (told (λ due. Paid due.amount) x)) n a i ≡ 0
+  by_claim guarantor promise target outcome asset position (Ok d) e =
+      of_another target asset (place_in (shape_in outcome asset) (listed_dest (shape_in promise asset) position)) d.amount
+      (claim_ok r (row r guarantor past) (row r target past) (now_of past) (paid_of past target asset) (held_of past guarantor asset) guarantor promise target outcome asset position d e).owner.final
+  by_claim guarantor promise target outcome asset position (Err refusal) e = refl
+
+  by_op : (op : Op) → paid_of_item (payment_of op (reply_to r past op)) n a i ≡ 0
+  unfolding reply_to
+  by_op (ops.Call (Transfer channel outcome asset index)) = by_transfer channel outcome asset index _ refl
+  by_op (ops.Call (Claim guarantor promise target outcome asset position)) = by_claim guarantor promise target outcome asset position _ refl
+  by_op op = refl
+
+-- nor by the entry by which it becomes final
+one_more : (r : Rules) (past : List Entry) (e : Entry) (n : List ℕ) → Legal r (e ∷ past) → is_final (mode r n past) ≡ false → (a i : ℕ) → paid_of past n a i ≡ 0 → paid_of (e ∷ past) n a i ≡ 0
+one_more r past e n legal open' a i before =
+    let s = sum_by-append (pays n a i) (payment_of e.op e.reply) (payments_of past) in
+    let z : paid_of_item (payment_of e.op e.reply) n a i ≡ 0 = ap (λ (y : Reply). paid_of_item (payment_of e.op y) n a i) legal.2 ∙ by_op r past n open' a i e.op in
+    omega (arith, s, z, before)
+
+unpaid : (r : Rules) (past : List Entry) (n : List ℕ) → Legal r past → is_final (mode r n past) ≡ false → (a i : ℕ) → paid_of past n a i ≡ 0
+unpaid r [] n legal open' a i = refl
+unpaid r (e ∷ past) n legal open' a i = go (is_final (mode r n past)) refl (λ f. unpaid r past n legal.0 f a i)
+  where
+    go : (b : Bool) → is_final (mode r n past) ≡ b → (is_final (mode r n past) ≡ false → paid_of past n a i ≡ 0) → paid_of (e ∷ past) n a i ≡ 0
+    go true f rec = absurd (clash (is_final (mode r n (e ∷ past))) (final-stays r n past e legal f) open')
+    go false f rec = one_more r past e n legal f a i (rec f)
+
+minus_zero : (x : ℕ) → x - 0 ≡ x
+minus_zero x = omega arith
+
+less_none : (n : ℕ) (items : List Item) → less_paid (λ i. 0) n items ≡ items
+less_none n [] = refl
+less_none n (x ∷ xs) =
+    ap (λ (k : ℕ). record { to = x.to; amount = k } ∷ less_paid (λ i. 0) (suc n) xs) (minus_zero x.amount)
+    ∙ ap (λ (ys : List Item). record { to = x.to; amount = x.amount } ∷ ys) (less_none (suc n) xs)
+
+shape_none : (shape : Shape) → rest_shape (λ i. 0) shape ≡ shape
+shape_none (Allocation items) = ap (λ (xs : List Item). Allocation xs) (less_none 0 items)
+shape_none (Guarantee target list) = refl
+
+rest_none : (os : List AssetOutcome) → rest_outcome (λ a i. 0) os ≡ os
+rest_none [] = refl
+rest_none (o ∷ os) =
+    ap (λ (s : Shape). record { asset = o.asset; shape = s } ∷ rest_outcome (λ a i. 0) os) (shape_none o.shape)
+    ∙ ap (λ (xs : List AssetOutcome). record { asset = o.asset; shape = o.shape } ∷ xs) (rest_none os)
+
+-- what is left of an outcome right after its channel became final is all of it
+pub rest-whole : (r : Rules) (past : List Entry) (e : Entry) (n : List ℕ) → Legal r (e ∷ past) → is_final (mode r n past) ≡ false → (o : List AssetOutcome) →
+    rest_outcome (paid_of (e ∷ past) n) o ≡ o
+rest-whole r past e n legal open' o =
+    ap (λ (p : ℕ → ℕ → ℕ). rest_outcome p o) (fun_ext (λ a. fun_ext (λ i. one_more r past e n legal open' a i (unpaid r past n legal.0 open' a i))))
+    ∙ rest_none o

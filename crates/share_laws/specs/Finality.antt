@@ -1,0 +1,79 @@
+-- Channels end well: what a participant's channel becomes final with is no worse than what was possible when it last
+-- signed.
+use Rattle.std.specs.Prelude.{◌≡◌, ◌≢◌, ℕ, ◌<◌, ◌≤◌, true, List, ◌∷◌, length, Some}
+use Rattle.std.specs.List.{slice_get, AllByRecursion}
+use Rattle.nitro_bytes.specs.Parts.{FixedParts, StateParts, IsFixed, IsState}
+use Rattle.nitro_bytes.specs.declared.value.AssetOutcome.{AssetOutcome}
+use Rattle.nitro_bytes.specs.declared.value.Dest.TheVariants.{Person}
+use Rattle.channel_model.specs.Amounts.{aff}
+use Rattle.channel_model.specs.Chains.{mover, last_of}
+use Rattle.channel_model.specs.Rules.{Rules, people, KeepsFinal}
+use Rattle.channel_model.specs.Supported.{AreSteps}
+use Rattle.channel_calls.specs.Flows.{is_among}
+use Rattle.channel_calls.specs.History.{Legal}
+use Rattle.channel_calls.specs.declared.entry.Entry.{Entry}
+use Rattle.net_model.specs.Journals.{In, Line}
+use Rattle.net_model.specs.Honest.{Honest}
+use Rattle.net_model.specs.Premises.{Unforged, NoCollision, AreValid, InTime}
+use Rattle.share_model.specs.Places.{Order, plan, channels, counting, outcomes_of, IsPlace}
+use Rattle.share_model.specs.Kept.{is_signing, SignsFairly, SharesAreKept}
+use Rattle.nitro_bytes.specs.Outcomes.{AreApart}
+use Rattle.share_laws.specs.Sound.{IsSound}
+use Rattle.share_model.specs.Bases.{all_bases}
+use Rattle.funding_value.specs.Shapes.{items_in, list_in}
+use Rattle.share_laws.specs.Turns.{OneOf, names}
+use Rattle.share_laws.specs.Whole.{EndsWell}
+use Rattle.std.specs.Str.{bytes_eq}
+
+-- The outcome p may stand for o: it is no worse for the person me, and outside payment channels, whose application is
+-- 1, it is o.
+pub record StandsFor (f : FixedParts) (me : List ℕ) (o p : List AssetOutcome) : Type 0 where
+  pub affords : (asset reach : ℕ) → aff (items_in asset o) reach (Person me) ≤ aff (items_in asset p) reach (Person me)
+  pub list : (asset : ℕ) → list_in asset p ≡ list_in asset o
+  pub same : f.app ≢ 1 → p ≡ o
+
+-- Fewer than n steps of others after a state of the participant end in an outcome that was possible then.
+abbrev pub StepsKeepPossible : Rules → (key me : List ℕ) → Type 0
+StepsKeepPossible r key me =
+    (f : FixedParts) → IsFixed f → (j : ℕ) → slice_get f.keys j ≡ Some key → (s : StateParts) → IsState s
+    → (ts : List StateParts) → AllByRecursion IsState ts → AreSteps r f s ts → length ts < people f
+    → AllByRecursion (λ t. mover (people f) t.turn ≢ j) ts
+    → OneOf (λ o. StandsFor f me o (last_of s ts).outcome) (outcomes_of s)
+
+-- no part rests on a payment channel
+abbrev pub RestsOnNoPayments : Rules → (ℕ → Order) → List Line → Type 0
+RestsOnNoPayments r orders front =
+    (f : FixedParts) → In f (channels front) → is_among (r.named f) (all_bases (plan orders front)) ≡ true → f.app ≢ 1
+
+-- So with watchers in time, nothing forged and no collision each channel ends well.
+abbrev pub FinalsEndWell : Type 0
+FinalsEndWell =
+    (r : Rules) (key me : List ℕ) (orders : ℕ → Order) (h : List Entry) (journal : List Line) → KeepsFinal r
+    → StepsKeepPossible r key me → Legal r h
+    → Honest r key h journal → Unforged r key h journal → NoCollision r h journal → AreValid h journal
+    → InTime r h journal
+    → (past : List Entry) (e : Entry) (front : List Line) → IsPlace h journal past front
+    → IsPlace h journal (e ∷ past) front
+    → RestsOnNoPayments r orders front → EndsWell r me orders past e front
+
+-- What is known of a plan at each place of a history and a journal: it is sound, no part rests on a payment channel,
+-- and its person signs fairly.
+pub record PlansWell (r : Rules) (me : List ℕ) (orders : ℕ → Order) (h : List Entry)
+    (journal : List Line) : Type 0 where
+  pub channels_differ : AreApart bytes_eq (names r (channels journal))
+  pub sound :
+      (past : List Entry) (front : List Line) → IsPlace h journal past front
+      → IsSound me (plan orders front) (counting r past front)
+  pub rests : (past : List Entry) (front : List Line) → IsPlace h journal past front → RestsOnNoPayments r orders front
+  pub signs :
+      (past : List Entry) (x : Line) (front : List Line) → IsPlace h journal past front
+      → IsPlace h journal past (x ∷ front)
+      → is_signing x.deed ≡ true → SignsFairly r me orders past x front
+
+-- So nobody lowers the share of an honest participant whose watchers are in time.
+abbrev pub HonestSharesAreKept : Type 0
+HonestSharesAreKept =
+    (r : Rules) (key me : List ℕ) (orders : ℕ → Order) (h : List Entry) (journal : List Line) → KeepsFinal r
+    → StepsKeepPossible r key me → Legal r h
+    → Honest r key h journal → Unforged r key h journal → NoCollision r h journal → AreValid h journal
+    → InTime r h journal → PlansWell r me orders h journal → SharesAreKept r me orders h journal

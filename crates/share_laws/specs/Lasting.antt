@@ -1,0 +1,35 @@
+-- While its person signs nothing a share lasts.
+use Rattle.std.specs.Prelude.{◌≡◌, ℕ, ◌≤◌, false, List, [], ◌∷◌, ◌++◌}
+use Rattle.nitro_bytes.specs.Parts.{FixedParts}
+use Rattle.channel_model.specs.Rules.{Rules}
+use Rattle.channel_calls.specs.declared.entry.Entry.{Entry}
+use Rattle.net_model.specs.Journals.{In, Line, opened, is_watched}
+use Rattle.net_model.specs.Honest.{Honest}
+use Rattle.share_model.specs.Places.{Order, share, IsPlace}
+use Rattle.share_model.specs.Kept.{is_signing, SharesAreKept}
+
+-- lines, but for looks, stand in the order of what they had seen
+abbrev pub AreInOrder : List Line → Type 0
+AreInOrder [] = Unit {0}
+AreInOrder (x ∷ front) =
+    ((y : Line) → In y front → is_watched x.deed ≡ false → is_watched y.deed ≡ false → y.seen ≤ x.seen)
+    × AreInOrder front
+
+-- the journal of an honest participant is, once it opens a channel
+abbrev pub HonestJournalsAreInOrder : Type 0
+HonestJournalsAreInOrder =
+    (r : Rules) (key : List ℕ) (h : List Entry) (journal : List Line) → Honest r key h journal
+    → (x : Line) (f : FixedParts) → In x journal → In f (opened x) → AreInOrder journal
+
+-- none of these lines signs a state
+abbrev pub SignNothing : List Line → Type 0
+SignNothing lines = (x : Line) → In x lines → is_signing x.deed ≡ false
+
+-- From a place to a later one a share that is kept doesn't fall, where no line between them signs a state.
+abbrev pub SharesLast : Type 0
+SharesLast =
+    (r : Rules) (me : List ℕ) (orders : ℕ → Order) (h : List Entry) (journal : List Line) → AreInOrder journal
+    → SharesAreKept r me orders h journal
+    → (later past : List Entry) (newer front : List Line) → IsPlace h journal past front
+    → IsPlace h journal (later ++ past) (newer ++ front) → SignNothing newer
+    → (asset : ℕ) → share r me orders past front asset ≤ share r me orders (later ++ past) (newer ++ front) asset

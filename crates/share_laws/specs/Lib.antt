@@ -1,0 +1,10 @@
+pub mod Moved
+pub mod Sound
+pub mod Turns
+pub mod Laws
+pub mod Whole
+pub mod Finality
+pub mod Example
+pub mod Signed
+pub mod Signing
+pub mod Lasting

@@ -1,0 +1,87 @@
+-- A plan is sound at each place where the whole plan is, and its person signed guarantees alone in its guarantors.
+use Rattle.std.specs.Prelude.{◌≡◌, ◌≢◌, ℕ, true, Some, List, [], ◌∷◌}
+use Rattle.std.specs.List.{AllByRecursion}
+use Rattle.nitro_bytes.specs.Parts.{FixedParts}
+use Rattle.nitro_bytes.specs.declared.chain.Signed.{Signed}
+use Rattle.nitro_bytes.specs.declared.value.AssetOutcome.{AssetOutcome}
+use Rattle.nitro_bytes.specs.declared.value.Dest.{Dest}
+use Rattle.nitro_bytes.specs.declared.value.Dest.TheVariants.{Person, Channel}
+use Rattle.channel_model.specs.Rules.{Rules, KeepsFinal}
+use Rattle.channel_calls.specs.Dues.{shape_in}
+use Rattle.channel_calls.specs.History.{Legal}
+use Rattle.channel_calls.specs.declared.entry.Entry.{Entry}
+use Rattle.net_model.specs.Journals.{In, Line, made_in}
+use Rattle.net_model.specs.Honest.{Honest}
+use Rattle.net_model.specs.Premises.{Unforged, NoCollision, AreValid, InTime}
+use Rattle.funding_value.specs.declared.plan.Part.{Part}
+use Rattle.funding_value.specs.declared.plan.Part.TheVariants.{Root, OnLedger, End, Middle}
+use Rattle.funding_value.specs.Parts.{own_guarantor}
+use Rattle.share_model.specs.Places.{Order, plan, channels, counting, outcomes_of, IsPlace}
+use Rattle.share_model.specs.Kept.{is_signing, SignsFairly, SharesAreKept}
+use Rattle.share_laws.specs.Moved.{all_payers}
+use Rattle.nitro_bytes.specs.Outcomes.{AreApart}
+use Rattle.share_laws.specs.Turns.{names}
+use Rattle.share_laws.specs.Sound.{IsPromise, Guarantees, IsApart}
+use Rattle.share_laws.specs.Finality.{StepsKeepPossible, RestsOnNoPayments}
+use Rattle.std.specs.Str.{bytes_eq}
+
+-- an outcome is a guarantee of the joint channel for these destinations in each asset in which it is anything
+abbrev pub Promises : (joint : List ℕ) → List Dest → List AssetOutcome → Type 0
+Promises joint list o = (asset : ℕ) → IsPromise joint list (shape_in o asset)
+
+-- each state that the person signed in the guarantor has such outcomes alone
+abbrev pub SignsGuarantees : List Line → (guarantor joint : List ℕ) → List Dest → Type 0
+SignsGuarantees journal guarantor joint list =
+    (x : Line) (s : Signed) → In x journal → made_in guarantor x.deed ≡ Some s
+    → AllByRecursion (Promises joint list) (outcomes_of s.state)
+
+-- the guarantor isn't a payment channel
+abbrev pub IsNoPayment : Rules → List Line → (guarantor : List ℕ) → Type 0
+IsNoPayment r journal guarantor = (f : FixedParts) → In f (channels journal) → r.named f ≡ guarantor → f.app ≢ 1
+
+-- Then whatever the guarantor can end with at any place guarantees that.
+abbrev pub SignedGuaranteesStand : Type 0
+SignedGuaranteesStand =
+    (r : Rules) (key me : List ℕ) (h : List Entry) (journal : List Line) → KeepsFinal r → StepsKeepPossible r key me
+    → Legal r h
+    → Honest r key h journal → Unforged r key h journal → NoCollision r h journal → AreValid h journal
+    → InTime r h journal
+    → (guarantor joint : List ℕ) (list : List Dest) → SignsGuarantees journal guarantor joint list
+    → IsNoPayment r journal guarantor
+    → (past : List Entry) (front : List Line) → IsPlace h journal past front
+    → Guarantees (counting r past front) guarantor joint list
+
+-- the guarantors of a part, in which its person signed guarantees alone: an end's own, and both of an intermediary
+abbrev pub HasSigned : Rules → List ℕ → List Line → Part → Type 0
+HasSigned r me journal (Root c) = Unit {0}
+HasSigned r me journal (OnLedger l c) = Unit {0}
+HasSigned r me journal (End v) =
+    IsNoPayment r journal (own_guarantor v)
+    × ((third : Dest) × SignsGuarantees journal (own_guarantor v) v.joint (Channel v.channel ∷ Person me ∷ third ∷ []))
+HasSigned r me journal (Middle v) =
+    (IsNoPayment r journal v.guarantor_a
+    × ((a : Dest) × SignsGuarantees journal v.guarantor_a v.joint (Channel v.channel ∷ a ∷ Person me ∷ [])))
+    × (IsNoPayment r journal v.guarantor_b
+    × ((b : Dest) × SignsGuarantees journal v.guarantor_b v.joint (Channel v.channel ∷ b ∷ Person me ∷ [])))
+
+-- What a person keeps that plans fairly: its channels differ, and each pays in one part; no part rests on a payment
+-- channel; it signs guarantees alone in its guarantors; and each signature lowers its share no more than it may.
+pub record PlansFairly (r : Rules) (me : List ℕ) (orders : ℕ → Order) (h : List Entry)
+    (journal : List Line) : Type 0 where
+  pub channels_differ : AreApart bytes_eq (names r (channels journal))
+  pub payers : AreApart bytes_eq (all_payers (plan orders journal))
+  pub apart : AllByRecursion IsApart (plan orders journal)
+  pub rests : RestsOnNoPayments r orders journal
+  pub guarantors : AllByRecursion (HasSigned r me journal) (plan orders journal)
+  pub signs :
+      (past : List Entry) (x : Line) (front : List Line) → IsPlace h journal past front
+      → IsPlace h journal past (x ∷ front)
+      → is_signing x.deed ≡ true → SignsFairly r me orders past x front
+
+-- Nobody lowers the share of an honest participant that plans fairly, whose watchers are in time.
+abbrev pub FairSharesAreKept : Type 0
+FairSharesAreKept =
+    (r : Rules) (key me : List ℕ) (orders : ℕ → Order) (h : List Entry) (journal : List Line) → KeepsFinal r
+    → StepsKeepPossible r key me → Legal r h
+    → Honest r key h journal → Unforged r key h journal → NoCollision r h journal → AreValid h journal
+    → InTime r h journal → PlansFairly r me orders h journal → SharesAreKept r me orders h journal
