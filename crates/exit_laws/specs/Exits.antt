@@ -1,0 +1,85 @@
+-- The exit pays the share: once its calls stand in a history, whatever else does and whatever they were answered.
+use Rattle.std.specs.Prelude.{◌≡◌, ℕ, ◌≤◌, true, false, List, [], ◌∷◌, ◌++◌, ◌⊎◌, reverse, None, if◌then◌else◌}
+use Rattle.std.specs.List.{AllByRecursion, flat_map}
+use Rattle.std.specs.Str.{bytes_eq}
+use Rattle.deadline_clock.specs.Mode.{is_final}
+use Rattle.channel_model.specs.Rules.{Rules}
+use Rattle.channel_calls.specs.Dues.{shape_in}
+use Rattle.channel_calls.specs.History.{Legal, mode, settled, paid_to}
+use Rattle.channel_calls.specs.declared.call.Call.{Call}
+use Rattle.channel_calls.specs.declared.call.Op.TheVariants as ops
+use Rattle.channel_calls.specs.declared.entry.Entry.{Entry}
+use Rattle.net_model.specs.Journals.{In, Line}
+use Rattle.funding_value.specs.declared.plan.Part.{Part}
+use Rattle.funding_value.specs.declared.plan.Part.TheVariants.{Root, OnLedger, End, Middle}
+use Rattle.share_model.specs.Books.{Counting, outcome_in, counts_in}
+use Rattle.funding_value.specs.Parts.{own_ledger, own_guarantor}
+use Rattle.share_model.specs.Places.{Order, plan, counting, share, IsPlace}
+use Rattle.net_model.specs.Premises.{NoCollision}
+use Rattle.nitro_bytes.specs.Outcomes.{AreApart}
+use Rattle.share_laws.specs.Sound.{IsSound}
+use Rattle.exit_script.specs.Calls.{Ended, exits, exit_calls}
+use Rattle.funding_value.specs.Shapes.{items_in}
+
+-- what a final channel ended with
+abbrev pub ended : Rules → List Entry → Ended
+ended r past channel = if is_final (mode r channel past) then settled r channel past else None
+
+-- calls stand in entries, in their order, with any entries between; both lists have the newest first
+abbrev pub Stand : List Call → List Entry → Type 0
+Stand [] later = Unit {0}
+Stand (call ∷ calls) [] = ⊥
+Stand (call ∷ calls) (e ∷ later) = ((e.op ≡ ops.Call call) × Stand calls later) ⊎ Stand (call ∷ calls) later
+
+-- the ledgers of a part are roots of the plan
+abbrev pub IsOnRoots : List Part → Part → Type 0
+IsOnRoots parts (Root c) = Unit {0}
+IsOnRoots parts (OnLedger l c) = In (Root l) parts
+IsOnRoots parts (End v) = In (Root (own_ledger v)) parts
+IsOnRoots parts (Middle v) = In (Root v.ledger_a) parts × In (Root v.ledger_b) parts
+
+-- a virtual channel isn't a guarantor of its own
+abbrev pub IsApartFromGuarantors : Part → Type 0
+IsApartFromGuarantors (Root c) = Unit {0}
+IsApartFromGuarantors (OnLedger l c) = Unit {0}
+IsApartFromGuarantors (End v) = bytes_eq v.channel (own_guarantor v) ≡ false
+IsApartFromGuarantors (Middle v) =
+    (bytes_eq v.channel v.guarantor_a ≡ false) × (bytes_eq v.channel v.guarantor_b ≡ false)
+
+-- where a guarantor that counts guarantees nothing of an asset, the joint channel has no items of it
+abbrev pub IsBackedBy : List Counting → (guarantor joint : List ℕ) → Type 0
+IsBackedBy counting guarantor joint =
+    (asset : ℕ) → counts_in counting guarantor ≡ true → shape_in (outcome_in counting [] guarantor) asset ≡ None
+    → items_in asset (outcome_in counting [] joint) ≡ []
+
+abbrev pub IsBacked : List Counting → Part → Type 0
+IsBacked counting (Root c) = Unit {0}
+IsBacked counting (OnLedger l c) = Unit {0}
+IsBacked counting (End v) = IsBackedBy counting (own_guarantor v) v.joint
+IsBacked counting (Middle v) = IsBackedBy counting v.guarantor_a v.joint × IsBackedBy counting v.guarantor_b v.joint
+
+-- What a plan keeps so that its person can leave at a place: it is sound, no channel pays in two parts' exits, each
+-- ledger is a root, items of a joint channel are guaranteed, and each channel that counts is final.
+pub record CanExit (r : Rules) (me : List ℕ) (orders : ℕ → Order) (past : List Entry) (front : List Line) : Type 0 where
+  pub sound : IsSound me (plan orders front) (counting r past front)
+  pub apart : AreApart bytes_eq (flat_map exits (plan orders front))
+  pub channels : AllByRecursion IsApartFromGuarantors (plan orders front)
+  pub on_roots : AllByRecursion (IsOnRoots (plan orders front)) (plan orders front)
+  pub backed : AllByRecursion (IsBacked (counting r past front)) (plan orders front)
+  pub final :
+      (channel : List ℕ) → counts_in (counting r past front) channel ≡ true → is_final (mode r channel past) ≡ true
+
+-- Where the person me can exit at a place, and the calls of its exit stand after it, it was paid at least its share
+-- there.
+pub record ExitsPay (r : Rules) (me : List ℕ) (orders : ℕ → Order) (h : List Entry) (journal : List Line) : Type 0 where
+  pub pays :
+      (past later : List Entry) (front : List Line) → IsPlace h journal past front → h ≡ later ++ past
+      → CanExit r me orders past front
+      → Stand (reverse (exit_calls (ended r past) me (plan orders front))) later
+      → (asset : ℕ) → share r me orders past front asset ≤ paid_to h me asset
+
+-- over every legal history and any journal
+abbrev pub ExitPaysShare : Type 0
+ExitPaysShare =
+    (r : Rules) (me : List ℕ) (orders : ℕ → Order) (h : List Entry) (journal : List Line)
+    → Legal r h → NoCollision r h journal → ExitsPay r me orders h journal
