@@ -1,0 +1,12 @@
+pub mod ListTests
+pub mod Onto
+pub mod Forged
+pub mod Timed
+pub mod Distincts
+pub mod Passing
+pub mod Orders
+pub mod Apart
+pub mod Placing
+pub mod Adding
+pub mod Finding
+pub mod Persons

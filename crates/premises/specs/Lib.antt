@@ -1,0 +1,9 @@
+pub mod Own
+pub mod Forgery
+pub mod Timing
+pub mod Looks
+pub mod Strings
+pub mod Collision
+pub mod Witness
+pub mod Whose
+pub mod Persons
