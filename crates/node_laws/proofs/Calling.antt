@@ -1,0 +1,35 @@
+-- What the calls of a node make of it stands.
+use Rattle.node_model.specs.Nodes.{told_of, handled, ticked, gave_one, gave_all, told_to, saw_one, watched}
+use Rattle.node_laws.specs.Laws.{CallsKeepStanding, FollowsWithin, FreshNodesStand, LostNodesStand, StandingGrows, StandingNodesAreHonest}
+use Rattle.node_laws.proofs.Keepers.{waiting, standing, handles, ticks, gives, gives-all, sees, loses, stands-fresh, grows, within}
+use Rattle.node_laws.proofs.Once.{played_journals_are_honest}
+use Rattle.node_laws.proofs.Paying.{tells}
+use Rattle.node_laws.proofs.Watching.{watches}
+
+pub calls_keep_standing : CallsKeepStanding
+calls_keep_standing t r s h n legal kept st =
+    let w = waiting t r s h legal n kept st in
+    record {
+      handles = λ bytes. standing t r s h legal (handled t r bytes n) (handles t r s h legal n bytes w);
+      tells = λ step command stays. standing t r s h legal (told_to t r s step command n) (tells t r s h legal n step command stays w);
+      ticks = λ channels. standing t r s h legal (ticked t r s channels n) (ticks t r s h legal channels n w);
+      gives = λ call inside. standing t r s h legal (gave_one n call) (gives t r s h legal n call inside w);
+      gives_all = standing t r s h legal (gave_all t n) (gives-all t r s h legal n w);
+      watches = λ seen watcher given looks. standing t r s h legal (watched seen watcher given n) (watches t r s h legal n seen watcher given looks w);
+      sees = λ e next. standing t r s h legal (saw_one r n e) (sees t r s h legal n e next w);
+    }
+
+pub fresh_nodes_stand : FreshNodesStand
+fresh_nodes_stand t r s h = stands-fresh t r s h
+
+pub lost_nodes_stand : LostNodesStand
+lost_nodes_stand t r s h n new lost journal commands st = loses t r s h n new lost journal commands st
+
+pub standing_nodes_are_honest : StandingNodesAreHonest
+standing_nodes_are_honest t r s h n signs legal st = played_journals_are_honest t r s h (told_of n) signs legal st.plays
+
+pub standing_grows : StandingGrows
+standing_grows t r s h e n st = grows t r s h e n st
+
+pub follows_within : FollowsWithin
+follows_within t r s h n legal kept st = within t r s h n legal kept st

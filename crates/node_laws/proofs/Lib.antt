@@ -1,0 +1,13 @@
+pub mod Agreeing
+pub mod Standing
+pub mod Reaching
+pub mod Allowing
+pub mod Bridging
+pub mod Once
+pub mod Places
+pub mod Keepers
+pub mod Paying
+pub mod Looking
+pub mod Watching
+pub mod Calling
+pub mod Stored

@@ -1,0 +1,68 @@
+-- The journal that a node's rules make is honest.
+use Rattle.std.specs.Prelude.{◌≡◌, ◌≤◌, ℕ, true, false, List, [], ◌∷◌, length}
+use Rattle.nitro_bytes.specs.Parts.{FixedParts}
+use Rattle.channel_model.specs.Rules.{Rules}
+use Rattle.channel_calls.specs.History.{Legal}
+use Rattle.channel_calls.specs.declared.call.Call.{Call}
+use Rattle.channel_calls.specs.declared.entry.Entry.{Entry}
+use Rattle.channel_store.specs.Storing.{kept_of}
+use Rattle.net_model.specs.Held.{held}
+use Rattle.store_laws.specs.Laws.{KeepsHeld}
+use Rattle.net_model.specs.Honest.{Honest}
+use Rattle.net_model.specs.Journals.{In}
+use Rattle.node_model.specs.Minds.{facts_of, fresh}
+use Rattle.node_model.specs.Nodes.{NodeOf, told_of, Stands, handled, ticked, gave_one, gave_all, told_to, saw_one, watched, ComesNext, Looks}
+use Rattle.node_model.specs.Tables.{Tables}
+use Rattle.node_model.specs.Refusing.{leaves}
+use Rattle.node_model.specs.Places.{Told, lines_of, mind_at, AreFew}
+use Rattle.node_model.specs.Playing.{Signing, SignsWell, Plays}
+use Rattle.net_party.specs.declared.command.Command.{Command}
+
+abbrev pub KeptIsHeld : Type 0
+KeptIsHeld =
+    (r : Rules) (key : List ℕ) (f : FixedParts) (past : List Entry) (journal : List Told) → Legal r past → AreFew past
+    → KeepsHeld f (kept_of (r.named f) (mind_at r key past journal).kept) (held r f past (lines_of key journal))
+
+abbrev pub PlayedJournalsAreHonest : Type 0
+PlayedJournalsAreHonest =
+    (t : Tables) (r : Rules) (s : Signing) (h : List Entry) (journal : List Told) → SignsWell r s → Legal r h → Plays t r s h journal
+    → Honest r s.key h (lines_of s.key journal)
+
+-- ---- nodes
+
+-- what a node makes of a message, a command, a tick, its calls, a look and an entry that comes next stands for the history that it stood for
+pub record CallsStand (t : Tables) (r : Rules) (s : Signing) (h : List Entry) (n : NodeOf) : Type 0 where
+  pub handles : (bytes : List ℕ) → Stands t r s h (handled t r bytes n)
+  pub tells : (step : ℕ) (command : Command) → leaves command ≡ false → Stands t r s h (told_to t r s step command n)
+  pub ticks : (channels : List (List ℕ)) → Stands t r s h (ticked t r s channels n)
+  pub gives : (call : Call) → In call (t.calls (facts_of n.mind)) → Stands t r s h (gave_one n call)
+  pub gives_all : Stands t r s h (gave_all t n)
+  pub watches : (seen watcher : ℕ) (given : List Call) → Looks r h seen given n → Stands t r s h (watched seen watcher given n)
+  pub sees : (e : Entry) → ComesNext h e n → Stands t r s h (saw_one r n e)
+
+abbrev pub CallsKeepStanding : Type 0
+CallsKeepStanding = (t : Tables) (r : Rules) (s : Signing) (h : List Entry) (n : NodeOf) → Legal r h → n.is_lost ≡ false → Stands t r s h n → CallsStand t r s h n
+
+-- a new node stands for every history
+abbrev pub FreshNodesStand : Type 0
+FreshNodesStand = (t : Tables) (r : Rules) (s : Signing) (h : List Entry) → Stands t r s h (record { mind = fresh s.key; used = 0; journal = []; commands = []; is_lost = false })
+
+-- and a node that lost its memory stands as long as its journal and its commands stay
+abbrev pub LostNodesStand : Type 0
+LostNodesStand =
+    (t : Tables) (r : Rules) (s : Signing) (h : List Entry) (n new : NodeOf) → new.is_lost ≡ true → new.journal ≡ n.journal → new.commands ≡ n.commands
+    → Stands t r s h n → Stands t r s h new
+
+-- the journal of a node that stands for a legal history is honest
+abbrev pub StandingNodesAreHonest : Type 0
+StandingNodesAreHonest =
+    (t : Tables) (r : Rules) (s : Signing) (h : List Entry) (n : NodeOf) → SignsWell r s → Legal r h → Stands t r s h n → Honest r s.key h (lines_of s.key (told_of n))
+
+-- ---- longer histories
+
+-- a node that stands for a history stands for it with one more entry, and has followed no more than there is
+abbrev pub StandingGrows : Type 0
+StandingGrows = (t : Tables) (r : Rules) (s : Signing) (h : List Entry) (e : Entry) (n : NodeOf) → Stands t r s h n → Stands t r s (e ∷ h) n
+
+abbrev pub FollowsWithin : Type 0
+FollowsWithin = (t : Tables) (r : Rules) (s : Signing) (h : List Entry) (n : NodeOf) → Legal r h → n.is_lost ≡ false → Stands t r s h n → n.mind.view.count ≤ length h

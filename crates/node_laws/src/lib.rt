@@ -1,0 +1,52 @@
+//! Laws alone: what a node's mind keeps is what is held, and its journal is honest, whatever its stages are. Each function
+//! is empty: its contract is the law.
+#![tactic(auto)]
+
+ghost use Rattle.node_laws.specs.Stored.{RefusedAsNoted};
+ghost use Rattle.node_laws.specs.Laws.{CallsKeepStanding, FollowsWithin, FreshNodesStand, KeptIsHeld, LostNodesStand, PlayedJournalsAreHonest, StandingGrows, StandingNodesAreHonest};
+
+/// What a node's rules keep of a channel at a place of a legal history and a journal is what is held of it there.
+pub fn kept_is_held()
+    ensures { KeptIsHeld }
+{}
+
+/// A journal whose events are what a node's rules give at their places is honest over the whole legal history.
+pub fn played_journals_are_honest()
+    ensures { PlayedJournalsAreHonest }
+{}
+
+/// A node that stands for a legal history stands for it after a message, a command but `Exit`, a tick, the calls of its stages, a
+/// look of its watcher, or the entry that comes next.
+pub fn calls_keep_standing()
+    ensures { CallsKeepStanding }
+{}
+
+/// A new node stands for every history.
+pub fn fresh_nodes_stand()
+    ensures { FreshNodesStand }
+{}
+
+/// A node that lost its memory stands for what it stood for, as long as its journal and its commands stay.
+pub fn lost_nodes_stand()
+    ensures { LostNodesStand }
+{}
+
+/// The journal of a node that stands for a legal history is honest.
+pub fn standing_nodes_are_honest()
+    ensures { StandingNodesAreHonest }
+{}
+
+/// A node that stands for a history stands for it with one more entry.
+pub fn standing_grows()
+    ensures { StandingGrows }
+{}
+
+/// And it has followed no more entries than there are.
+pub fn follows_within()
+    ensures { FollowsWithin }
+{}
+
+/// The lines of a message's table that are about its state are the faults of a note, in their order.
+pub fn refused_as_noted()
+    ensures { RefusedAsNoted }
+{}

@@ -1,0 +1,104 @@
+-- What a node gives: the order of its channels, the messages of the states that it signs, and its calls.
+use Rattle.std.specs.Prelude.{ℕ, ◌+◌, Bool, true, false, nat_lt, List, [], ◌∷◌, ◌++◌, map, take, drop, Option, Some, None, Result, Ok, Err, if◌then◌else◌}
+use Rattle.std.specs.List.{flat_map}
+use Rattle.std.specs.Option.{option_or}
+use Rattle.nitro_bytes.specs.Parts.{StateParts}
+use Rattle.channel_name.specs.Messages.{message_of_state}
+use Rattle.channel_model.specs.Rules.{Rules}
+use Rattle.channel_calls.specs.Spelling.{message}
+use Rattle.channel_calls.specs.declared.event.NodeRefusal.{NodeRefusal}
+use Rattle.support_chain.specs.Steps.{persons}
+use Rattle.channel_store.specs.Storing.{kept_of}
+use Rattle.channel_store.specs.declared.kept.Kept.{Kept}
+use Rattle.funding_value.specs.Parts.{joined_of}
+use Rattle.funding_value.specs.declared.plan.Part.{Part}
+use Rattle.funding_value.specs.declared.plan.Part.TheVariants.{Root}
+use Rattle.net_party.specs.declared.command.Command.{Command}
+use Rattle.net_party.specs.declared.command.Command.TheVariants.{Pay}
+use Rattle.net_party.specs.declared.outs.NodeFault.{NodeFault}
+use Rattle.net_party.specs.declared.outs.NodeFault.TheVariants.{Refused}
+use Rattle.net_party.specs.declared.outs.Outs.{Outs}
+use Rattle.node_model.specs.Tables.{Tables}
+use Rattle.node_model.specs.Minds.{Mind, facts_of}
+use Rattle.node_model.specs.Refusing.{command_refusal, signs_in}
+use Rattle.node_model.specs.Playing.{Signing}
+use Rattle.node_model.specs.Nodes.{NodeOf, signed, signed_if, ticked, gave_all, asked}
+
+-- ---- the order of a tick
+
+abbrev pub is_root : Part → Bool
+is_root (Root channel) = true
+is_root _ = false
+
+abbrev pub of_root : Part → List (List ℕ)
+of_root part = if is_root part then joined_of part else []
+
+abbrev pub of_other : Part → List (List ℕ)
+of_other part = if is_root part then [] else joined_of part
+
+-- the roots as they were opened, then each further part's guarantors, joint channel and payment channel
+abbrev pub in_order : List Part → List (List ℕ)
+in_order parts = flat_map of_root parts ++ flat_map of_other parts
+
+-- ---- messages
+
+-- the channel's other people, in their order
+abbrev pub others : Kept → List (List ℕ)
+others k = take k.me (persons k.chain.fixed) ++ drop (k.me + 1) (persons k.chain.fixed)
+
+-- a signed state for each of them
+abbrev pub sends_to : List ℕ → StateParts → List ℕ → Option Kept → List (List ℕ × List ℕ)
+sends_to channel state signature None = []
+sends_to channel state signature (Some k) = map (λ person. (person, message (channel, record { state = state; signature = signature }))) (others k)
+
+abbrev pub sends_of : Mind → List ℕ → StateParts → List ℕ → List (List ℕ × List ℕ)
+sends_of m channel state signature = sends_to channel state signature (kept_of channel m.kept)
+
+-- those of a state that it signs, if it is given one and the key isn't spent
+abbrev pub sent_if : Rules → Signing → List ℕ → Option StateParts → NodeOf → List (List ℕ × List ℕ)
+sent_if r s channel None n = []
+sent_if r s channel (Some state) n =
+    if nat_lt n.used s.limit then sends_of (signed r s channel state n).mind channel state (s.made n.used (message_of_state (r.digest channel state))) else []
+
+-- how often the key has signed, where it is to sign once more and can't
+abbrev pub spent_if : Signing → Option StateParts → NodeOf → Option ℕ
+spent_if s None n = None
+spent_if s (Some state) n = if nat_lt n.used s.limit then None else Some n.used
+
+-- ---- a tick
+
+abbrev pub sent : Tables → Rules → Signing → List (List ℕ) → NodeOf → List (List ℕ × List ℕ)
+sent t r s [] n = []
+sent t r s (channel ∷ channels) n =
+    sent_if r s channel (signs_in t r None n.mind channel) n ++ sent t r s channels (signed_if r s channel (signs_in t r None n.mind channel) n)
+
+abbrev pub spent : Tables → Rules → Signing → List (List ℕ) → NodeOf → Option ℕ
+spent t r s [] n = None
+spent t r s (channel ∷ channels) n =
+    option_or (spent_if s (signs_in t r None n.mind channel) n) (spent t r s channels (signed_if r s channel (signs_in t r None n.mind channel) n))
+
+-- in each channel, in order, at most one state; then the calls
+abbrev pub after_tick : Tables → Rules → Signing → NodeOf → NodeOf
+after_tick t r s n = gave_all t (ticked t r s (in_order n.mind.parts) n)
+
+abbrev pub tick_gives : Tables → Rules → Signing → NodeOf → Outs
+tick_gives t r s n =
+    record {
+      sends = sent t r s (in_order n.mind.parts) n;
+      calls = t.calls (facts_of (ticked t r s (in_order n.mind.parts) n).mind);
+      spent = spent t r s (in_order n.mind.parts) n;
+    }
+
+-- ---- a command
+
+-- an accepted payment sends its state; no command calls anything
+abbrev pub paid_sends : Tables → Rules → Signing → Command → NodeOf → List (List ℕ × List ℕ)
+paid_sends t r s (Pay channel asset amount) n = sent_if r s channel (signs_in t r (Some (Pay channel asset amount)) n.mind channel) n
+paid_sends t r s command n = []
+
+abbrev pub command_gives : Tables → Rules → Signing → ℕ → Command → NodeOf → Option NodeRefusal → Result Outs NodeFault
+command_gives t r s step command n (Some refusal) = Err (Refused refusal)
+command_gives t r s step command n None = Ok (record { sends = paid_sends t r s command (asked r s step command None n); calls = []; spent = None })
+
+abbrev pub command_answers : Tables → Rules → Signing → ℕ → Command → NodeOf → Result Outs NodeFault
+command_answers t r s step command n = command_gives t r s step command n (command_refusal t r s.limit n.used n.mind command)

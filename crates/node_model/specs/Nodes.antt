@@ -1,0 +1,130 @@
+-- What is seen of a node, what its calls make of it, and when it stands for a history.
+use Rattle.std.specs.Prelude.{◌≡◌, ℕ, suc, ◌≤◌, Bool, false, nat_lt, List, [], ◌∷◌, ◌++◌, length, reverse, fold, Option, Some, None, if◌then◌else◌}
+use Rattle.std.specs.List.{flat_map}
+use Rattle.nitro_bytes.specs.Parts.{StateParts}
+use Rattle.channel_name.specs.Messages.{message_of_state}
+use Rattle.channel_model.specs.Rules.{Rules}
+use Rattle.channel_calls.specs.Reading.{message_of}
+use Rattle.channel_calls.specs.Rows.{fixed_of}
+use Rattle.channel_calls.specs.declared.call.Call.{Call}
+use Rattle.channel_calls.specs.declared.entry.Entry.{Entry}
+use Rattle.channel_calls.specs.declared.event.Deed.{Deed}
+use Rattle.channel_calls.specs.declared.event.Deed.TheVariants as deeds
+use Rattle.channel_calls.specs.declared.event.Event.{Event}
+use Rattle.channel_calls.specs.declared.event.NodeRefusal.{NodeRefusal}
+use Rattle.net_model.specs.Journals.{In, is_watched}
+use Rattle.channel_store.specs.Keeping.{held_chain}
+use Rattle.history_view.specs.Standing.{OfFew}
+use Rattle.channel_watcher.specs.Watching.{looks}
+use Rattle.node_model.specs.Minds.{Mind, facts_of, saw, did}
+use Rattle.node_model.specs.Tables.{Tables}
+use Rattle.node_model.specs.Refusing.{message_refusal, command_refusal, signs_in}
+use Rattle.node_model.specs.Places.{Told, told, mind_at, AreFew}
+use Rattle.node_model.specs.Playing.{Signing, signings, pending, Plays}
+use Rattle.net_party.specs.declared.command.Command.{Command}
+use Rattle.net_party.specs.declared.command.Command.TheVariants.{Pay}
+
+-- What it knows, how often its key signed, its journal and its commands in the order of time, and whether memory failed it.
+pub record NodeOf : Type 0 where
+  pub mind : Mind
+  pub used : ℕ
+  pub journal : List Event
+  pub commands : List Command
+  pub is_lost : Bool
+
+-- its events with their commands, newest first
+abbrev pub told_of : NodeOf → List Told
+told_of n = told (reverse n.journal) (reverse n.commands)
+
+-- A node that knows what its journal tells at the place up to which it followed the history.
+pub record Knows (r : Rules) (s : Signing) (h : List Entry) (n : NodeOf) : Type 0 where
+  pub later : List Entry
+  pub past : List Entry
+  pub split : h ≡ later ++ past
+  pub few : AreFew past
+  pub mind : n.mind ≡ mind_at r s.key past (told_of n)
+  pub used : n.used ≡ signings (told_of n)
+  pub before : (y : Told) → In y (told_of n) → is_watched y.deed ≡ false → y.seen ≤ length past
+  pub waits : pending (told_of n) ≡ None
+
+-- Its journal is one that the rules give over the whole history, of which it followed the beginning.
+pub record Stands (t : Tables) (r : Rules) (s : Signing) (h : List Entry) (n : NodeOf) : Type 0 where
+  pub plays : Plays t r s h (told_of n)
+  pub knows : n.is_lost ≡ false → Knows r s h n
+
+-- ---- calls
+
+-- with one more event, which had seen so many entries
+abbrev pub wrote_at : ℕ → Deed → Mind → NodeOf → NodeOf
+wrote_at seen deed m n = record n { mind = m; journal = n.journal ++ record { seen = seen; deed = deed } ∷ [] }
+
+abbrev pub wrote : Deed → Mind → NodeOf → NodeOf
+wrote deed m n = wrote_at n.mind.view.count deed m n
+
+-- a message
+abbrev pub handled : Tables → Rules → List ℕ → NodeOf → NodeOf
+handled t r bytes n =
+    wrote (deeds.Handled bytes (message_refusal t r n.mind (message_of bytes))) (did r (deeds.Handled bytes (message_refusal t r n.mind (message_of bytes))) None n.mind) n
+
+-- a state that it signs
+abbrev pub signed : Rules → Signing → List ℕ → StateParts → NodeOf → NodeOf
+signed r s channel state n =
+    record (wrote (deeds.Signed channel state (s.made n.used (message_of_state (r.digest channel state))))
+    (did r (deeds.Signed channel state (s.made n.used (message_of_state (r.digest channel state)))) None n.mind) n) { used = suc n.used }
+
+abbrev pub signed_if : Rules → Signing → List ℕ → Option StateParts → NodeOf → NodeOf
+signed_if r s channel None n = n
+signed_if r s channel (Some state) n = if nat_lt n.used s.limit then signed r s channel state n else n
+
+-- in each of these channels the state that it wants
+abbrev pub ticked : Tables → Rules → Signing → List (List ℕ) → NodeOf → NodeOf
+ticked t r s [] n = n
+ticked t r s (channel ∷ channels) n = ticked t r s channels (signed_if r s channel (signs_in t r None n.mind channel) n)
+
+-- with a call given, and with each of these
+abbrev pub gave_one : NodeOf → Call → NodeOf
+gave_one n call = wrote (deeds.Called call) n.mind n
+
+abbrev pub gave : List Call → NodeOf → NodeOf
+gave [] n = n
+gave (call ∷ calls) n = gave calls (gave_one n call)
+
+-- and the calls that its stages give
+abbrev pub gave_all : Tables → NodeOf → NodeOf
+gave_all t n = gave (t.calls (facts_of n.mind)) n
+
+-- a command's event
+abbrev pub asked : Rules → Signing → ℕ → Command → Option NodeRefusal → NodeOf → NodeOf
+asked r s step command refusal n =
+    record (wrote (deeds.Commanded step refusal) (did r (deeds.Commanded step refusal) (Some command) n.mind) n) { commands = n.commands ++ command ∷ [] }
+
+-- and the state of a payment that isn't refused
+abbrev pub paid_if : Tables → Rules → Signing → Option NodeRefusal → Command → NodeOf → NodeOf
+paid_if t r s None (Pay channel asset amount) n = signed_if r s channel (signs_in t r (Some (Pay channel asset amount)) n.mind channel) n
+paid_if t r s _ command n = n
+
+abbrev pub told_to : Tables → Rules → Signing → ℕ → Command → NodeOf → NodeOf
+told_to t r s step command n =
+    paid_if t r s (command_refusal t r s.limit n.used n.mind command) command (asked r s step command (command_refusal t r s.limit n.used n.mind command) n)
+
+-- entries that it follows
+abbrev pub saw_one : Rules → NodeOf → Entry → NodeOf
+saw_one r n e = record n { mind = saw r e n.mind }
+
+abbrev pub saw_all : Rules → List Entry → NodeOf → NodeOf
+saw_all r entries n = fold (saw_one r) n entries
+
+-- a look of a watcher that had seen so many entries
+abbrev pub watched : ℕ → ℕ → List Call → NodeOf → NodeOf
+watched seen watcher calls n = wrote_at seen (deeds.Watched watcher calls) n.mind n
+
+-- the entry, of few people, comes next in the history for the node
+abbrev pub ComesNext : List Entry → Entry → NodeOf → Type 0
+ComesNext h e n = (later : List Entry) × (past : List Entry) × (h ≡ later ++ e ∷ past) × (length past ≡ n.mind.view.count) × OfFew (fixed_of e.op)
+
+-- These are the calls of a look, by the chains that the node holds, of a watcher that followed so many entries, no fewer
+-- than the node.
+pub record Looks (r : Rules) (h : List Entry) (seen : ℕ) (given : List Call) (n : NodeOf) : Type 0 where
+  pub within : seen ≤ length h
+  pub after : n.mind.view.count ≤ seen
+  pub are : (later past : List Entry) → h ≡ later ++ past → length past ≡ seen → AreFew past × (given ≡ looks r past (flat_map held_chain n.mind.kept))

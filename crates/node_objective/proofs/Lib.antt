@@ -1,0 +1,3 @@
+pub mod Ticking
+pub mod Losing
+pub mod Wanting

@@ -1,0 +1,15 @@
+-- What the rules give is wanted.
+use Rattle.std.proofs.Common.{◌≡◌, ℕ, List, sym}
+use Rattle.std.specs.Prelude.{Option, Some, None, IfSome}
+use Rattle.nitro_bytes.specs.Parts.{StateParts}
+use Rattle.channel_model.specs.Rules.{Rules}
+use Rattle.net_party.specs.declared.command.Command.{Command}
+use Rattle.node_model.specs.Tables.{Tables}
+use Rattle.node_model.specs.Minds.{Mind}
+use Rattle.node_model.specs.Refusing.{signs_in}
+use Rattle.node_objective.specs.Answers.{IsWanted}
+
+pub wanted_so : (t : Tables) (r : Rules) (waits : Option Command) (m : Mind) (channel : List ℕ) (state : Option StateParts) → state ≡ signs_in t r waits m channel
+    → IfSome state (λ s. IsWanted t r m channel s)
+wanted_so t r waits m channel None e = tt
+wanted_so t r waits m channel (Some s) e = record { waits = waits; is = sym e }

@@ -1,0 +1,44 @@
+-- What the calls of a node answer, and what it is after them.
+use Rattle.std.specs.Prelude.{◌≡◌, ℕ, true, false, List, ◌⊎◌, Option, Some, None, Result, Ok, Err}
+use Rattle.channel_model.specs.Rules.{Rules}
+use Rattle.channel_calls.specs.Reading.{message_of}
+use Rattle.nitro_bytes.specs.Parts.{StateParts}
+use Rattle.node_model.specs.Minds.{Mind}
+use Rattle.node_model.specs.Nodes.{NodeOf, handled, asked, told_to}
+use Rattle.node_model.specs.Tables.{Tables}
+use Rattle.node_model.specs.Playing.{Signing}
+use Rattle.net_party.specs.declared.outs.Outs.{Outs}
+use Rattle.node_model.specs.Giving.{command_answers}
+use Rattle.node_model.specs.Refusing.{message_refusal, command_refusal, signs_in}
+use Rattle.net_party.specs.declared.command.Command.{Command}
+use Rattle.net_party.specs.declared.outs.NodeFault.{NodeFault}
+use Rattle.net_party.specs.declared.outs.NodeFault.TheVariants.{Refused, NoMemory}
+
+-- a state that the rules give in a channel, where a payment may wait
+pub record IsWanted (t : Tables) (r : Rules) (m : Mind) (channel : List ℕ) (state : StateParts) : Type 0 where
+  pub waits : Option Command
+  pub is : signs_in t r waits m channel ≡ Some state
+
+-- the same journal and commands
+pub record SameJournal (old new : NodeOf) : Type 0 where
+  pub journal : new.journal ≡ old.journal
+  pub commands : new.commands ≡ old.commands
+
+-- the journal and the commands as they were, or with the command's event
+abbrev pub IsPartly : Tables → Rules → Signing → ℕ → Command → NodeOf → NodeOf → Type 0
+IsPartly t r s step command old new = SameJournal old new ⊎ SameJournal (asked r s step command (command_refusal t r s.limit old.used old.mind command) old) new
+
+-- what a message comes to; a lost node answers only that it is
+abbrev pub HandleAnswers : {A : Type 0} → Tables → Rules → List ℕ → NodeOf → NodeOf → Result A NodeFault → Type 0
+HandleAnswers t r bytes old new (Ok done) = (old.is_lost ≡ false) × (message_refusal t r old.mind (message_of bytes) ≡ None) × (new ≡ handled t r bytes old)
+HandleAnswers t r bytes old new (Err (Refused refusal)) =
+    (old.is_lost ≡ false) × (message_refusal t r old.mind (message_of bytes) ≡ Some refusal) × (new ≡ handled t r bytes old)
+HandleAnswers t r bytes old new (Err NoMemory) = (new.is_lost ≡ true) × SameJournal old new
+
+-- and a command
+abbrev pub CommandAnswers : Tables → Rules → Signing → ℕ → Command → NodeOf → NodeOf → Result Outs NodeFault → Type 0
+CommandAnswers t r s step command old new (Ok outs) =
+    (old.is_lost ≡ false) × (Ok outs ≡ command_answers t r s step command old) × (new ≡ told_to t r s step command old)
+CommandAnswers t r s step command old new (Err (Refused refusal)) =
+    (old.is_lost ≡ false) × (Err (Refused refusal) ≡ command_answers t r s step command old) × (new ≡ told_to t r s step command old)
+CommandAnswers t r s step command old new (Err NoMemory) = new.is_lost ≡ true

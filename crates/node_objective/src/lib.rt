@@ -1,0 +1,8 @@
+//! A node: what it knows, its signatures and its journal, which is one that its rules give over the whole history.
+#![tactic(auto)]
+
+mod mind;
+mod node;
+
+pub use mind::Knowing;
+pub use node::Node;

@@ -1,0 +1,464 @@
+//! A node over what it knows.
+
+ghost use Rattle.std.specs.Prelude.{◌≡◌, ◌≤◌, ◌++◌, [], length, List, true, false, None, IfOk, IfSome, OnOk, OnErr};
+ghost use Rattle.std.specs.Option.{option_or};
+ghost use Rattle.node_model.specs.Giving.{sent_if, spent_if, sent, spent, paid_sends, tick_gives, after_tick};
+ghost use Rattle.channel_calls.specs.History.{Legal};
+ghost use Rattle.channel_calls.specs.declared.entry.Entry.{Entry as AnEntry};
+ghost use Rattle.history_view.specs.Views.{CanFollow};
+ghost use Rattle.channel_calls.specs.Reading.{message_of};
+ghost use Rattle.node_model.specs.Minds.{facts_of, fresh};
+ghost use Rattle.node_model.specs.Refusing.{message_refusal, leaves, command_refusal, signs_in};
+ghost use Rattle.net_party.specs.declared.command.Command.TheVariants.{Pay};
+ghost use Rattle.node_model.specs.Nodes.{NodeOf, Stands, handled, asked, paid_if, signed_if, ticked, gave_one, gave_all, told_to, saw_one, watched, ComesNext, Looks, wrote_at};
+ghost use Rattle.node_objective.specs.Answers.{IsWanted, CommandAnswers, HandleAnswers, IsPartly, SameJournal};
+
+use crate::mind::Knowing;
+use channel_calls::{Call, Deed, Entry, Event, NodeRefusal, copy_call};
+use net_party::{Command, NodeFault, Outs};
+use nitro_bytes::{Listed, Name, NoMemory, State};
+use std::alloc::Global;
+use std::marker::Model;
+
+/// Messages that go out, and how often the key had signed where it was to sign once more and couldn't.
+#[derive(Drop)]
+struct Sent {
+    sends: Vec<(Name, Listed<u8>)>,
+    spent: Option<u32>,
+}
+
+/// Why a command is refused, if it is, and the messages that it sends.
+#[derive(Drop)]
+struct Told {
+    refusal: Option<NodeRefusal>,
+    sends: Vec<(Name, Listed<u8>)>,
+}
+
+fn add_sent(all: &mut Sent, more: Sent) -> Result<(), NoMemory>
+    ensures sends { OnOk result (all.new.sends.items ≡ all.old.sends.items ++ more.sends.items) }
+    ensures spent { OnOk result (all.new.spent ≡ option_or all.old.spent more.spent) }
+{
+    let Sent { mut sends, spent } = more;
+    all.sends.append(&mut sends)?;
+    all.spent = all.spent.or(spent);
+    Ok(())
+}
+
+/// A node. After it answered that memory is gone it answers nothing else.
+#[derive(Drop)]
+pub struct Node<M: Knowing + Drop> {
+    mind: M,
+    journal: Vec<Event>,
+    commands: Vec<Command>,
+    is_lost: bool,
+}
+
+impl<M: Knowing + Drop> Model for Node<M> {
+    ghost use Rattle.node_model.specs.Nodes.{NodeOf};
+
+    ghost Value = { NodeOf };
+
+    ghost view = { λ n. record { mind = M.mind n.mind; used = M.times n.mind; journal = n.journal.items; commands = n.commands.items; is_lost = n.is_lost } };
+}
+
+impl<M: Knowing + Drop> Node<M> {
+    /// A node that followed nothing: it stands for the beginning of every history.
+    pub fn make(alloc: Global, mind: M) -> Node<M>
+        requires knows { M.mind mind ≡ fresh M.signer.key }
+        requires unused { M.times mind ≡ 0 }
+        ensures { (h : List AnEntry) → Stands M.tables M.rules M.signer h result }
+    {
+        Node {
+            mind,
+            journal: Vec::new(alloc),
+            commands: Vec::new(alloc),
+            is_lost: false,
+        }
+    }
+
+    fn write(&mut self, deed: Deed) -> Result<(), NoMemory>
+        ensures ok { OnOk result (self.new ≡ wrote_at self.old.mind.view.count deed self.old.mind self.old) }
+        ensures err { OnErr result (self.new ≡ self.old) }
+    {
+        let seen = self.mind.count();
+        self.journal.push(Event { seen, deed })?;
+        Ok(())
+    }
+
+    fn handle_now(&mut self, bytes: Listed<u8>) -> Result<Option<NodeRefusal>, NoMemory>
+        ensures ok { IfOk result (λ refusal. (refusal ≡ message_refusal M.tables M.rules self.old.mind (message_of bytes)) × (self.new ≡ handled M.tables M.rules bytes self.old)) }
+        ensures err { OnErr result (SameJournal self.old self.new) }
+    {
+        let refusal = self.mind.handle(bytes.as_slice())?;
+        self.write(Deed::Handled(bytes, refusal))?;
+        Ok(refusal)
+    }
+
+    /// Notes the state of a message, or says why not.
+    pub fn handle(&mut self, bytes: Listed<u8>) -> Result<(), NodeFault>
+        ensures answer { HandleAnswers M.tables M.rules bytes self.old self.new result }
+
+        // Its journal stays one that the rules give, over every history that it stood for.
+        ensures keeps { (h : List AnEntry) → Legal M.rules h → Stands M.tables M.rules M.signer h self.old → Stands M.tables M.rules M.signer h self.new }
+    {
+        if self.is_lost {
+            return Err(NodeFault::NoMemory);
+        }
+        match self.handle_now(bytes) {
+            Err(NoMemory) => {
+                self.is_lost = true;
+                Err(NodeFault::NoMemory)
+            }
+            Ok(None) => Ok(()),
+            Ok(Some(refusal)) => Err(NodeFault::Refused(refusal)),
+        }
+    }
+
+    /// Puts a command and its event into the journal and among the commands.
+    fn take_up(&mut self, step: u32, command: Command) -> Result<Option<NodeRefusal>, NoMemory>
+        ensures refusal { IfOk result (λ refusal. refusal ≡ command_refusal M.tables M.rules M.signer.limit self.old.used self.old.mind command) }
+        ensures ok { IfOk result (λ refusal. self.new ≡ asked M.rules M.signer step command refusal self.old) }
+        ensures err { OnErr result (SameJournal self.old self.new) }
+    {
+        let refusal = self.mind.command(&command)?;
+        let seen = self.mind.count();
+        // The journal and the commands grow together or not at all.
+        self.commands.reserve(1)?;
+        self.journal.push(Event {
+            seen,
+            deed: Deed::Commanded(step, refusal),
+        })?;
+        self.commands.push_reserved(command);
+        Ok(refusal)
+    }
+
+    /// Signs the state of a payment.
+    #[tactic(auto, using(crate::proofs::Wanting::wanted_so))]
+    fn pay(&mut self, channel: &Name, asset: u32, amount: u64) -> Result<Sent, NoMemory>
+        ensures sends { IfOk result (λ sent. sent.sends.items ≡ paid_sends M.tables M.rules M.signer (Pay channel.now asset amount) self.old) }
+        ensures ok { OnOk result (self.new ≡ paid_if M.tables M.rules M.signer None (Pay channel.now asset amount) self.old) }
+        ensures err { OnErr result (SameJournal self.old self.new) }
+    {
+        let state = self.mind.paying(channel, asset, amount)?;
+        self.sign_state(channel, state)
+    }
+
+    fn pay_now(
+        &mut self,
+        step: u32,
+        channel: Name,
+        asset: u32,
+        amount: u64,
+    ) -> Result<Told, NoMemory>
+        ensures refusal { IfOk result (λ told. told.refusal ≡ command_refusal M.tables M.rules M.signer.limit self.old.used self.old.mind (Pay channel asset amount)) }
+        ensures sends { IfOk result (λ told. told.refusal ≡ None → told.sends.items ≡ paid_sends M.tables M.rules M.signer (Pay channel asset amount) (asked M.rules M.signer step (Pay channel asset amount) None self.old)) }
+        ensures ok { IfOk result (λ told. self.new ≡ paid_if M.tables M.rules M.signer told.refusal (Pay channel asset amount) (asked M.rules M.signer step (Pay channel asset amount) told.refusal self.old)) }
+        ensures err { OnErr result (IsPartly M.tables M.rules M.signer step (Pay channel asset amount) self.old self.new) }
+    {
+        let refusal = self.take_up(
+            step,
+            Command::Pay {
+                channel,
+                asset,
+                amount,
+            },
+        )?;
+        match refusal {
+            Some(_) => Ok(self.quiet(refusal)),
+            None => {
+                let sent = self.pay(&channel, asset, amount)?;
+                Ok(Told {
+                    refusal: None,
+                    sends: sent.sends,
+                })
+            }
+        }
+    }
+
+    /// A command that sends nothing.
+    fn quiet(&self, refusal: Option<NodeRefusal>) -> Told
+        ensures refusal { result.refusal ≡ refusal }
+        ensures sends { result.sends.items ≡ [] }
+    {
+        Told {
+            refusal,
+            sends: Vec::new(*self.journal.allocator()),
+        }
+    }
+
+    fn take_up_quietly(&mut self, step: u32, command: Command) -> Result<Told, NoMemory>
+        ensures refusal { IfOk result (λ told. told.refusal ≡ command_refusal M.tables M.rules M.signer.limit self.old.used self.old.mind command) }
+        ensures sends { IfOk result (λ told. told.sends.items ≡ []) }
+        ensures ok { IfOk result (λ told. self.new ≡ asked M.rules M.signer step command told.refusal self.old) }
+        ensures err { OnErr result (SameJournal self.old self.new) }
+    {
+        let refusal = self.take_up(step, command)?;
+        Ok(self.quiet(refusal))
+    }
+
+    fn command_now(&mut self, step: u32, command: Command) -> Result<Told, NoMemory>
+        ensures refusal { IfOk result (λ told. told.refusal ≡ command_refusal M.tables M.rules M.signer.limit self.old.used self.old.mind command) }
+        ensures sends { IfOk result (λ told. told.refusal ≡ None → told.sends.items ≡ paid_sends M.tables M.rules M.signer command (asked M.rules M.signer step command None self.old)) }
+        ensures ok { IfOk result (λ told. self.new ≡ told_to M.tables M.rules M.signer step command self.old) }
+        ensures err { OnErr result (IsPartly M.tables M.rules M.signer step command self.old self.new) }
+    {
+        match command {
+            Command::Pay {
+                channel,
+                asset,
+                amount,
+            } => self.pay_now(step, channel, asset, amount),
+            Command::Open { fixed, outcome } => {
+                self.take_up_quietly(step, Command::Open { fixed, outcome })
+            }
+            Command::OpenOn {
+                ledger,
+                fixed,
+                asset,
+                amounts,
+            } => self.take_up_quietly(
+                step,
+                Command::OpenOn {
+                    ledger,
+                    fixed,
+                    asset,
+                    amounts,
+                },
+            ),
+            Command::OpenVirtual {
+                ledgers,
+                guarantors,
+                joint,
+                channel,
+                asset,
+                amounts,
+            } => self.take_up_quietly(
+                step,
+                Command::OpenVirtual {
+                    ledgers,
+                    guarantors,
+                    joint,
+                    channel,
+                    asset,
+                    amounts,
+                },
+            ),
+            Command::Close { channel } => self.take_up_quietly(step, Command::Close { channel }),
+            Command::Exit => self.take_up_quietly(step, Command::Exit),
+        }
+    }
+
+    /// Takes a command up, or says why not; a payment it signs.
+    pub fn command(&mut self, step: u32, command: Command) -> Result<Outs, NodeFault>
+        requires { leaves command ≡ false }
+        ensures answer { CommandAnswers M.tables M.rules M.signer step command self.old self.new result }
+        ensures keeps { (h : List AnEntry) → Legal M.rules h → Stands M.tables M.rules M.signer h self.old → Stands M.tables M.rules M.signer h self.new }
+    {
+        if self.is_lost {
+            return Err(NodeFault::NoMemory);
+        }
+        match self.command_now(step, command) {
+            Err(NoMemory) => {
+                self.is_lost = true;
+                Err(NodeFault::NoMemory)
+            }
+            Ok(told) => match told.refusal {
+                Some(refusal) => Err(NodeFault::Refused(refusal)),
+                None => Ok(Outs {
+                    sends: Listed::make(told.sends),
+                    calls: Listed::make(Vec::new(*self.journal.allocator())),
+                    spent: None,
+                }),
+            },
+        }
+    }
+
+    fn see_now(&mut self, entry: &Entry) -> Result<(), NoMemory>
+        requires { CanFollow M.rules.named entry.now self.old.mind.view }
+        ensures ok { OnOk result (self.new ≡ saw_one M.rules self.old entry.now) }
+        ensures err { OnErr result (SameJournal self.old self.new) }
+    {
+        self.mind.see(entry)
+    }
+
+    /// Follows the entry that comes next.
+    pub fn see(&mut self, entry: &Entry) -> Result<(), NoMemory>
+        requires { CanFollow M.rules.named entry.now self.old.mind.view }
+        ensures ok { OnOk result ((self.old.is_lost ≡ false) × (self.new ≡ saw_one M.rules self.old entry.now)) }
+        ensures err { OnErr result ((self.new.is_lost ≡ true) × SameJournal self.old self.new) }
+        ensures keeps { (h : List AnEntry) → Legal M.rules h → ComesNext h entry.now self.old → Stands M.tables M.rules M.signer h self.old → Stands M.tables M.rules M.signer h self.new }
+    {
+        if self.is_lost {
+            return Err(NoMemory);
+        }
+        match self.see_now(entry) {
+            Err(NoMemory) => {
+                self.is_lost = true;
+                Err(NoMemory)
+            }
+            Ok(()) => Ok(()),
+        }
+    }
+
+    /// Signs a state, if it is given one and the key isn't spent.
+    fn sign_state(&mut self, channel: &Name, state: Option<State>) -> Result<Sent, NoMemory>
+        requires { IfSome state (λ s. IsWanted M.tables M.rules self.old.mind channel.now s) }
+        ensures sends { IfOk result (λ sent. sent.sends.items ≡ sent_if M.rules M.signer channel.now state self.old) }
+        ensures spent { IfOk result (λ sent. sent.spent ≡ spent_if M.signer state self.old) }
+        ensures ok { OnOk result (self.new ≡ signed_if M.rules M.signer channel.now state self.old) }
+        ensures err { OnErr result (SameJournal self.old self.new) }
+    {
+        let Some(state) = state else {
+            return Ok(self.nothing(None));
+        };
+        if !self.mind.can_sign() {
+            return Ok(self.nothing(Some(self.mind.used())));
+        }
+        let signature = self.mind.sign(channel, &state)?;
+        let sends = self.mind.messages(channel, &state, signature.as_slice())?;
+        self.write(Deed::Signed(*channel, state, signature))?;
+        Ok(Sent { sends, spent: None })
+    }
+
+    fn nothing(&self, spent: Option<u32>) -> Sent
+        ensures sends { result.sends.items ≡ [] }
+        ensures spent { result.spent ≡ spent }
+    {
+        Sent {
+            sends: Vec::new(*self.journal.allocator()),
+            spent,
+        }
+    }
+
+    #[tactic(auto, using(crate::proofs::Wanting::wanted_so))]
+    fn sign_one(&mut self, channel: &Name) -> Result<Sent, NoMemory>
+        ensures sends { IfOk result (λ sent. sent.sends.items ≡ sent_if M.rules M.signer channel.now (signs_in M.tables M.rules None self.old.mind channel.now) self.old) }
+        ensures spent { IfOk result (λ sent. sent.spent ≡ spent_if M.signer (signs_in M.tables M.rules None self.old.mind channel.now) self.old) }
+        ensures ok { OnOk result (self.new ≡ signed_if M.rules M.signer channel.now (signs_in M.tables M.rules None self.old.mind channel.now) self.old) }
+        ensures err { OnErr result (SameJournal self.old self.new) }
+    {
+        let state = self.mind.wanted(channel)?;
+        self.sign_state(channel, state)
+    }
+
+    fn sign_all(&mut self, all: &mut Sent, channels: &[Name]) -> Result<(), NoMemory>
+        requires { self.old.is_lost ≡ false }
+        ensures kept { OnOk result (self.new.is_lost ≡ false) }
+        ensures sends { OnOk result (all.new.sends.items ≡ all.old.sends.items ++ sent M.tables M.rules M.signer channels.now self.old) }
+        ensures spent { OnOk result (all.new.spent ≡ option_or all.old.spent (spent M.tables M.rules M.signer channels.now self.old)) }
+        ensures stands { OnOk result ((h : List AnEntry) → Legal M.rules h → Stands M.tables M.rules M.signer h self.old → Stands M.tables M.rules M.signer h self.new) }
+        ensures ok { OnOk result (self.new ≡ ticked M.tables M.rules M.signer channels.now self.old) }
+        ensures err { OnErr result ((mid : NodeOf) × ((h : List AnEntry) → Legal M.rules h → Stands M.tables M.rules M.signer h self.old → Stands M.tables M.rules M.signer h mid) × SameJournal mid self.new) }
+    {
+        for channel in channels {
+            let more = self.sign_one(channel)?;
+            add_sent(all, more)?;
+        }
+        Ok(())
+    }
+
+    fn give(&mut self, call: &Call) -> Result<(), NoMemory>
+        ensures ok { OnOk result (self.new ≡ gave_one self.old call.now) }
+        ensures err { OnErr result (SameJournal self.old self.new) }
+    {
+        let call = copy_call(call)?;
+        self.write(Deed::Called(call))
+    }
+
+    fn give_all(&mut self, given: &[Call]) -> Result<(), NoMemory>
+        requires kept { self.old.is_lost ≡ false }
+        requires given { given.now ≡ M.tables.calls (facts_of self.old.mind) }
+        ensures ok { OnOk result (self.new ≡ gave_all M.tables self.old) }
+        ensures err { OnErr result ((mid : NodeOf) × ((h : List AnEntry) → Legal M.rules h → Stands M.tables M.rules M.signer h self.old → Stands M.tables M.rules M.signer h mid) × SameJournal mid self.new) }
+    {
+        for call in given {
+            self.give(call)?;
+        }
+        Ok(())
+    }
+
+    fn tick_now(&mut self) -> Result<Outs, NoMemory>
+        requires { self.old.is_lost ≡ false }
+        ensures gives { IfOk result (λ outs. outs ≡ tick_gives M.tables M.rules M.signer self.old) }
+        ensures few { IfOk result (λ outs. length outs.calls ≤ 8192) }
+        ensures ok { OnOk result (self.new ≡ after_tick M.tables M.rules M.signer self.old) }
+        ensures err { OnErr result ((mid : NodeOf) × ((h : List AnEntry) → Legal M.rules h → Stands M.tables M.rules M.signer h self.old → Stands M.tables M.rules M.signer h mid) × SameJournal mid self.new) }
+    {
+        let channels = self.mind.channels()?;
+        let mut all = self.nothing(None);
+        self.sign_all(&mut all, channels.as_slice())?;
+        let given = self.mind.calls()?;
+        self.give_all(given.as_slice())?;
+        Ok(Outs {
+            sends: Listed::make(all.sends),
+            calls: Listed::make(given),
+            spent: all.spent,
+        })
+    }
+
+    /// Signs in each channel, in order, at most one state, which it wants there, and gives the calls of its stages, at
+    /// most 8192.
+    pub fn tick(&mut self) -> Result<Outs, NoMemory>
+        ensures gives { IfOk result (λ outs. outs ≡ tick_gives M.tables M.rules M.signer self.old) }
+        ensures few { IfOk result (λ outs. length outs.calls ≤ 8192) }
+        ensures ok { OnOk result ((self.old.is_lost ≡ false) × (self.new ≡ after_tick M.tables M.rules M.signer self.old)) }
+        ensures err { OnErr result (self.new.is_lost ≡ true) }
+        ensures keeps { (h : List AnEntry) → Legal M.rules h → Stands M.tables M.rules M.signer h self.old → Stands M.tables M.rules M.signer h self.new }
+    {
+        if self.is_lost {
+            return Err(NoMemory);
+        }
+        match self.tick_now() {
+            Err(NoMemory) => {
+                self.is_lost = true;
+                Err(NoMemory)
+            }
+            Ok(outs) => Ok(outs),
+        }
+    }
+
+    fn watch_now(&mut self, seen: u32, place: u32, calls: Listed<Call>) -> Result<(), NoMemory>
+        ensures ok { OnOk result (self.new ≡ watched seen place calls self.old) }
+        ensures err { OnErr result (self.new ≡ self.old) }
+    {
+        self.journal.push(Event {
+            seen,
+            deed: Deed::Watched(place, calls),
+        })?;
+        Ok(())
+    }
+
+    /// Puts a look of its watcher into the journal, which had followed `seen` entries.
+    pub fn watch(&mut self, seen: u32, place: u32, calls: Listed<Call>) -> Result<(), NoMemory>
+        ensures ok { OnOk result ((self.old.is_lost ≡ false) × (self.new ≡ watched seen place calls self.old)) }
+        ensures err { OnErr result ((self.new.is_lost ≡ true) × SameJournal self.old self.new) }
+
+        // Where these are the calls of a look by the chains that it holds.
+        ensures keeps { (h : List AnEntry) → Legal M.rules h → Looks M.rules h seen calls self.old → Stands M.tables M.rules M.signer h self.old → Stands M.tables M.rules M.signer h self.new }
+    {
+        if self.is_lost {
+            return Err(NoMemory);
+        }
+        match self.watch_now(seen, place, calls) {
+            Err(NoMemory) => {
+                self.is_lost = true;
+                Err(NoMemory)
+            }
+            Ok(()) => Ok(()),
+        }
+    }
+
+    /// Its events, in the order of time.
+    pub fn journal(&self) -> &[Event]
+        ensures { result.now ≡ self.now.journal }
+    {
+        self.journal.as_slice()
+    }
+
+    /// The commands that it was given, one for each of their events, in order.
+    pub fn commands(&self) -> &[Command]
+        ensures { result.now ≡ self.now.commands }
+    {
+        self.commands.as_slice()
+    }
+}
