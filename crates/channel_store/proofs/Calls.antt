@@ -1,14 +1,13 @@
 -- What a call answers, by what is kept of its channel.
 use Rattle.std.proofs.Common.{◌≡◌, ℕ, ◌<◌, Bool, true, false, cond, List, length, Some, None, refl, sym, ◌∙◌, ap, subst}
-use Rattle.std.specs.Prelude.{Option, slice_set, slice_index_or}
-use Rattle.std.specs.List.{slice_get}
+use Rattle.std.specs.Prelude.{Option, slice_set}
 use Rattle.std.specs.Option.{option_map}
 use Rattle.std.proofs.lemmas.List.{set-get_or}
 use Rattle.std.proofs.lemmas.Option.{slice_get_within, get_or_from_slice_get}
 use Rattle.nitro_bytes.specs.declared.chain.Signed.{Signed}
 use Rattle.channel_model.specs.Rules.{Rules}
 use Rattle.channel_calls.specs.Marked.{Marked, marked_of, is_newer}
-use Rattle.channel_store.specs.Keeping.{note_fault, noting, with_chain, adopting, IsGoodKept, AreGood}
+use Rattle.channel_store.specs.Keeping.{note_fault, noting, with_chain, adopting, AreGood}
 use Rattle.channel_store.specs.Storing.{place_of, kept_of, kept_at, kept_with, refusal_at, refusal_of, fault_of, is_newer_at, is_adopted}
 use Rattle.channel_store.specs.declared.fault.NoteFault.{NoteFault}
 use Rattle.channel_store.specs.declared.fault.NoteFault.TheVariants as faults
@@ -17,20 +16,14 @@ use Rattle.channel_store.proofs.Good.{changed_good, noting_good, adopting_good}
 
 -- ---- notes
 
-pub unknown : (r : Rules) (channel : List ℕ) (next : Signed) (kept : List Kept) → None ≡ kept_of channel kept → faults.Unknown ≡ fault_of (refusal_of r channel next kept)
-unknown r channel next kept e = ap (λ (o : Option Kept). fault_of (refusal_at r next o)) e
+pub is_known : (r : Rules) (channel : List ℕ) (next : Signed) (kept : List Kept) → refusal_of r channel next kept ≡ None → None ≡ kept_of channel kept → ⊥
+is_known r channel next kept e f = let clash : Some faults.Unknown ≡ None = ap (refusal_at r next) f ∙ e in cc
 
-pub refused : (r : Rules) (channel : List ℕ) (next : Signed) (kept : List Kept) (k : Kept) (fault : NoteFault) → Some k ≡ kept_of channel kept → Some fault ≡ note_fault r k next
-    → fault ≡ fault_of (refusal_of r channel next kept)
-refused r channel next kept k fault e f = ap fault_of f ∙ ap (λ (o : Option Kept). fault_of (refusal_at r next o)) e
+pub passes_there : (r : Rules) (channel : List ℕ) (next : Signed) (kept : List Kept) (k : Kept) → refusal_of r channel next kept ≡ None → Some k ≡ kept_of channel kept → note_fault r k next ≡ None
+passes_there r channel next kept k e f = ap (refusal_at r next) f ∙ e
 
-pub passed : (r : Rules) (channel : List ℕ) (next : Signed) (kept : List Kept) (k : Kept) → Some k ≡ kept_of channel kept → None ≡ note_fault r k next
-    → refusal_of r channel next kept ≡ None
-passed r channel next kept k e f = ap (refusal_at r next) (sym e) ∙ sym f
-
-pub wants_memory : (r : Rules) (channel : List ℕ) (next : Signed) (kept : List Kept) (k : Kept) → Some k ≡ kept_of channel kept → None ≡ note_fault r k next
-    → faults.NoMemory ≡ fault_of (refusal_of r channel next kept)
-wants_memory r channel next kept k e f = ap fault_of (sym (passed r channel next kept k e f))
+pub told_fault : (refusal : Option NoteFault) (fault : NoteFault) → Some fault ≡ refusal → fault ≡ fault_of refusal
+told_fault refusal fault e = ap fault_of e
 
 pub noted_one : (r : Rules) (own : Bool) (channel : List ℕ) (next : Signed) (kept : List Kept) (k noted : Kept) → Some k ≡ kept_of channel kept → noted ≡ noting r own next k
     → option_map (noting r own next) (kept_of channel kept) ≡ Some noted

@@ -1,7 +1,7 @@
 -- What is kept stays the first round so far or a supported chain, and a chain is held exactly where it is supported.
 use Rattle.std.proofs.Common.{◌≡◌, ℕ, ◌<◌, ◌≤◌, Bool, true, false, cond, ◌&&◌, ◌||◌, not, List, [], ◌∷◌, ◌++◌, Some, None, inl, inr, length, refl, sym, ◌∙◌, ap, subst, arith}
 use Rattle.std.specs.Prelude.{Option, slice_set, nat_le, nat_lt, is_ok}
-use Rattle.std.specs.List.{All, slice_get, flat_map}
+use Rattle.std.specs.List.{slice_get, flat_map}
 use Rattle.std.proofs.lemmas.Bool.Decides.{nat_tests}
 use Rattle.std.proofs.lemmas.List.Elements.{All-nil, All-cons, All-head, All-tail, All-get_or, All-set, All-push, All-append}
 use Rattle.std.proofs.lemmas.Option.{slice_get_within, get_or_from_slice_get}
@@ -9,7 +9,7 @@ use Rattle.nitro_bytes.specs.Parts.{FixedParts}
 use Rattle.nitro_bytes.specs.declared.chain.Signed.{Signed}
 use Rattle.channel_model.specs.Rules.{Rules, people, top_turn}
 use Rattle.channel_model.specs.Support.{supports}
-use Rattle.channel_calls.specs.Marked.{Marked, nothing, marked_of, is_supported, answered, extends, is_newer}
+use Rattle.channel_calls.specs.Marked.{Marked, marked_of, is_supported, answered, extends, is_newer}
 use Rattle.channel_calls.specs.declared.held_chain.HeldChain.{HeldChain}
 use Rattle.chain_laws.proofs.Tests.{and-left, true-le, false-le}
 use Rattle.chain_laws.proofs.Chains.{parts}

@@ -67,21 +67,21 @@ impl Kept {
     }
 
     /// Whether the states of the held chain are all final.
-    fn is_ended(&self) -> bool
+    pub fn is_ended(&self) -> bool
         ensures { result ≡ is_ended self.now }
     {
         self.is_held() && are_final(self.chain.states.as_slice())
     }
 
     /// The newest state.
-    pub(crate) fn latest(&self) -> Option<&State>
+    pub fn latest(&self) -> Option<&State>
         ensures { option_map (λ m. m.now) result ≡ newest self.now.chain.states }
     {
         newest(self.chain.states.as_slice())
     }
 
     /// The turn that comes next.
-    pub(crate) fn next(&self) -> u64
+    pub fn next(&self) -> u64
         ensures { result ≡ next_of self.now }
     {
         match self.latest() {
@@ -91,7 +91,7 @@ impl Kept {
     }
 
     /// Whether the state follows from the newest one, if there is one.
-    fn follow(&self, state: &State) -> Result<(), StepFault>
+    pub fn follow(&self, state: &State) -> Result<(), StepFault>
         ensures { result_err result ≡ step_of real self.now state.now }
     {
         match self.latest() {

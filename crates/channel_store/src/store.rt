@@ -1,7 +1,7 @@
 //! The store of all channels of a participant.
 
-ghost use Rattle.std.specs.Prelude.{◌≡◌, ◌<◌, ◌≤◌, Some, None, IfOk, IfSome, MatchResult, ◌++◌, ◌∷◌, [], List, length, map, slice_set, find, option_and_then, true, false, OnOk, OnErr, IsNone};
-ghost use Rattle.std.specs.List.{flat_map, slice_get};
+ghost use Rattle.std.specs.Prelude.{◌≡◌, ◌<◌, ◌≤◌, Some, None, IfOk, IfSome, ◌++◌, ◌∷◌, [], List, length, map, slice_set, find, option_and_then, true, false, OnOk, OnErr, IsNone};
+ghost use Rattle.std.specs.List.{flat_map};
 ghost use Rattle.std.specs.Option.{option_map};
 ghost use Rattle.std.specs.Str.{bytes_eq};
 ghost use Rattle.std.specs.Result.{result_err};
@@ -11,7 +11,7 @@ ghost use Rattle.channel_model.specs.Rules.{people, newest};
 ghost use Rattle.support_chain.specs.Real.{real};
 ghost use Rattle.channel_calls.specs.Marked.{marked_of};
 ghost use Rattle.channel_store.specs.Keeping.{held_chain, known_state, place_in, next_of, noting, adopting, AreGood, AreSupported};
-ghost use Rattle.channel_store.specs.Storing.{place_of, kept_of, kept_with, added, refusal_of, fault_of, Notes, is_adopted, Adopts};
+ghost use Rattle.channel_store.specs.Storing.{place_of, kept_of, kept_with, added, refusal_of, Notes, is_adopted, Adopts};
 
 use crate::fault::NoteFault;
 use crate::kept::Kept;
@@ -173,30 +173,43 @@ impl Store {
         }
     }
 
-    /// What is kept of a channel with a state, or why it isn't noted; `own` says that the participant signed it.
-    #[tactic(auto, using(crate::proofs::Calls::unknown, crate::proofs::Calls::refused, crate::proofs::Calls::passed, crate::proofs::Calls::wants_memory, crate::proofs::Calls::noted_one))]
-    fn noted(&self, channel: &Name, signed: Signed, own: bool) -> Result<Kept, NoteFault>
-        ensures told { MatchResult result (λ k. refusal_of real channel.now signed self.now ≡ None)
-            (λ fault. fault ≡ fault_of (refusal_of real channel.now signed self.now)) }
-        ensures kept { IfOk result (λ k. option_map (noting real own signed) (kept_of channel.now self.now) ≡ Some k) }
+    /// What is kept of a channel with a state that passes; `own` says that the participant signed it.
+    #[tactic(auto, using(crate::proofs::Calls::is_known, crate::proofs::Calls::passes_there, crate::proofs::Calls::noted_one))]
+    fn noted(&self, channel: &Name, signed: Signed, own: bool) -> Result<Kept, NoMemory>
+        requires { refusal_of real channel.now signed self.now ≡ None }
+        ensures { IfOk result (λ k. option_map (noting real own signed) (kept_of channel.now self.now) ≡ Some k) }
     {
         let Some(k) = self.one(channel) else {
-            return Err(NoteFault::Unknown);
+            unreachable!();
         };
-        k.check(&signed)?;
-        let noted = k.noted(signed, own)?;
-        Ok(noted)
+        k.noted(signed, own)
+    }
+
+    /// Notes a state that passes the tests, with no test of it; `own` says that the participant signed it.
+    #[tactic(auto, using(crate::proofs::Calls::within, crate::proofs::Calls::noted_good, crate::proofs::Calls::noted_changes))]
+    pub fn note_checked(
+        &mut self,
+        channel: &Name,
+        signed: Signed,
+        own: bool,
+    ) -> Result<(), NoMemory>
+        requires { refusal_of real channel.now signed self.old ≡ None }
+        ensures ok { OnOk result (self.new ≡ kept_with (noting real own signed) channel.now self.old) }
+        ensures err { OnErr result (self.new ≡ self.old) }
+    {
+        let noted = self.noted(channel, signed, own)?;
+        let place = place_of(&self.kept, channel);
+        self.set(place, noted)
     }
 
     /// Notes a state; `own` says that the participant signed it.
-    #[tactic(auto, using(crate::proofs::Calls::wants_memory_of, crate::proofs::Calls::within, crate::proofs::Calls::noted_good, crate::proofs::Calls::noted_changes))]
+    #[tactic(auto, using(crate::proofs::Calls::told_fault, crate::proofs::Calls::wants_memory_of))]
     fn note_as(&mut self, channel: &Name, signed: Signed, own: bool) -> Result<(), NoteFault>
         ensures { Notes result (refusal_of real channel.now signed self.old)
             (kept_with (noting real own signed) channel.now self.old) self.old self.new }
     {
-        let noted = self.noted(channel, signed, own)?;
-        let place = place_of(&self.kept, channel);
-        self.set(place, noted)?;
+        self.check(channel, &signed)?;
+        self.note_checked(channel, signed, own)?;
         Ok(())
     }
 

@@ -1,6 +1,7 @@
 //! What a participant opened.
 
-ghost use Rattle.std.specs.Prelude.{◌≡◌};
+ghost use Rattle.std.specs.Prelude.{◌≡◌, ◌∷◌, []};
+ghost use Rattle.channel_calls.specs.Flows.{is_among};
 ghost use Rattle.funding_value.specs.Parts as parts;
 
 use nitro_bytes::{Listed, Name, Outcome};
@@ -74,6 +75,31 @@ impl Virtual {
             self.guarantor_a
         }
     }
+
+    fn is_guarantor(&self, name: &Name) -> bool
+        ensures { result ≡ is_among name.now (self.now.guarantor_a ∷ self.now.guarantor_b ∷ []) }
+    {
+        *name == self.guarantor_a || *name == self.guarantor_b
+    }
+
+    /// Whether it is a guarantor, the joint channel or the payment channel.
+    fn has_channel(&self, name: &Name) -> bool
+        ensures { result ≡ is_among name.now (parts.channels_of_virtual self.now) }
+    {
+        self.is_guarantor(name) || *name == self.joint || *name == self.channel
+    }
+
+    fn is_of_middle(&self, name: &Name) -> bool
+        ensures { result ≡ is_among name.now (self.now.guarantor_a ∷ self.now.guarantor_b ∷ self.now.joint ∷ []) }
+    {
+        self.is_guarantor(name) || *name == self.joint
+    }
+
+    fn is_of_end(&self, name: &Name) -> bool
+        ensures { result ≡ is_among name.now (parts.own_guarantor self.now ∷ self.now.joint ∷ self.now.channel ∷ []) }
+    {
+        *name == self.own_guarantor() || *name == self.joint || *name == self.channel
+    }
 }
 
 impl Part {
@@ -86,6 +112,58 @@ impl Part {
             Part::OnLedger(_, channel) => *channel,
             Part::End(v) => v.channel,
             Part::Middle(v) => v.channel,
+        }
+    }
+    /// Whether a channel is one of the part's.
+    pub fn has_channel(&self, name: &Name) -> bool
+        ensures { result ≡ is_among name.now (parts.channels_of self.now) }
+    {
+        match self {
+            Part::Root(channel) | Part::OnLedger(_, channel) => *name == *channel,
+            Part::End(v) | Part::Middle(v) => v.has_channel(name),
+        }
+    }
+
+    /// Whether a channel is one of the part's in which the person is a participant.
+    pub fn joins(&self, name: &Name) -> bool
+        ensures { result ≡ is_among name.now (parts.joined_of self.now) }
+    {
+        match self {
+            Part::Root(channel) | Part::OnLedger(_, channel) => *name == *channel,
+            Part::End(v) => v.is_of_end(name),
+            Part::Middle(v) => v.is_of_middle(name),
+        }
+    }
+
+    /// Whether the part stands on a ledger.
+    pub fn stands_on(&self, name: &Name) -> bool
+        ensures { result ≡ is_among name.now (parts.ledgers_of self.now) }
+    {
+        match self {
+            Part::Root(_) => false,
+            Part::OnLedger(ledger, _) => *name == *ledger,
+            Part::End(v) => *name == v.own_ledger(),
+            Part::Middle(v) => *name == v.ledger_a || *name == v.ledger_b,
+        }
+    }
+
+    /// The stage in which the part runs.
+    pub fn running(&self) -> u8
+        ensures { result ≡ parts.running self.now }
+    {
+        match self {
+            Part::Root(_) | Part::OnLedger(_, _) => 3,
+            Part::End(_) | Part::Middle(_) => 5,
+        }
+    }
+
+    /// The stage in which the part is closed.
+    pub fn closed(&self) -> u8
+        ensures { result ≡ parts.closed self.now }
+    {
+        match self {
+            Part::Root(_) | Part::OnLedger(_, _) => 6,
+            Part::End(_) | Part::Middle(_) => 9,
         }
     }
 }

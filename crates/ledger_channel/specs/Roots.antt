@@ -97,6 +97,11 @@ abbrev pub transfers_of : Direct → Option (List AssetOutcome) → Option (List
 transfers_of d (Some settled) (Some rest) = filter_map (transfer_in d settled rest) rest
 transfers_of d _ _ = []
 
+-- what is left, asset by asset
+abbrev pub left_of : Option (List AssetOutcome) → List AssetOutcome
+left_of None = []
+left_of (Some rest) = rest
+
 abbrev pub transfers : Direct → List Call
 transfers d = transfers_of d d.settled d.rest
 

@@ -342,10 +342,31 @@ impl<'a> DirectView<'a> {
         }
     }
 
-    /// What the stage calls.
-    pub(crate) fn calls(&self, alloc: Global) -> Result<Vec<Call>, NoMemory>
-        ensures { IfOk result (λ v. v.items ≡ rows.called_in (roots.root_rows self.now)) }
+    #[tactic(auto, using(crate::proofs::Fewer::outcome_is_few))]
+    fn opening_assets(&self) -> &[AssetOutcome]
+        ensures value { result.now ≡ self.now.channel.opening }
+        ensures few { length self.now.channel.opening ≤ 4 }
     {
+        self.opening.assets()
+    }
+
+    #[tactic(auto, using(crate::proofs::Fewer::outcome_is_few))]
+    fn left(&self) -> &[AssetOutcome]
+        ensures { length (roots.left_of self.now.rest) ≤ 4 }
+    {
+        match self.rest {
+            None => &[],
+            Some(rest) => rest.assets(),
+        }
+    }
+
+    /// What the stage calls: of each asset at most once.
+    pub(crate) fn calls(&self, alloc: Global) -> Result<Vec<Call>, NoMemory>
+        ensures value { IfOk result (λ v. v.items ≡ rows.called_in (roots.root_rows self.now)) }
+        ensures few { IfOk result (λ v. length v.items ≤ 4) }
+    {
+        let _opening = self.opening_assets();
+        let _left = self.left();
         self.calls_at(alloc, self.stage())
     }
 
