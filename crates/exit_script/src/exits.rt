@@ -1,6 +1,6 @@
 //! The calls of an exit, part by part.
 
-ghost use Rattle.std.specs.Prelude.{◌≡◌, ◌++◌, OnOk, IfOk};
+ghost use Rattle.std.specs.Prelude.{◌≡◌, ◌≤◌, ◌+◌, ◌*◌, ◌++◌, length, OnOk, IfOk};
 ghost use Rattle.std.specs.List.{flat_map};
 ghost use Rattle.funding_value.specs.Parts.{channels, channels_of, channels_of_virtual};
 ghost use Rattle.funding_value.specs.declared.plan.Part.TheVariants as parts;
@@ -8,7 +8,7 @@ ghost use Rattle.exit_script.specs.Calls as spelled;
 ghost use Rattle.exit_script.specs.Exits as exits;
 ghost use Rattle.exit_script.specs.Exits.{ended_in};
 
-use crate::assets::assets_of_part;
+use crate::assets::{assets_of, assets_of_part};
 use crate::claims::put_claim;
 use crate::fault::ExitFault;
 use crate::transfers::{put_root_transfers, put_transfer};
@@ -20,22 +20,6 @@ use std::alloc::Global;
 
 // ---- the calls of a part, of one asset
 
-fn put_root_calls(
-    calls: &mut Vec<Call>,
-    world: &WorldView,
-    me: &Name,
-    names: &[Name],
-    part: &Part,
-    asset: u32,
-) -> Result<(), NoMemory>
-    ensures { OnOk result (calls.new.items ≡ calls.old.items ++ spelled.root_calls (ended_in world.entry.now) me.now names.now part.now asset) }
-{
-    match part {
-        Part::Root(root) => put_root_transfers(calls, world, me, names, root, asset),
-        _ => Ok(()),
-    }
-}
-
 fn put_end_calls(
     calls: &mut Vec<Call>,
     world: &WorldView,
@@ -43,7 +27,8 @@ fn put_end_calls(
     v: &Virtual,
     asset: u32,
 ) -> Result<(), NoMemory>
-    ensures { OnOk result (calls.new.items ≡ calls.old.items ++ spelled.other_calls (ended_in world.entry.now) me.now (parts.End v.now) asset) }
+    ensures value { OnOk result (calls.new.items ≡ calls.old.items ++ spelled.other_calls (ended_in world.entry.now) me.now (parts.End v.now) asset) }
+    ensures few { OnOk result (length calls.new.items ≤ length calls.old.items + 3) }
 {
     let guarantor = v.own_guarantor();
     let own = Dest::Person(*me);
@@ -66,7 +51,8 @@ fn put_middle_calls(
     v: &Virtual,
     asset: u32,
 ) -> Result<(), NoMemory>
-    ensures { OnOk result (calls.new.items ≡ calls.old.items ++ spelled.other_calls (ended_in world.entry.now) me.now (parts.Middle v.now) asset) }
+    ensures value { OnOk result (calls.new.items ≡ calls.old.items ++ spelled.other_calls (ended_in world.entry.now) me.now (parts.Middle v.now) asset) }
+    ensures few { OnOk result (length calls.new.items ≤ length calls.old.items + 4) }
 {
     let channel = Dest::Channel(v.channel);
     let own = Dest::Person(*me);
@@ -83,7 +69,8 @@ fn put_other_calls(
     part: &Part,
     asset: u32,
 ) -> Result<(), NoMemory>
-    ensures { OnOk result (calls.new.items ≡ calls.old.items ++ spelled.other_calls (ended_in world.entry.now) me.now part.now asset) }
+    ensures value { OnOk result (calls.new.items ≡ calls.old.items ++ spelled.other_calls (ended_in world.entry.now) me.now part.now asset) }
+    ensures few { OnOk result (length calls.new.items ≤ length calls.old.items + 4) }
 {
     match part {
         Part::Root(_) => Ok(()),
@@ -102,13 +89,14 @@ fn put_root_of(
     world: &WorldView,
     me: &Name,
     names: &[Name],
-    part: &Part,
+    root: &Name,
     assets: &[u32],
 ) -> Result<(), NoMemory>
-    ensures { OnOk result (calls.new.items ≡ calls.old.items ++ flat_map (spelled.root_calls (ended_in world.entry.now) me.now names.now part.now) assets.now) }
+    ensures value { OnOk result (calls.new.items ≡ calls.old.items ++ flat_map (spelled.root_calls (ended_in world.entry.now) me.now names.now (parts.Root root.now)) assets.now) }
+    ensures few { OnOk result (length calls.new.items ≤ length calls.old.items + 17 * length assets.now) }
 {
     for asset in assets {
-        put_root_calls(calls, world, me, names, part, *asset)?;
+        put_root_transfers(calls, world, me, names, root, *asset)?;
     }
     Ok(())
 }
@@ -120,7 +108,8 @@ fn put_other_of(
     part: &Part,
     assets: &[u32],
 ) -> Result<(), NoMemory>
-    ensures { OnOk result (calls.new.items ≡ calls.old.items ++ flat_map (spelled.other_calls (ended_in world.entry.now) me.now part.now) assets.now) }
+    ensures value { OnOk result (calls.new.items ≡ calls.old.items ++ flat_map (spelled.other_calls (ended_in world.entry.now) me.now part.now) assets.now) }
+    ensures few { OnOk result (length calls.new.items ≤ length calls.old.items + 4 * length assets.now) }
 {
     for asset in assets {
         put_other_calls(calls, world, me, part, *asset)?;
@@ -136,10 +125,18 @@ fn put_root(
     names: &[Name],
     part: &Part,
 ) -> Result<(), NoMemory>
-    ensures { OnOk result (calls.new.items ≡ calls.old.items ++ spelled.of_each (ended_in world.entry.now) (spelled.root_calls (ended_in world.entry.now) me.now names.now) part.now) }
+    ensures value { OnOk result (calls.new.items ≡ calls.old.items ++ spelled.of_each (ended_in world.entry.now) (spelled.root_calls (ended_in world.entry.now) me.now names.now) part.now) }
+    ensures few { OnOk result (length calls.new.items ≤ length calls.old.items + 68) }
 {
-    let assets = assets_of_part(alloc, world, part)?;
-    put_root_of(calls, world, me, names, part, &assets)
+    match part {
+        Part::Root(root) => {
+            let assets = assets_of(alloc, world, &[*root])?;
+            put_root_of(calls, world, me, names, root, &assets)
+        }
+        Part::OnLedger(_, _) => Ok(()),
+        Part::End(_) => Ok(()),
+        Part::Middle(_) => Ok(()),
+    }
 }
 
 fn put_other(
@@ -149,7 +146,8 @@ fn put_other(
     me: &Name,
     part: &Part,
 ) -> Result<(), NoMemory>
-    ensures { OnOk result (calls.new.items ≡ calls.old.items ++ spelled.of_each (ended_in world.entry.now) (spelled.other_calls (ended_in world.entry.now) me.now) part.now) }
+    ensures value { OnOk result (calls.new.items ≡ calls.old.items ++ spelled.of_each (ended_in world.entry.now) (spelled.other_calls (ended_in world.entry.now) me.now) part.now) }
+    ensures few { OnOk result (length calls.new.items ≤ length calls.old.items + 32) }
 {
     let assets = assets_of_part(alloc, world, part)?;
     put_other_of(calls, world, me, part, &assets)
@@ -163,7 +161,8 @@ fn put_all_roots(
     names: &[Name],
     parts: &[Part],
 ) -> Result<(), NoMemory>
-    ensures { OnOk result (calls.new.items ≡ calls.old.items ++ flat_map (spelled.of_each (ended_in world.entry.now) (spelled.root_calls (ended_in world.entry.now) me.now names.now)) parts.now) }
+    ensures value { OnOk result (calls.new.items ≡ calls.old.items ++ flat_map (spelled.of_each (ended_in world.entry.now) (spelled.root_calls (ended_in world.entry.now) me.now names.now)) parts.now) }
+    ensures few { OnOk result (length calls.new.items ≤ length calls.old.items + 68 * length parts.now) }
 {
     for part in parts {
         put_root(calls, alloc, world, me, names, part)?;
@@ -178,7 +177,8 @@ fn put_all_others(
     me: &Name,
     parts: &[Part],
 ) -> Result<(), NoMemory>
-    ensures { OnOk result (calls.new.items ≡ calls.old.items ++ flat_map (spelled.of_each (ended_in world.entry.now) (spelled.other_calls (ended_in world.entry.now) me.now)) parts.now) }
+    ensures value { OnOk result (calls.new.items ≡ calls.old.items ++ flat_map (spelled.of_each (ended_in world.entry.now) (spelled.other_calls (ended_in world.entry.now) me.now)) parts.now) }
+    ensures few { OnOk result (length calls.new.items ≤ length calls.old.items + 32 * length parts.now) }
 {
     for part in parts {
         put_other(calls, alloc, world, me, part)?;
@@ -225,14 +225,19 @@ fn names_of(alloc: Global, parts: &[Part]) -> Result<Vec<Name>, NoMemory>
     Ok(names)
 }
 
-fn all_calls(alloc: Global, plan: &Plan, world: &WorldView) -> Result<Vec<Call>, NoMemory>
-    ensures { IfOk result (λ v. v.items ≡ spelled.exit_calls (ended_in world.entry.now) plan.now.me plan.now.parts) }
+fn all_calls(
+    alloc: Global,
+    world: &WorldView,
+    me: &Name,
+    parts: &[Part],
+) -> Result<Vec<Call>, NoMemory>
+    ensures value { IfOk result (λ v. v.items ≡ spelled.exit_calls (ended_in world.entry.now) me.now parts.now) }
+    ensures few { IfOk result (λ v. length v.items ≤ 100 * length parts.now) }
 {
-    let parts = plan.parts.as_slice();
     let names = names_of(alloc, parts)?;
     let mut calls = Vec::new(alloc);
-    put_all_roots(&mut calls, alloc, world, &plan.me, &names, parts)?;
-    put_all_others(&mut calls, alloc, world, &plan.me, parts)?;
+    put_all_roots(&mut calls, alloc, world, me, &names, parts)?;
+    put_all_others(&mut calls, alloc, world, me, parts)?;
     Ok(calls)
 }
 
@@ -276,18 +281,20 @@ fn first_not_final(world: &WorldView, chains: &[HeldChain], parts: &[Part]) -> O
     }
 }
 
-/// The calls of an exit, or the first channel of the plan that has a held chain and isn't final.
+/// The calls of an exit, at most a hundred of each part, or the first channel of the plan that has a held chain and isn't
+/// final.
 pub fn exit_calls(
     alloc: Global,
     plan: &Plan,
     view: &WorldView,
     chains: &[HeldChain],
 ) -> Result<Vec<Call>, ExitFault>
-    ensures { exits.Exits (λ v. v.items) result plan.now view.entry.now chains.now }
+    ensures value { exits.Exits (λ v. v.items) result plan.now view.entry.now chains.now }
+    ensures few { IfOk result (λ v. length v.items ≤ 100 * length plan.now.parts) }
 {
     if let Some(name) = first_not_final(view, chains, plan.parts.as_slice()) {
         return Err(ExitFault::NotFinal(name));
     }
-    let calls = all_calls(alloc, plan, view)?;
+    let calls = all_calls(alloc, view, &plan.me, plan.parts.as_slice())?;
     Ok(calls)
 }

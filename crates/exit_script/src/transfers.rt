@@ -1,6 +1,6 @@
 //! The transfers of an exit.
 
-ghost use Rattle.std.specs.Prelude.{◌≡◌, ◌++◌, OnOk, Some};
+ghost use Rattle.std.specs.Prelude.{◌≡◌, ◌≤◌, ◌+◌, ◌++◌, length, OnOk, Some};
 ghost use Rattle.std.specs.List.{flat_map};
 ghost use Rattle.std.specs.Option.{option_copied};
 ghost use Rattle.nitro_bytes.specs.declared.value.Dest.TheVariants.{Person};
@@ -20,7 +20,8 @@ fn put_transfer_of(
     to: &Dest,
     asset: u32,
 ) -> Result<(), NoMemory>
-    ensures { OnOk result (calls.new.items ≡ calls.old.items ++ spelled.transfer_if channel.now (Some ended.now) to.now asset) }
+    ensures value { OnOk result (calls.new.items ≡ calls.old.items ++ spelled.transfer_if channel.now (Some ended.now) to.now asset) }
+    ensures few { OnOk result (length calls.new.items ≤ length calls.old.items + 1) }
 {
     let items = items_in(ended, asset);
     if has(items, to) {
@@ -44,7 +45,8 @@ pub(crate) fn put_transfer(
     to: &Dest,
     asset: u32,
 ) -> Result<(), NoMemory>
-    ensures { OnOk result (calls.new.items ≡ calls.old.items ++ spelled.transfer_to (ended_in world.entry.now) channel.now to.now asset) }
+    ensures value { OnOk result (calls.new.items ≡ calls.old.items ++ spelled.transfer_to (ended_in world.entry.now) channel.now to.now asset) }
+    ensures few { OnOk result (length calls.new.items ≤ length calls.old.items + 1) }
 {
     match ended_in(world, channel) {
         None => Ok(()),
@@ -66,7 +68,8 @@ fn put_transfer_among(
     asset: u32,
     to: &Dest,
 ) -> Result<(), NoMemory>
-    ensures { OnOk result (calls.new.items ≡ calls.old.items ++ spelled.transfer_among (ended_in world.entry.now) root.now names.now asset to.now) }
+    ensures value { OnOk result (calls.new.items ≡ calls.old.items ++ spelled.transfer_among (ended_in world.entry.now) root.now names.now asset to.now) }
+    ensures few { OnOk result (length calls.new.items ≤ length calls.old.items + 1) }
 {
     match to {
         Dest::Person(_) => Ok(()),
@@ -88,7 +91,8 @@ fn put_transfers_among(
     asset: u32,
     items: &[Item],
 ) -> Result<(), NoMemory>
-    ensures { OnOk result (calls.new.items ≡ calls.old.items ++ flat_map (λ item. spelled.transfer_among (ended_in world.entry.now) root.now names.now asset item.to) items.now) }
+    ensures value { OnOk result (calls.new.items ≡ calls.old.items ++ flat_map (λ item. spelled.transfer_among (ended_in world.entry.now) root.now names.now asset item.to) items.now) }
+    ensures few { OnOk result (length calls.new.items ≤ length calls.old.items + length items.now) }
 {
     for item in items {
         put_transfer_among(calls, world, root, names, asset, &item.to)?;
@@ -97,7 +101,8 @@ fn put_transfers_among(
 }
 
 fn items_ended<'a>(ended: Option<&'a Outcome>, asset: u32) -> &'a [Item]
-    ensures { result.now ≡ spelled.items_ended (option_copied ended.entry) asset }
+    ensures value { result.now ≡ spelled.items_ended (option_copied ended.entry) asset }
+    ensures few { length result.now ≤ 16 }
 {
     match ended {
         None => &[],
@@ -105,7 +110,7 @@ fn items_ended<'a>(ended: Option<&'a Outcome>, asset: u32) -> &'a [Item]
     }
 }
 
-/// The transfers of a root to the channels that it names, in the items' order, then to the person.
+/// The transfers of a root to the channels that it names, in the items' order, then to the person: at most 17.
 pub(crate) fn put_root_transfers(
     calls: &mut Vec<Call>,
     world: &WorldView,
@@ -114,9 +119,10 @@ pub(crate) fn put_root_transfers(
     root: &Name,
     asset: u32,
 ) -> Result<(), NoMemory>
-    ensures { OnOk result (calls.new.items ≡ calls.old.items
+    ensures value { OnOk result (calls.new.items ≡ calls.old.items
         ++ (flat_map (λ item. spelled.transfer_among (ended_in world.entry.now) root.now names.now asset item.to) (spelled.items_ended (ended_in world.entry.now root.now) asset)
         ++ spelled.transfer_to (ended_in world.entry.now) root.now (Person me.now) asset)) }
+    ensures few { OnOk result (length calls.new.items ≤ length calls.old.items + 17) }
 {
     let items = items_ended(ended_in(world, root), asset);
     put_transfers_among(calls, world, root, names, asset, items)?;

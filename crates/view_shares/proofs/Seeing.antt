@@ -27,7 +27,7 @@ use Rattle.share_model.specs.Share.{share_of}
 use Rattle.share_model.specs.Funded.{is_funded}
 use Rattle.share_model.specs.Places as places
 use Rattle.share_model.specs.Places.{Order, plan, channels, possible_if, possible_after, last_made, possible, counting_of, counting_among, counting, balances, share}
-use Rattle.view_shares.specs.Seen.{held_seen, possible_seen, counting_seen, share_seen, is_funded_seen}
+use Rattle.plan_share.specs.Seen.{held_seen, possible_seen, counting_seen, share_seen, is_funded_seen}
 use Rattle.view_shares.specs.Laws.{IsKeptAt, AreKeptAt, ViewsTellShares}
 use mathlib.Core.Path.{fun_ext}
 

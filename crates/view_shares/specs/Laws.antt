@@ -16,7 +16,7 @@ use Rattle.channel_store.specs.declared.kept.Kept.{Kept}
 use Rattle.funding_value.specs.declared.plan.Plan.{Plan}
 use Rattle.share_model.specs.Funded.{is_funded}
 use Rattle.share_model.specs.Places.{Order, plan, channels, last_made, counting, balances, share}
-use Rattle.view_shares.specs.Seen.{counting_seen, share_seen, is_funded_seen}
+use Rattle.plan_share.specs.Seen.{counting_seen, share_seen, is_funded_seen}
 
 -- what is kept of a channel at a place: what is held of it there, and the last state that the participant signed
 pub record IsKeptAt (r : Rules) (past : List Entry) (front : List Line) (f : FixedParts) (k : Kept) : Type 0 where

@@ -1,4 +1,4 @@
-use Rattle.std.proofs.Common.{◌≡◌, ◌++◌, take}
+use Rattle.std.proofs.Common.{◌≡◌, ◌≤◌, ◌+◌, ◌*◌, ◌++◌, length, take}
 use Rattle.std.specs.List.{flat_map}
 use Rattle.exit_script.specs.Calls.{other_calls, of_each}
 use Rattle.exit_script.specs.Exits.{ended_in}
@@ -6,4 +6,5 @@ use Rattle.exit_script.proofs.exits.put_all_others.Given as goal
 
 abbrev pub invariant-loop-part : goal.invariant-loop-part
 invariant-loop-part l =
-    l.calls.items ≡ l.initial.calls.items ++ flat_map (of_each (ended_in l.world) (other_calls (ended_in l.world) l.me)) (take l.part-index l.parts)
+    (l.calls.items ≡ l.initial.calls.items ++ flat_map (of_each (ended_in l.world) (other_calls (ended_in l.world) l.me)) (take l.part-index l.parts))
+    × (length l.calls.items ≤ length l.initial.calls.items + 32 * l.part-index)

@@ -1,0 +1,10 @@
+-- The channels that count, one by one.
+use Rattle.std.proofs.Common.{◌≡◌, ℕ, List, [], ◌∷◌, Option, Some, None, refl}
+use Rattle.nitro_bytes.specs.declared.value.AssetOutcome.{AssetOutcome}
+use Rattle.share_model.specs.Places.{listed, counting_of}
+
+-- one outcome, and a proposal if there is one
+pub counting_of_both : (channel : List ℕ) (o : List AssetOutcome) (p : Option (List AssetOutcome)) →
+    counting_of channel (o ∷ listed p) ≡ record { channel = channel; outcome = o; proposal = p } ∷ []
+counting_of_both channel o None = refl
+counting_of_both channel o (Some p) = refl
