@@ -1,12 +1,12 @@
 //! The world, one happening after another.
 
-ghost use Rattle.std.specs.Prelude.{◌≡◌, ◌≤◌, ◌<◌, ◌-◌, ◌^◌, ◌==◌, ◌||◌, true, length, IfOk, IfSome, OnOk, OnErr, IsErr, IsTrue, slice_get};
+ghost use Rattle.std.specs.Prelude.{◌≡◌, ◌≤◌, ◌<◌, ◌-◌, ◌^◌, true, length, IfOk, IfSome, OnOk, OnErr, IsErr, slice_get};
 ghost use Rattle.std.specs.List.{position};
 ghost use Rattle.std.specs.Option.{option_map};
 ghost use Rattle.channel_calls.specs.History.{Legal, newest_first};
 ghost use Rattle.channel_calls.specs.declared.call.Op.TheVariants as ops;
 ghost use Rattle.support_chain.specs.Real.{real};
-ghost use Rattle.net_party.specs.Ways.{quiet};
+ghost use Rattle.net_party.specs.Ways.{IsFresh, quiet};
 ghost use Rattle.net_world.specs.Entered.{entered, oldest_first};
 ghost use Rattle.net_world.specs.Worlds.{WorldOf, new_world, place_of, member, happened, given, most_calls, joined, journal};
 ghost use Rattle.net_world.specs.declared.happening.Happening.TheVariants as happenings;
@@ -17,6 +17,7 @@ use crate::member::Member;
 use channel_calls::{Call, Entry, Event, Op};
 use net_party::{Command, Outs, Party, no_outs};
 use nitro_bytes::{Listed, NoMemory};
+use sign_index::Signer;
 use std::alloc::Global;
 use std::marker::Model;
 
@@ -64,6 +65,13 @@ impl<P: Party, D: Docket> World<P, D> {
         self.docket.into_entries()
     }
 
+    /// The nodes with their watchers, in the order in which they joined.
+    pub fn members(&self) -> &[Member<P>]
+        ensures { result.now ≡ self.now.members }
+    {
+        self.members.as_slice()
+    }
+
     /// The journal of the node of this number, or nothing.
     pub fn journal(&self, number: u32) -> &[Event]
         ensures { result.now ≡ journal P.ways self.now number }
@@ -83,18 +91,12 @@ impl<P: Party, D: Docket> World<P, D> {
             .position(|m| m.node().number() == number)
     }
 
-    /// A new node joins, with so many watchers.
-    pub fn join(
-        &mut self,
-        number: u32,
-        seed: [u8; 32],
-        h: u8,
-        watchers: u32,
-    ) -> Result<(), NoMemory>
-        requires { IsTrue (h == 5 || h == 10) }
-        ensures { OnOk result (self.new ≡ joined P.ways number seed h watchers self.old) }
+    /// A new node joins, which signs with this signer, and with so many watchers.
+    pub fn join(&mut self, number: u32, signer: Signer, watchers: u32) -> Result<(), NoMemory>
+        requires { IsFresh signer }
+        ensures { OnOk result (self.new ≡ joined P.ways number signer watchers self.old) }
     {
-        let member = Member::make(self.alloc, number, seed, h, watchers)?;
+        let member = Member::make(self.alloc, number, signer, watchers)?;
         self.members.push(member)?;
         Ok(())
     }
@@ -119,7 +121,7 @@ impl<P: Party, D: Docket> World<P, D> {
     fn command(&mut self, number: u32, step: u32, command: Command) -> Result<Outs, NoMemory>
         ensures made { OnOk result (self.new ≡ happened P.ways (happenings.Command number step command) self.old) }
         ensures given { IfOk result (λ outs. outs ≡ given P.ways (happenings.Command number step command) self.old) }
-        ensures few { IfOk result (λ outs. length outs.calls ≤ 8192) }
+        ensures few { IfOk result (λ outs. length outs.calls ≤ 32768) }
     {
         let alloc = self.alloc;
         let Some(place) = self.place_of(number) else {
@@ -142,7 +144,7 @@ impl<P: Party, D: Docket> World<P, D> {
     fn tick(&mut self, number: u32) -> Result<Outs, NoMemory>
         ensures made { OnOk result (self.new ≡ happened P.ways (happenings.Tick number) self.old) }
         ensures given { IfOk result (λ outs. outs ≡ given P.ways (happenings.Tick number) self.old) }
-        ensures few { IfOk result (λ outs. length outs.calls ≤ 8192) }
+        ensures few { IfOk result (λ outs. length outs.calls ≤ 32768) }
     {
         let Some(place) = self.place_of(number) else {
             return Ok(no_outs(self.alloc));

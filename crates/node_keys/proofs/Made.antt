@@ -1,12 +1,14 @@
 -- A made signature verifies.
-use Rattle.node_keys.specs.Keys.{signing_of, MadeKeysSignWell, MadeNodesAreHonest}
+use Rattle.node_keys.specs.Keys.{MadeKeysSignWell, MadeNodesAreHonest}
+use Rattle.node_model.specs.Playing.{signing_of}
 use Rattle.node_laws.proofs.Calling.{standing_nodes_are_honest}
 use Rattle.sign_index.proofs.Signers.{made_is_signed}
 use Rattle.support_chain.specs.Real.{real}
 
 pub made_keys_sign_well : MadeKeysSignWell
-made_keys_sign_well seed id h sixteen height index message below = made_is_signed seed id h index message sixteen height below
+unfolding signing_of
+made_keys_sign_well s sound index message below = made_is_signed s.seed s.id s.h index message sound.sixteen sound.height below
 
 pub made_nodes_are_honest : MadeNodesAreHonest
-made_nodes_are_honest t seed id h history n sixteen height legal stands =
-    standing_nodes_are_honest t real (signing_of seed id h) history n (made_keys_sign_well seed id h sixteen height) legal stands
+unfolding signing_of
+made_nodes_are_honest t h n sound legal stands = standing_nodes_are_honest t real (signing_of n.signer) h n (made_keys_sign_well n.signer sound) legal stands

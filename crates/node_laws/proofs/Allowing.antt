@@ -25,10 +25,10 @@ use Rattle.channel_store.specs.Keeping.{is_ended, next_of, step_after, step_of}
 use Rattle.channel_store.specs.Storing.{kept_of}
 use Rattle.channel_store.specs.declared.kept.Kept.{Kept}
 use Rattle.chain_laws.proofs.Tests.{some-eq, none-eq, and-left, and-right, and-both, not-false, eqb-true, clash}
-use Rattle.net_model.specs.Journals.{In, Line, opened, opens, some_if, made_in, told_in, noted_in, is_challenge}
+use Rattle.net_model.specs.Journals.{In, Line, opened, opens, some_if, made_in, told_in, noted_in}
 use Rattle.node_model.specs.Openings.{opened_by, ledgers_for, takes_part, adds, are_apart}
 use Rattle.node_model.specs.Minds.{Mind, facts_of}
-use Rattle.node_model.specs.Refusing.{is_open, stands_in, not_open, unfinished, stage_of, state_refusal, message_refusal, is_planned, are_new, can_open, are_planned, open_refusal, command_refusal, wish, follows, can_sign, if_signable, signs_of, signs_in}
+use Rattle.node_model.specs.Refusing.{is_open, stands_in, not_open, unfinished, has_left, stage_of, state_refusal, message_refusal, is_planned, are_new, can_open, are_planned, open_refusal, command_refusal, wish, follows, can_sign, if_signable, signs_of, signs_in}
 use Rattle.node_model.specs.Tables.{Tables}
 use Rattle.node_model.specs.Playing.{Signing, SignsWell, Allowed}
 use Rattle.net_party.specs.declared.command.Command.{Command}
@@ -243,7 +243,7 @@ module _ (ts : Tables) (r : Rules) (s : Signing) (signs-well : SignsWell r s) (p
   }
     where
       line6 : Option NodeRefusal
-      line6 = fault_if (not (ts.accepts (facts_of m) message.0 message.1.state)) (NotWanted (stage_of ts (facts_of m) (ts.asked (facts_of m) message.0)))
+      line6 = has_left m ⊳ fault_if (not (ts.accepts (facts_of m) message.0 message.1.state)) (NotWanted (stage_of ts (facts_of m) (ts.asked (facts_of m) message.0)))
 
       line5 : Option NodeRefusal
       line5 = fault_if (is_some (step_of r k message.1.state)) NotAStep
@@ -299,10 +299,10 @@ module _ (ts : Tables) (r : Rules) (s : Signing) (signs-well : SignsWell r s) (p
   open-new command e = and-right (ts.fits (facts_of m) command) (are_new m (map r.named (opened_by command))) can
     where
       line4 : Option NodeRefusal
-      line4 = fault_if (nat_lt 64 (length (channels m.parts) + length (opened_by command))) (TooMany (length (channels m.parts)))
+      line4 = unfinished ts (facts_of m) ⊳ fault_if (nat_lt 64 (length (channels m.parts) + length (opened_by command))) (TooMany (length (channels m.parts)))
 
       line3 : Option NodeRefusal
-      line3 = unfinished ts (facts_of m)
+      line3 = has_left m
 
       line2 : Option NodeRefusal
       line2 = fault_if (not (can_open ts r m command)) NotAStep
@@ -329,7 +329,7 @@ module _ (ts : Tables) (r : Rules) (s : Signing) (signs-well : SignsWell r s) (p
       → (g : FixedParts) → In g (opened (record { seen = seen; deed = deed; adds = adds s.key command })) → OpensNew r m s.key command
   opens-new seen (deeds.Commanded step None) (Some command) allowed g i =
       let inside : In g (opened_by command) = filter-in (takes_part s.key) g (opened_by command) i in
-      record { command = command; is = refl; new = new-of command allowed.1.1 g inside }
+      record { command = command; is = refl; new = new-of command allowed.1 g inside }
   opens-new seen (deeds.Commanded step None) None allowed g i = absurd i
   opens-new seen (deeds.Commanded step (Some refusal)) command allowed g i = absurd i
   opens-new seen (deeds.Handled bytes refusal) command allowed g i = absurd i
@@ -352,12 +352,3 @@ module _ (ts : Tables) (r : Rules) (s : Signing) (signs-well : SignsWell r s) (p
           (map-in r.named found.0 (opened_by o.command) inside)) in
           subst (λ (x : List ℕ). kept_of x m.kept ≡ None) (same_bytes (r.named found.0) c found.2)
           (none-of (kept_of (r.named found.0) m.kept) (or-left (is_some (kept_of (r.named found.0) m.kept)) (is_among (r.named found.0) (channels m.parts)) free))
-
--- no challenge is signed
-pub no-challenge : (ts : Tables) (r : Rules) (s : Signing) (past : List Entry) (m : Mind) (used : ℕ) (waits : Option Command) (deed : Deed) (command : Option Command) → Allowed ts r s past m used waits deed command → is_challenge deed ≡ false
-no-challenge ts r s past m used waits (deeds.SignedChallenge channel state who signature) command allowed = absurd allowed
-no-challenge ts r s past m used waits (deeds.Commanded step refusal) command allowed = refl
-no-challenge ts r s past m used waits (deeds.Handled bytes refusal) command allowed = refl
-no-challenge ts r s past m used waits (deeds.Signed name state signature) command allowed = refl
-no-challenge ts r s past m used waits (deeds.Called call) command allowed = refl
-no-challenge ts r s past m used waits (deeds.Watched watcher calls) command allowed = refl

@@ -33,13 +33,14 @@ use Rattle.chain_laws.proofs.Growing.{noted-good}
 use Rattle.history_laws.proofs.Opening.{held-good}
 use Rattle.history_laws.proofs.Places.{made-noted, made-not_watched, noted-not_watched, held-at}
 use Rattle.history_laws.proofs.Rowing.{legal-suffix}
-use Rattle.chain_laws.proofs.Tests.{some-eq, none-eq, and-left, and-both, eqb-true, true-le, cond-true}
+use Rattle.chain_laws.proofs.Tests.{some-eq, none-eq, and-left, and-both, eqb-true, le-true, true-le, cond-true}
 use Rattle.net_model.specs.Journals.{In, Line, opened, opens, made_in, noted_in, is_watched, is_followed, is_challenge}
 use Rattle.net_party.specs.declared.command.Command.{Command}
 use Rattle.net_model.specs.Held.{IsGood, IsGoodIfAny, note, held}
 use Rattle.net_model.specs.Honest.{key_at, EndsWith, HonestAt, HonestLine, HonestIn}
 use Rattle.node_model.specs.Minds.{Mind, facts_of}
 use Rattle.node_model.specs.Places.{Told, line_of, lines_of, mind_at, AreFew}
+use Rattle.node_model.specs.Leaving.{ChallengesWith}
 use Rattle.node_model.specs.Tables.{Tables}
 use Rattle.node_model.specs.Refusing.{is_open, stands_in}
 use Rattle.node_model.specs.Playing.{Signing, SignsWell, signings, pending, Allowed, PlaysEvent, Plays}
@@ -48,7 +49,8 @@ use Rattle.node_model.specs.Openings.{opened_by, place_among, adds}
 use Rattle.node_laws.proofs.Agreeing.{IsOwn, Agree, among, filtered}
 use Rattle.node_laws.proofs.Standing.{known}
 use Rattle.node_laws.proofs.Reaching.{Reaches, reaches-later}
-use Rattle.node_laws.proofs.Allowing.{Extends, SignsOwn, made-own, noted-extends, opens-none, no-challenge}
+use Rattle.node_laws.proofs.Allowing.{Extends, SignsOwn, made-own, noted-extends, opens-none}
+use Rattle.node_laws.proofs.Leaving.{exited, exited-older, stays, left-is, FromHeld, from-held, made-staying, no-challenge}
 
 -- ---- lists
 
@@ -78,6 +80,14 @@ find-In p (z ∷ xs) x e = go (p z) (find-In p xs x) e
     go : (b : Bool) → (find p xs ≡ Some x → In x xs) → cond b (Some z) (find p xs) ≡ Some x → In x (z ∷ xs)
     go true rest e = inl (sym (some-eq z x e))
     go false rest e = inr (rest e)
+
+-- a held chain of what is kept is among the held chains
+pub held-in-chains : (channel : List ℕ) (kept : List Kept) (k : Kept) → kept_of channel kept ≡ Some k → is_held k ≡ true → In (record { channel = k.channel; chain = k.chain }) (flat_map held_chain kept)
+held-in-chains channel kept k is full =
+    In-flat_map held_chain k shown kept (find-In (is_of channel) kept k (sym (found_at_place (is_of channel) kept) ∙ is)) (subst (λ (b : Bool). In shown (cond b (shown ∷ []) [])) (sym full) (inl refl))
+  where
+    shown : HeldChain
+    shown = record { channel = k.channel; chain = k.chain }
 
 in-adds : (b : Bool) (fs : List FixedParts) (f : FixedParts) → In f (cond b fs []) → In f fs
 in-adds true fs f i = i
@@ -248,7 +258,33 @@ module _ (ts : Tables) (r : Rules) (s : Signing) (signs-well : SignsWell r s) (f
       record { chain = answered f t n.w; is = n.next; ends = a.ends; chain_supported = a.chain full }
 
   challenges-part : (z : StateParts) (who : ℕ) (signature : List ℕ) → x.deed ≡ deeds.SignedChallenge (r.named f) z who signature → EndsWith r f st z
-  challenges-part z who signature e = absurd (subst (λ (d : Deed). Allowed ts r s past m (signings front) (pending front) d x.command) e allowed)
+  challenges-part z who signature e = at own (from-held m (r.named f) own.0 own.1)
+    where
+      own : ChallengesWith m (r.named f) z who
+      own = (subst (λ (d : Deed). Allowed ts r s past m (signings front) (pending front) d x.command) e allowed).1
+
+      at : (o : ChallengesWith m (r.named f) z who) → FromHeld m (r.named f) o.0 → EndsWith r f st z
+      at o from = record {
+        chain = marked_of from.k.chain;
+        is = keeps.is;
+        ends = from.ends ∙ ap (λ (y : StateParts). Some y) o.2;
+        chain_supported = which (held-is-good (marked_of from.k.chain) keeps.is some);
+      }
+        where
+          keeps : Holds r s.key f lines from.k st
+          keeps = holds-kept from.k from.is
+
+          some : 1 ≤ people f
+          some = subst (λ (g : FixedParts). 1 ≤ people g) keeps.fixed (let i : from.k.me < length from.k.chain.fixed.keys = get-within from.k.chain.fixed.keys from.k.me s.key keeps.own.mine in omega arith)
+
+          which : IsGood r f (marked_of from.k.chain) → is_supported r f (marked_of from.k.chain) ≡ true
+          which (inr supp) = supp
+          which (inl y) =
+              let few : length from.k.chain.states < people f = y.few in
+              let marks : length from.k.chain.marks ≡ length from.k.chain.states = y.marks in
+              let all : people from.k.chain.fixed ≤ length from.k.chain.marks = le-true (people from.k.chain.fixed) (length from.k.chain.marks) from.full in
+              let same : people from.k.chain.fixed ≡ people f = ap people keeps.fixed in
+              absurd (omega arith)
 
   looks-part : (watcher : ℕ) (calls : List Call) (w : Marked) → x.deed ≡ deeds.Watched watcher calls → st ≡ Some w → is_supported r f w ≡ true
       → mode r (r.named f) past ≡ Challenged → (row r (r.named f) past).turn < top_turn w.states → In (Checkpoint (chain_of f w)) calls
@@ -282,8 +318,7 @@ module _ (ts : Tables) (r : Rules) (s : Signing) (signs-well : SignsWell r s) (f
       shown = record { channel = k.channel; chain = k.chain }
 
       in-chains : In shown (flat_map held_chain m.kept)
-      in-chains = In-flat_map held_chain k shown m.kept (find-In (is_of (r.named f)) m.kept k (sym (found_at_place (is_of (r.named f)) m.kept) ∙ found.1))
-          (subst (λ (b : Bool). In shown (cond b (shown ∷ []) [])) (sym full) (inl refl))
+      in-chains = held-in-chains (r.named f) m.kept k found.1 full
 
       stale : is_below r past shown ≡ true
       stale = and-both (is_challenged (mode r k.channel past)) (nat_lt (row r k.channel past).turn (top_turn k.chain.states))
@@ -381,15 +416,24 @@ honest-line ts r s signs-well f h legal x front ev plays one =
             let told = In-lines s.key y front i in
             subst (λ (z : Line). is_challenge z.deed ≡ false) (sym told.2) (none-challenged told.0 (split_of told.0 front told.1))
           where
+            -- no exit was accepted before what is signed, so none was before what is older
+            none-exited : exited front ≡ false
+            none-exited =
+                sym (left-is ts r s h x front ev past len)
+                ∙ made-staying ts r s past (mind_at r s.key past front) (signings front) (pending front) (r.named f) x.deed x.command t allowed e
+
             none-challenged : (z : Told) → Split z front → is_challenge z.deed ≡ false
             none-challenged z sp = by (plays-at ts r s h sp.newer z sp.front (subst (Plays ts r s h) sp.is plays))
               where
+                none-older : exited sp.front ≡ false
+                none-older = exited-older sp.newer z sp.front (sym (ap exited sp.is) ∙ none-exited)
+
                 by : PlaysEvent ts r s h z sp.front → is_challenge z.deed ≡ false
                 by ev = (let su = suffix_of h z.seen ev.within in
                     challenge-free su.past (ev.place su.later su.past su.is su.len).1)
                   where
                     challenge-free : (past : List Entry) → Allowed ts r s past (mind_at r s.key past sp.front) (signings sp.front) (pending sp.front) z.deed z.command → is_challenge z.deed ≡ false
-                    challenge-free past a = no-challenge ts r s past (mind_at r s.key past sp.front) (signings sp.front) (pending sp.front) z.deed z.command a
+                    challenge-free past a = no-challenge ts r s past (mind_at r s.key past sp.front) (signings sp.front) (pending sp.front) z.deed z.command a (stays r s.key past sp.front none-older)
 
 pub honest-in : (ts : Tables) (r : Rules) (s : Signing) → SignsWell r s → (f : FixedParts) (h : List Entry) → Legal r h → (journal : List Told) → Plays ts r s h journal → OneFixed r f (lines_of s.key journal)
     → HonestIn r s.key f h (lines_of s.key journal)

@@ -1,9 +1,12 @@
 -- What the calls of a node make of it stands.
-use Rattle.node_model.specs.Nodes.{told_of, handled, ticked, gave_one, gave_all, told_to, saw_one, watched}
+use Rattle.node_model.specs.Giving.{after_tick}
+use Rattle.node_model.specs.Leaving.{MayCall}
+use Rattle.node_model.specs.Nodes.{told_of, handled, ticked, challenged_all, gave_one, gave, told_to, saw_one, watched}
 use Rattle.node_laws.specs.Laws.{CallsKeepStanding, FollowsWithin, FreshNodesStand, LostNodesStand, StandingGrows, StandingNodesAreHonest}
-use Rattle.node_laws.proofs.Keepers.{waiting, standing, handles, ticks, gives, gives-all, sees, loses, stands-fresh, grows, within}
+use Rattle.node_laws.proofs.Keepers.{waiting, standing, handles, ticks, challenges, gives, gives-all, sees, loses, stands-fresh, grows, within}
 use Rattle.node_laws.proofs.Once.{played_journals_are_honest}
 use Rattle.node_laws.proofs.Paying.{tells}
+use Rattle.node_laws.proofs.Ticking.{each-in, ticks-all}
 use Rattle.node_laws.proofs.Watching.{watches}
 
 pub calls_keep_standing : CallsKeepStanding
@@ -11,16 +14,18 @@ calls_keep_standing t r s h n legal kept st =
     let w = waiting t r s h legal n kept st in
     record {
       handles = λ bytes. standing t r s h legal (handled t r bytes n) (handles t r s h legal n bytes w);
-      tells = λ step command stays. standing t r s h legal (told_to t r s step command n) (tells t r s h legal n step command stays w);
+      tells = λ step command. standing t r s h legal (told_to t r s step command n) (tells t r s h legal n step command w);
       ticks = λ channels. standing t r s h legal (ticked t r s channels n) (ticks t r s h legal channels n w);
-      gives = λ call inside. standing t r s h legal (gave_one n call) (gives t r s h legal n call inside w);
-      gives_all = standing t r s h legal (gave_all t n) (gives-all t r s h legal n w);
+      challenges = λ channels. standing t r s h legal (challenged_all r s channels n) (challenges t r s h legal channels n w);
+      gives = λ call may. standing t r s h legal (gave_one n call) (gives t r s h legal n call may w);
+      gives_all = λ calls all. standing t r s h legal (gave calls n) (gives-all t r s h legal calls n (each-in (MayCall t n.mind) calls all) w);
+      ticks_all = standing t r s h legal (after_tick t r s n) (ticks-all t r s h legal n w);
       watches = λ seen watcher given looks. standing t r s h legal (watched seen watcher given n) (watches t r s h legal n seen watcher given looks w);
       sees = λ e next. standing t r s h legal (saw_one r n e) (sees t r s h legal n e next w);
     }
 
 pub fresh_nodes_stand : FreshNodesStand
-fresh_nodes_stand t r s h = stands-fresh t r s h
+fresh_nodes_stand t r signer h = stands-fresh t r signer h
 
 pub lost_nodes_stand : LostNodesStand
 lost_nodes_stand t r s h n new lost journal commands st = loses t r s h n new lost journal commands st

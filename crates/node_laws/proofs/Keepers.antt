@@ -3,11 +3,12 @@ use Rattle.std.proofs.Common.{◌≡◌, ℕ, suc, ◌+◌, ◌<◌, ◌≤◌, 
 use Rattle.std.specs.Prelude.{Option, Some, None, nat_lt}
 use Rattle.std.proofs.lemmas.List.{length-append}
 use Rattle.nitro_bytes.specs.Parts.{FixedParts, StateParts}
-use Rattle.channel_name.specs.Messages.{message_of_state}
+use Rattle.channel_name.specs.Messages.{message_of_state, message_of_challenge}
 use Rattle.channel_model.specs.Rules.{Rules}
 use Rattle.channel_calls.specs.History.{Legal}
 use Rattle.channel_calls.specs.Reading.{message_of}
 use Rattle.channel_calls.specs.declared.call.Call.{Call}
+use Rattle.channel_calls.specs.declared.call.Call.TheVariants.{Deposit, Challenge, Respond, Refute, Checkpoint, Conclude, Transfer, Claim}
 use Rattle.channel_calls.specs.declared.entry.Entry.{Entry}
 use Rattle.channel_calls.specs.declared.event.Deed.TheVariants as deeds
 use Rattle.channel_calls.specs.declared.event.Event.{Event}
@@ -15,12 +16,13 @@ use Rattle.chain_laws.proofs.Lists.{append_assoc'}
 use Rattle.history_laws.proofs.Rowing.{legal-suffix}
 use Rattle.chain_laws.proofs.Tests.{lt-true}
 use Rattle.net_model.specs.Journals.{In, is_watched}
-use Rattle.node_model.specs.Minds.{Mind, facts_of, fresh, saw, did}
+use Rattle.node_model.specs.Minds.{Mind, saw, called, did}
+use Rattle.node_model.specs.Leaving.{OwnChallenge, challenge_in, IsOwnChallenge, MayCall}
 use Rattle.node_model.specs.Tables.{Tables}
-use Rattle.node_model.specs.Refusing.{message_refusal, leaves, command_refusal, signs_in}
+use Rattle.node_model.specs.Refusing.{message_refusal, command_refusal, signs_in}
 use Rattle.node_model.specs.Places.{Told, tell, told, mind_at, AreFew}
-use Rattle.node_model.specs.Playing.{Signing, is_signed, signings, payment_in, pending, Allowed, PlaysEvent, Plays}
-use Rattle.node_model.specs.Nodes.{NodeOf, told_of, Knows, Stands, handled, signed, signed_if, ticked, gave_one, gave, gave_all, asked, saw_one, ComesNext}
+use Rattle.node_model.specs.Playing.{Signing, SignerOf, signing_of, is_signed, signings, payment_in, pending, Allowed, PlaysEvent, Plays}
+use Rattle.node_model.specs.Nodes.{NodeOf, new_node, told_of, Knows, Stands, handled, signed, signed_if, ticked, challenged, challenged_if, challenged_all, gave_one, gave, asked, saw_one, ComesNext}
 use Rattle.net_party.specs.declared.command.Command.{Command}
 use Rattle.node_laws.proofs.Standing.{known}
 use Rattle.node_laws.proofs.Places.{mind-event, mind-entry, told-event, told-command}
@@ -151,26 +153,58 @@ module _ (ts : Tables) (r : Rules) (s : Signing) (h : List Entry) (legal : Legal
   ticks [] n w = w
   ticks (channel ∷ channels) n w = ticks channels (signed_if r s channel (signs_in ts r None n.mind channel) n) (signs-if n channel (signs_in ts r None n.mind channel) refl w)
 
-  -- a call that its stages give, and all of them
-  pub gives : (n : NodeOf) (call : Call) → In call (ts.calls (facts_of n.mind)) → Waits n None → Waits (gave_one n call) None
+  -- a challenge with the chain that it holds
+  challenges-one : (n : NodeOf) (channel : List ℕ) (c : OwnChallenge) → challenge_in n.mind channel ≡ Some c → n.used < s.limit → Waits n None → Waits (challenged r s channel c n) None
+  challenges-one n channel c is below w =
+      writes n None (tell x None) (challenged r s channel c n) w (record { told = told-event n.journal x n.commands refl; here = refl; mind = refl; used = refl }) (λ past. (refl, (c, is, refl, refl), below, refl))
+    where
+      x : Event
+      x = record { seen = n.mind.view.count; deed = deeds.SignedChallenge channel c.state c.who (s.made n.used (message_of_challenge (r.digest channel c.state) c.who)) }
+
+  challenges-if : (n : NodeOf) (channel : List ℕ) (o : Option OwnChallenge) → challenge_in n.mind channel ≡ o → Waits n None → Waits (challenged_if r s channel o n) None
+  challenges-if n channel None is w = w
+  challenges-if n channel (Some c) is w = go (nat_lt n.used s.limit) refl
+    where
+      go : (b : Bool) → nat_lt n.used s.limit ≡ b → Waits (cond b (challenged r s channel c n) n) None
+      go true e = challenges-one n channel c is (lt-true n.used s.limit e) w
+      go false e = w
+
+  pub challenges : (channels : List (List ℕ)) (n : NodeOf) → Waits n None → Waits (challenged_all r s channels n) None
+  challenges [] n w = w
+  challenges (channel ∷ channels) n w = challenges channels (challenged_if r s channel (challenge_in n.mind channel) n) (challenges-if n channel (challenge_in n.mind channel) refl w)
+
+  -- a call that it may give, and some of them
+  pub gives : (n : NodeOf) (call : Call) → MayCall ts n.mind call → Waits n None → Waits (gave_one n call) None
   gives n call inside w = writes n None (tell x None) (gave_one n call) w (record { told = told-event n.journal x n.commands refl; here = refl; mind = refl; used = refl }) (λ past. (refl, inside))
     where
       x : Event
       x = record { seen = n.mind.view.count; deed = deeds.Called call }
 
-  gives-each : (cs : List Call) (n : NodeOf) → ((call : Call) → In call cs → In call (ts.calls (facts_of n.mind))) → Waits n None → Waits (gave cs n) None
-  gives-each [] n inside w = w
-  gives-each (call ∷ cs) n inside w = gives-each cs (gave_one n call) (λ c i. inside c (inr i)) (gives n call (inside call (inl refl)) w)
+  -- what it may give doesn't hang on what it gave
+  may-later : (call c : Call) (m : Mind) → MayCall ts m c → MayCall ts (called call m) c
+  may-later call c m (inr i) = inr i
+  may-later call c m (inl own) = inl (at c own)
+    where
+      at : (c : Call) → IsOwnChallenge m c → IsOwnChallenge (called call m) c
+      at (Challenge chain who signature) own = own
+      at (Deposit channel asset expected amount) own = absurd own
+      at (Respond fixed from next) own = absurd own
+      at (Refute fixed next) own = absurd own
+      at (Checkpoint chain) own = absurd own
+      at (Conclude chain) own = absurd own
+      at (Transfer channel outcome asset index) own = absurd own
+      at (Claim guarantor promise target outcome asset position) own = absurd own
 
-  pub gives-all : (n : NodeOf) → Waits n None → Waits (gave_all ts n) None
-  gives-all n w = gives-each (ts.calls (facts_of n.mind)) n (λ call i. i) w
+  pub gives-all : (cs : List Call) (n : NodeOf) → ((c : Call) → In c cs → MayCall ts n.mind c) → Waits n None → Waits (gave cs n) None
+  gives-all [] n may w = w
+  gives-all (call ∷ cs) n may w = gives-all cs (gave_one n call) (λ c i. may-later call c n.mind (may c (inr i))) (gives n call (may call (inl refl)) w)
 
   -- a command, before the state of a payment
-  pub asks : (n : NodeOf) (step : ℕ) (command : Command) → leaves command ≡ false → Waits n None
+  pub asks : (n : NodeOf) (step : ℕ) (command : Command) → Waits n None
       → Waits (asked r s step command (command_refusal ts r s.limit n.used n.mind command) n) (payment_in (deeds.Commanded step (command_refusal ts r s.limit n.used n.mind command)) (Some command))
-  asks n step command stays w =
+  asks n step command w =
       writes n None (tell x (Some command)) (asked r s step command (command_refusal ts r s.limit n.used n.mind command) n) w
-      (record { told = told-command n.journal x n.commands command refl; here = refl; mind = refl; used = refl }) (λ past. (refl, (stays, refl)))
+      (record { told = told-command n.journal x n.commands command refl; here = refl; mind = refl; used = refl }) (λ past. (refl, refl))
     where
       x : Event
       x = record { seen = n.mind.view.count; deed = deeds.Commanded step (command_refusal ts r s.limit n.used n.mind command) }
@@ -212,8 +246,8 @@ loses ts r s h n new lost journal commands st =
     }
 
 -- a node that was made
-pub stands-fresh : (ts : Tables) (r : Rules) (s : Signing) (h : List Entry) → Stands ts r s h (record { mind = fresh s.key; used = 0; journal = []; commands = []; is_lost = false })
-stands-fresh ts r s h =
+pub stands-fresh : (ts : Tables) (r : Rules) (signer : SignerOf) (h : List Entry) → Stands ts r (signing_of signer) h (new_node signer)
+stands-fresh ts r signer h =
     record { plays = tt; knows = λ kept. record { later = h; past = []; split = sym (append_nil h); few = tt; mind = refl; used = refl; before = λ y i u. absurd i; waits = refl } }
   where
     append_nil : (xs : List Entry) → xs ++ [] ≡ xs

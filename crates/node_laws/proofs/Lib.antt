@@ -2,6 +2,7 @@ pub mod Agreeing
 pub mod Standing
 pub mod Reaching
 pub mod Allowing
+pub mod Leaving
 pub mod Bridging
 pub mod Once
 pub mod Places
@@ -9,5 +10,7 @@ pub mod Keepers
 pub mod Paying
 pub mod Looking
 pub mod Watching
+pub mod Exits
+pub mod Ticking
 pub mod Calling
 pub mod Stored

@@ -23,10 +23,10 @@ use Rattle.chain_laws.proofs.Tests.{none-eq, and-right, and-both, not-false, le-
 use Rattle.node_model.specs.Minds.{Mind, facts_of}
 use Rattle.node_model.specs.Nodes.{NodeOf, signed, signed_if, asked, paid_if, told_to}
 use Rattle.node_model.specs.Playing.{Signing, payment_in}
-use Rattle.node_model.specs.Tables.{Tables, running, closed}
-use Rattle.node_model.specs.Refusing.{is_open, stands_in, first_fault, not_open_in, not_open_part, not_open, latest_outcome, own, other, paying, follows, is_payable, part_joined, not_running, pay_refusal, leaves, command_refusal, can_sign, if_signable, signs_of, signs_in}
+use Rattle.node_model.specs.Tables.{Tables}
+use Rattle.node_model.specs.Refusing.{is_open, stands_in, first_fault, not_open_in, not_open_part, not_open, latest_outcome, own, other, paying, follows, is_payable, part_joined, not_running, pay_refusal, has_left, command_refusal, can_sign, if_signable, signs_of, signs_in}
 use Rattle.funding_value.specs.Known.{FactsOf}
-use Rattle.funding_value.specs.Parts.{joined_of}
+use Rattle.funding_value.specs.Parts.{joined_of, running, closed}
 use Rattle.funding_value.specs.Shapes.{items_in}
 use Rattle.funding_value.specs.declared.plan.Part.{Part}
 use Rattle.funding_value.specs.declared.plan.Part.TheVariants.{Root, OnLedger, End, Middle}
@@ -89,14 +89,17 @@ payable ts r limit used m channel asset amount e = at (kept_of channel m.kept) r
     at (Some k) is e = record {
       state = paying m channel asset amount k;
       signs = ap (signs_of ts r (Some (Pay channel asset amount)) m channel) is ∙ wished ∙ ap (λ (b : Bool). cond b (Some (paying m channel asset amount k)) None) can;
-      below = le-false limit used (holds_not (nat_le limit used) (KeySpent used) (rest_none line3 line4 after2));
+      below = le-false limit used (holds_not (nat_le limit used) (KeySpent used) (rest_none line4 line5 after3));
     }
       where
+        line5 : Option NodeRefusal
+        line5 = fault_if (nat_le limit used) (KeySpent used)
+
         line4 : Option NodeRefusal
-        line4 = fault_if (nat_le limit used) (KeySpent used)
+        line4 = not_running ts (facts_of m) (part_joined channel m.parts)
 
         line3 : Option NodeRefusal
-        line3 = not_running ts (facts_of m) (part_joined channel m.parts)
+        line3 = has_left m
 
         fits : Bool
         fits = is_payable r m channel asset amount k (items_in asset (latest_outcome m channel k))
@@ -107,20 +110,26 @@ payable ts r limit used m channel asset amount e = at (kept_of channel m.kept) r
         line1 : Option NodeRefusal
         line1 = fault_if (not (mover (people k.chain.fixed) (next_of k) == k.me)) (NotNext (next_of k))
 
-        after0 : (line1 ⊳ line2 ⊳ line3 ⊳ line4) ≡ None
-        after0 = rest_none (not_open ts (facts_of m)) (line1 ⊳ line2 ⊳ line3 ⊳ line4) e
+        after0 : (line1 ⊳ line2 ⊳ line3 ⊳ line4 ⊳ line5) ≡ None
+        after0 = rest_none (not_open ts (facts_of m)) (line1 ⊳ line2 ⊳ line3 ⊳ line4 ⊳ line5) e
 
-        after1 : (line2 ⊳ line3 ⊳ line4) ≡ None
-        after1 = rest_none line1 (line2 ⊳ line3 ⊳ line4) after0
+        after1 : (line2 ⊳ line3 ⊳ line4 ⊳ line5) ≡ None
+        after1 = rest_none line1 (line2 ⊳ line3 ⊳ line4 ⊳ line5) after0
 
-        after2 : (line3 ⊳ line4) ≡ None
-        after2 = rest_none line2 (line3 ⊳ line4) after1
+        after2 : (line3 ⊳ line4 ⊳ line5) ≡ None
+        after2 = rest_none line2 (line3 ⊳ line4 ⊳ line5) after1
+
+        after3 : (line4 ⊳ line5) ≡ None
+        after3 = rest_none line3 (line4 ⊳ line5) after2
+
+        stays : m.left ≡ false
+        stays = holds_not m.left (NotWanted 99) (first_none line3 (line4 ⊳ line5) after2)
 
         mine : (mover (people k.chain.fixed) (next_of k) == k.me) ≡ true
-        mine = not-false (mover (people k.chain.fixed) (next_of k) == k.me) (holds_not (not (mover (people k.chain.fixed) (next_of k) == k.me)) (NotNext (next_of k)) (first_none line1 (line2 ⊳ line3 ⊳ line4) after0))
+        mine = not-false (mover (people k.chain.fixed) (next_of k) == k.me) (holds_not (not (mover (people k.chain.fixed) (next_of k) == k.me)) (NotNext (next_of k)) (first_none line1 (line2 ⊳ line3 ⊳ line4 ⊳ line5) after0))
 
         fit : fits ≡ true
-        fit = not-false fits (holds_not (not fits) NotAStep (first_none line2 (line3 ⊳ line4) after1))
+        fit = not-false fits (holds_not (not fits) NotAStep (first_none line2 (line3 ⊳ line4 ⊳ line5) after1))
 
         items : List Item
         items = items_in asset (latest_outcome m channel k)
@@ -133,14 +142,16 @@ payable ts r limit used m channel asset amount e = at (kept_of channel m.kept) r
         can = and-both (follows r k (paying m channel asset amount k)) (((next_of k == next_of k) && (mover (people k.chain.fixed) (next_of k) == k.me)) && is_open (stands_in (facts_of m) channel)) follow
             (and-both ((next_of k == next_of k) && (mover (people k.chain.fixed) (next_of k) == k.me)) (is_open (stands_in (facts_of m) channel))
             (and-both (next_of k == next_of k) (mover (people k.chain.fixed) (next_of k) == k.me) (eq-eqb (next_of k) (next_of k) refl) mine)
-            (stays-open ts (facts_of m) channel m.parts (first_none (not_open ts (facts_of m)) (line1 ⊳ line2 ⊳ line3 ⊳ line4) e) (first_none line3 line4 after2)))
+            (stays-open ts (facts_of m) channel m.parts (first_none (not_open ts (facts_of m)) (line1 ⊳ line2 ⊳ line3 ⊳ line4 ⊳ line5) e) (first_none line4 line5 after3)))
 
         wished : signs_of ts r (Some (Pay channel asset amount)) m channel (Some k) ≡ cond (can_sign r (facts_of m) channel k (paying m channel asset amount k)) (Some (paying m channel asset amount k)) None
-        wished = go (bytes_eq channel channel) (bytes_eq_self channel)
+        wished = go m.left (bytes_eq channel channel) stays (bytes_eq_self channel)
           where
-            go : (b : Bool) → b ≡ true → if_signable r (facts_of m) channel k (cond b (Some (paying m channel asset amount k)) None) ≡ cond (can_sign r (facts_of m) channel k (paying m channel asset amount k)) (Some (paying m channel asset amount k)) None
-            go true t = refl
-            go false t = absurd cc
+            go : (left b : Bool) → left ≡ false → b ≡ true
+                → if_signable r (facts_of m) channel k (cond left None (cond b (Some (paying m channel asset amount k)) None)) ≡ cond (can_sign r (facts_of m) channel k (paying m channel asset amount k)) (Some (paying m channel asset amount k)) None
+            go false true l t = refl
+            go false false l t = absurd cc
+            go true b l t = absurd cc
 
 module _ (ts : Tables) (r : Rules) (s : Signing) (h : List Entry) (legal : Legal r h) where
   pays : (n : NodeOf) (step : ℕ) (channel : List ℕ) (asset amount : ℕ) → command_refusal ts r s.limit n.used n.mind (Pay channel asset amount) ≡ None
@@ -164,8 +175,8 @@ module _ (ts : Tables) (r : Rules) (s : Signing) (h : List Entry) (legal : Legal
           lt-is a b l = grind arith
 
   -- a command, with the state of a payment
-  pub tells : (n : NodeOf) (step : ℕ) (command : Command) → leaves command ≡ false → Waits ts r s h legal n None → Waits ts r s h legal (told_to ts r s step command n) None
-  tells n step command stays w = go (command_refusal ts r s.limit n.used n.mind command) refl (asks ts r s h legal n step command stays w)
+  pub tells : (n : NodeOf) (step : ℕ) (command : Command) → Waits ts r s h legal n None → Waits ts r s h legal (told_to ts r s step command n) None
+  tells n step command w = go (command_refusal ts r s.limit n.used n.mind command) refl (asks ts r s h legal n step command w)
     where
       go : (o : Option NodeRefusal) → command_refusal ts r s.limit n.used n.mind command ≡ o → Waits ts r s h legal (asked r s step command o n) (payment_in (deeds.Commanded step o) (Some command))
           → Waits ts r s h legal (paid_if ts r s o command (asked r s step command o n)) None

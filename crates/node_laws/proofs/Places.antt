@@ -25,7 +25,7 @@ unchanged r (deeds.Commanded step refusal) command b m h = cond-false b (did r (
 unchanged r (deeds.Handled bytes refusal) command b m h = cond-false b (did r (deeds.Handled bytes refusal) command m) m (h refl)
 unchanged r (deeds.Signed channel state signature) command b m h = cond-false b (did r (deeds.Signed channel state signature) command m) m (h refl)
 unchanged r (deeds.SignedChallenge channel state who signature) command b m h = either-way b m
-unchanged r (deeds.Called call) command b m h = either-way b m
+unchanged r (deeds.Called call) command b m h = cond-false b (did r (deeds.Called call) command m) m (h refl)
 
 slot-skip : (r : Rules) (k : ℕ) (front : List Told) (m : Mind) → ((y : Told) → In y front → is_watched y.deed ≡ false → y.seen < k) → slot r k front m ≡ m
 slot-skip r k [] m h = refl

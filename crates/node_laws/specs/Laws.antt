@@ -1,22 +1,25 @@
 -- The journal that a node's rules make is honest.
-use Rattle.std.specs.Prelude.{◌≡◌, ◌≤◌, ℕ, true, false, List, [], ◌∷◌, length}
-use Rattle.nitro_bytes.specs.Parts.{FixedParts}
+use Rattle.std.specs.Prelude.{◌≡◌, ◌≤◌, ℕ, Bool, true, false, List, ◌∷◌, ◌++◌, length, Option, Some, None}
+use Rattle.std.specs.List.{All, list_any}
+use Rattle.nitro_bytes.specs.Parts.{FixedParts, StateParts}
 use Rattle.channel_model.specs.Rules.{Rules}
 use Rattle.channel_calls.specs.History.{Legal}
 use Rattle.channel_calls.specs.declared.call.Call.{Call}
 use Rattle.channel_calls.specs.declared.entry.Entry.{Entry}
+use Rattle.channel_calls.specs.declared.event.Deed.{Deed}
+use Rattle.channel_calls.specs.declared.event.Deed.TheVariants as deeds
 use Rattle.channel_store.specs.Storing.{kept_of}
 use Rattle.net_model.specs.Held.{held}
 use Rattle.store_laws.specs.Laws.{KeepsHeld}
 use Rattle.net_model.specs.Honest.{Honest}
-use Rattle.net_model.specs.Journals.{In}
-use Rattle.node_model.specs.Minds.{facts_of, fresh}
-use Rattle.node_model.specs.Nodes.{NodeOf, told_of, Stands, handled, ticked, gave_one, gave_all, told_to, saw_one, watched, ComesNext, Looks}
+use Rattle.node_model.specs.Nodes.{NodeOf, new_node, told_of, Stands, handled, ticked, challenged_all, gave_one, gave, told_to, saw_one, watched, ComesNext, Looks}
+use Rattle.node_model.specs.Leaving.{MayCall}
+use Rattle.node_model.specs.Giving.{after_tick}
 use Rattle.node_model.specs.Tables.{Tables}
-use Rattle.node_model.specs.Refusing.{leaves}
 use Rattle.node_model.specs.Places.{Told, lines_of, mind_at, AreFew}
-use Rattle.node_model.specs.Playing.{Signing, SignsWell, Plays}
+use Rattle.node_model.specs.Playing.{Signing, SignerOf, signing_of, SignsWell, Plays}
 use Rattle.net_party.specs.declared.command.Command.{Command}
+use Rattle.net_party.specs.declared.command.Command.TheVariants.{Exit}
 
 abbrev pub KeptIsHeld : Type 0
 KeptIsHeld =
@@ -28,15 +31,35 @@ PlayedJournalsAreHonest =
     (t : Tables) (r : Rules) (s : Signing) (h : List Entry) (journal : List Told) → SignsWell r s → Legal r h → Plays t r s h journal
     → Honest r s.key h (lines_of s.key journal)
 
+-- an exit that was accepted
+abbrev pub is_exit : Deed → Option Command → Bool
+is_exit (deeds.Commanded step None) (Some Exit) = true
+is_exit _ command = false
+
+-- in the journal of a node no state is signed after an exit that was accepted, and no challenge where none was
+pub record LeavesForGood (x : Told) (front : List Told) : Type 0 where
+  pub states : (channel : List ℕ) (state : StateParts) (signature : List ℕ) → x.deed ≡ deeds.Signed channel state signature
+      → list_any (λ y. is_exit y.deed y.command) front ≡ false
+  pub challenges : (channel : List ℕ) (state : StateParts) (who : ℕ) (signature : List ℕ)
+      → x.deed ≡ deeds.SignedChallenge channel state who signature → list_any (λ y. is_exit y.deed y.command) front ≡ true
+
+abbrev pub PlayedJournalsLeaveForGood : Type 0
+PlayedJournalsLeaveForGood =
+    (t : Tables) (r : Rules) (s : Signing) (h : List Entry) (newer : List Told) (x : Told) (front : List Told) → Legal r h
+    → Plays t r s h (newer ++ x ∷ front) → LeavesForGood x front
+
 -- ---- nodes
 
--- what a node makes of a message, a command, a tick, its calls, a look and an entry that comes next stands for the history that it stood for
+-- What a node makes of a message, a command, a tick with its states, challenges and calls, a look and an entry that comes
+-- next stands for the history that it stood for.
 pub record CallsStand (t : Tables) (r : Rules) (s : Signing) (h : List Entry) (n : NodeOf) : Type 0 where
   pub handles : (bytes : List ℕ) → Stands t r s h (handled t r bytes n)
-  pub tells : (step : ℕ) (command : Command) → leaves command ≡ false → Stands t r s h (told_to t r s step command n)
+  pub tells : (step : ℕ) (command : Command) → Stands t r s h (told_to t r s step command n)
   pub ticks : (channels : List (List ℕ)) → Stands t r s h (ticked t r s channels n)
-  pub gives : (call : Call) → In call (t.calls (facts_of n.mind)) → Stands t r s h (gave_one n call)
-  pub gives_all : Stands t r s h (gave_all t n)
+  pub challenges : (channels : List (List ℕ)) → Stands t r s h (challenged_all r s channels n)
+  pub gives : (call : Call) → MayCall t n.mind call → Stands t r s h (gave_one n call)
+  pub gives_all : (calls : List Call) → All (MayCall t n.mind) calls → Stands t r s h (gave calls n)
+  pub ticks_all : Stands t r s h (after_tick t r s n)
   pub watches : (seen watcher : ℕ) (given : List Call) → Looks r h seen given n → Stands t r s h (watched seen watcher given n)
   pub sees : (e : Entry) → ComesNext h e n → Stands t r s h (saw_one r n e)
 
@@ -45,7 +68,7 @@ CallsKeepStanding = (t : Tables) (r : Rules) (s : Signing) (h : List Entry) (n :
 
 -- a new node stands for every history
 abbrev pub FreshNodesStand : Type 0
-FreshNodesStand = (t : Tables) (r : Rules) (s : Signing) (h : List Entry) → Stands t r s h (record { mind = fresh s.key; used = 0; journal = []; commands = []; is_lost = false })
+FreshNodesStand = (t : Tables) (r : Rules) (signer : SignerOf) (h : List Entry) → Stands t r (signing_of signer) h (new_node signer)
 
 -- and a node that lost its memory stands as long as its journal and its commands stay
 abbrev pub LostNodesStand : Type 0

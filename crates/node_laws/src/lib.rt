@@ -3,7 +3,7 @@
 #![tactic(auto)]
 
 ghost use Rattle.node_laws.specs.Stored.{RefusedAsNoted};
-ghost use Rattle.node_laws.specs.Laws.{CallsKeepStanding, FollowsWithin, FreshNodesStand, KeptIsHeld, LostNodesStand, PlayedJournalsAreHonest, StandingGrows, StandingNodesAreHonest};
+ghost use Rattle.node_laws.specs.Laws.{CallsKeepStanding, FollowsWithin, FreshNodesStand, KeptIsHeld, LostNodesStand, PlayedJournalsAreHonest, PlayedJournalsLeaveForGood, StandingGrows, StandingNodesAreHonest};
 
 /// What a node's rules keep of a channel at a place of a legal history and a journal is what is held of it there.
 pub fn kept_is_held()
@@ -15,8 +15,13 @@ pub fn played_journals_are_honest()
     ensures { PlayedJournalsAreHonest }
 {}
 
-/// A node that stands for a legal history stands for it after a message, a command but `Exit`, a tick, the calls of its stages, a
-/// look of its watcher, or the entry that comes next.
+/// After an exit that was accepted a node signs no state, and it challenges only then.
+pub fn played_journals_leave_for_good()
+    ensures { PlayedJournalsLeaveForGood }
+{}
+
+/// A node that stands for a legal history stands for it after a message, a command, a tick with its states, challenges
+/// and calls, a look of its watcher, or the entry that comes next.
 pub fn calls_keep_standing()
     ensures { CallsKeepStanding }
 {}

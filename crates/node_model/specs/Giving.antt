@@ -3,9 +3,11 @@ use Rattle.std.specs.Prelude.{ℕ, ◌+◌, Bool, true, false, nat_lt, List, [],
 use Rattle.std.specs.List.{flat_map}
 use Rattle.std.specs.Option.{option_or}
 use Rattle.nitro_bytes.specs.Parts.{StateParts}
-use Rattle.channel_name.specs.Messages.{message_of_state}
+use Rattle.channel_name.specs.Messages.{message_of_state, message_of_challenge}
 use Rattle.channel_model.specs.Rules.{Rules}
 use Rattle.channel_calls.specs.Spelling.{message}
+use Rattle.channel_calls.specs.declared.call.Call.{Call}
+use Rattle.channel_calls.specs.declared.call.Call.TheVariants.{Challenge}
 use Rattle.channel_calls.specs.declared.event.NodeRefusal.{NodeRefusal}
 use Rattle.support_chain.specs.Steps.{persons}
 use Rattle.channel_store.specs.Storing.{kept_of}
@@ -19,10 +21,11 @@ use Rattle.net_party.specs.declared.outs.NodeFault.{NodeFault}
 use Rattle.net_party.specs.declared.outs.NodeFault.TheVariants.{Refused}
 use Rattle.net_party.specs.declared.outs.Outs.{Outs}
 use Rattle.node_model.specs.Tables.{Tables}
-use Rattle.node_model.specs.Minds.{Mind, facts_of}
+use Rattle.node_model.specs.Minds.{Mind}
 use Rattle.node_model.specs.Refusing.{command_refusal, signs_in}
+use Rattle.node_model.specs.Leaving.{OwnChallenge, challenge_in, calls_of}
 use Rattle.node_model.specs.Playing.{Signing}
-use Rattle.node_model.specs.Nodes.{NodeOf, signed, signed_if, ticked, gave_all, asked}
+use Rattle.node_model.specs.Nodes.{NodeOf, signed, signed_if, ticked, challenged_if, challenged_all, gave, asked}
 
 -- ---- the order of a tick
 
@@ -61,9 +64,27 @@ sent_if r s channel (Some state) n =
     if nat_lt n.used s.limit then sends_of (signed r s channel state n).mind channel state (s.made n.used (message_of_state (r.digest channel state))) else []
 
 -- how often the key has signed, where it is to sign once more and can't
-abbrev pub spent_if : Signing → Option StateParts → NodeOf → Option ℕ
+abbrev pub spent_if : {A : Type 0} → Signing → Option A → NodeOf → Option ℕ
 spent_if s None n = None
-spent_if s (Some state) n = if nat_lt n.used s.limit then None else Some n.used
+spent_if s (Some wanted) n = if nat_lt n.used s.limit then None else Some n.used
+
+-- ---- challenges
+
+-- the call of a challenge, if it is given one and the key isn't spent
+abbrev pub challenge_call : Rules → Signing → List ℕ → Option OwnChallenge → NodeOf → List Call
+challenge_call r s channel None n = []
+challenge_call r s channel (Some c) n =
+    if nat_lt n.used s.limit then Challenge c.chain c.who (s.made n.used (message_of_challenge (r.digest channel c.state) c.who)) ∷ [] else []
+
+abbrev pub challenge_calls : Rules → Signing → List (List ℕ) → NodeOf → List Call
+challenge_calls r s [] n = []
+challenge_calls r s (channel ∷ channels) n =
+    challenge_call r s channel (challenge_in n.mind channel) n ++ challenge_calls r s channels (challenged_if r s channel (challenge_in n.mind channel) n)
+
+abbrev pub spent_challenging : Rules → Signing → List (List ℕ) → NodeOf → Option ℕ
+spent_challenging r s [] n = None
+spent_challenging r s (channel ∷ channels) n =
+    option_or (spent_if s (challenge_in n.mind channel) n) (spent_challenging r s channels (challenged_if r s channel (challenge_in n.mind channel) n))
 
 -- ---- a tick
 
@@ -77,16 +98,28 @@ spent t r s [] n = None
 spent t r s (channel ∷ channels) n =
     option_or (spent_if s (signs_in t r None n.mind channel) n) (spent t r s channels (signed_if r s channel (signs_in t r None n.mind channel) n))
 
--- in each channel, in order, at most one state; then the calls
+-- after the states that it signs, in each channel, in order, at most one
+abbrev pub after_signing : Tables → Rules → Signing → NodeOf → NodeOf
+after_signing t r s n = ticked t r s (in_order n.mind.parts) n
+
+-- and after its challenges: it signs states until it left, and challenges from then on
+abbrev pub after_challenging : Tables → Rules → Signing → NodeOf → NodeOf
+after_challenging t r s n = challenged_all r s (in_order n.mind.parts) (after_signing t r s n)
+
+-- its challenges, and then the other calls
+abbrev pub tick_calls : Tables → Rules → Signing → NodeOf → List Call
+tick_calls t r s n =
+    challenge_calls r s (in_order n.mind.parts) (after_signing t r s n) ++ calls_of t (after_challenging t r s n).mind
+
 abbrev pub after_tick : Tables → Rules → Signing → NodeOf → NodeOf
-after_tick t r s n = gave_all t (ticked t r s (in_order n.mind.parts) n)
+after_tick t r s n = gave (tick_calls t r s n) (after_challenging t r s n)
 
 abbrev pub tick_gives : Tables → Rules → Signing → NodeOf → Outs
 tick_gives t r s n =
     record {
       sends = sent t r s (in_order n.mind.parts) n;
-      calls = t.calls (facts_of (ticked t r s (in_order n.mind.parts) n).mind);
-      spent = spent t r s (in_order n.mind.parts) n;
+      calls = tick_calls t r s n;
+      spent = option_or (spent t r s (in_order n.mind.parts) n) (spent_challenging r s (in_order n.mind.parts) (after_signing t r s n));
     }
 
 -- ---- a command

@@ -2,6 +2,7 @@ pub mod Tables
 pub mod Openings
 pub mod Minds
 pub mod Refusing
+pub mod Leaving
 pub mod Places
 pub mod Playing
 pub mod Nodes

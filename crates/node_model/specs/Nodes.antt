@@ -2,7 +2,7 @@
 use Rattle.std.specs.Prelude.{◌≡◌, ℕ, suc, ◌≤◌, Bool, false, nat_lt, List, [], ◌∷◌, ◌++◌, length, reverse, fold, Option, Some, None, if◌then◌else◌}
 use Rattle.std.specs.List.{flat_map}
 use Rattle.nitro_bytes.specs.Parts.{StateParts}
-use Rattle.channel_name.specs.Messages.{message_of_state}
+use Rattle.channel_name.specs.Messages.{message_of_state, message_of_challenge}
 use Rattle.channel_model.specs.Rules.{Rules}
 use Rattle.channel_calls.specs.Reading.{message_of}
 use Rattle.channel_calls.specs.Rows.{fixed_of}
@@ -16,21 +16,28 @@ use Rattle.net_model.specs.Journals.{In, is_watched}
 use Rattle.channel_store.specs.Keeping.{held_chain}
 use Rattle.history_view.specs.Standing.{OfFew}
 use Rattle.channel_watcher.specs.Watching.{looks}
-use Rattle.node_model.specs.Minds.{Mind, facts_of, saw, did}
+use Rattle.node_model.specs.Minds.{Mind, fresh, saw, called, did}
 use Rattle.node_model.specs.Tables.{Tables}
 use Rattle.node_model.specs.Refusing.{message_refusal, command_refusal, signs_in}
+use Rattle.node_model.specs.Leaving.{OwnChallenge, challenge_in}
 use Rattle.node_model.specs.Places.{Told, told, mind_at, AreFew}
-use Rattle.node_model.specs.Playing.{Signing, signings, pending, Plays}
+use Rattle.node_model.specs.Playing.{Signing, SignerOf, signing_of, signings, pending, Plays}
 use Rattle.net_party.specs.declared.command.Command.{Command}
 use Rattle.net_party.specs.declared.command.Command.TheVariants.{Pay}
 
--- What it knows, how often its key signed, its journal and its commands in the order of time, and whether memory failed it.
+-- What it knows, of what its signer is made and how often its key signed, its journal and its commands in the order of time,
+-- and whether memory failed it.
 pub record NodeOf : Type 0 where
   pub mind : Mind
+  pub signer : SignerOf
   pub used : ℕ
   pub journal : List Event
   pub commands : List Command
   pub is_lost : Bool
+
+-- one that followed nothing, with a signer that hasn't signed
+abbrev pub new_node : SignerOf → NodeOf
+new_node signer = record { mind = fresh (signing_of signer).key; signer = signer; used = 0; journal = []; commands = []; is_lost = false }
 
 -- its events with their commands, newest first
 abbrev pub told_of : NodeOf → List Told
@@ -81,17 +88,27 @@ abbrev pub ticked : Tables → Rules → Signing → List (List ℕ) → NodeOf 
 ticked t r s [] n = n
 ticked t r s (channel ∷ channels) n = ticked t r s channels (signed_if r s channel (signs_in t r None n.mind channel) n)
 
+-- a challenge that it signs
+abbrev pub challenged : Rules → Signing → List ℕ → OwnChallenge → NodeOf → NodeOf
+challenged r s channel c n =
+    record (wrote (deeds.SignedChallenge channel c.state c.who (s.made n.used (message_of_challenge (r.digest channel c.state) c.who))) n.mind n) { used = suc n.used }
+
+abbrev pub challenged_if : Rules → Signing → List ℕ → Option OwnChallenge → NodeOf → NodeOf
+challenged_if r s channel None n = n
+challenged_if r s channel (Some c) n = if nat_lt n.used s.limit then challenged r s channel c n else n
+
+-- in each of these channels, where it left
+abbrev pub challenged_all : Rules → Signing → List (List ℕ) → NodeOf → NodeOf
+challenged_all r s [] n = n
+challenged_all r s (channel ∷ channels) n = challenged_all r s channels (challenged_if r s channel (challenge_in n.mind channel) n)
+
 -- with a call given, and with each of these
 abbrev pub gave_one : NodeOf → Call → NodeOf
-gave_one n call = wrote (deeds.Called call) n.mind n
+gave_one n call = wrote (deeds.Called call) (called call n.mind) n
 
 abbrev pub gave : List Call → NodeOf → NodeOf
 gave [] n = n
 gave (call ∷ calls) n = gave calls (gave_one n call)
-
--- and the calls that its stages give
-abbrev pub gave_all : Tables → NodeOf → NodeOf
-gave_all t n = gave (t.calls (facts_of n.mind)) n
 
 -- a command's event
 abbrev pub asked : Rules → Signing → ℕ → Command → Option NodeRefusal → NodeOf → NodeOf

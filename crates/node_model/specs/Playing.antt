@@ -1,7 +1,7 @@
 -- When a journal is one of a node: each event is what the node's rules give at its place.
-use Rattle.std.specs.Prelude.{◌≡◌, ℕ, suc, ◌<◌, ◌≤◌, Bool, true, false, List, [], ◌∷◌, ◌++◌, length, Option, Some, None, if◌then◌else◌}
+use Rattle.std.specs.Prelude.{◌≡◌, ℕ, suc, ◌<◌, ◌≤◌, ◌^◌, Bool, true, false, List, [], ◌∷◌, ◌++◌, length, Option, Some, None, if◌then◌else◌}
 use Rattle.std.specs.List.{flat_map}
-use Rattle.channel_name.specs.Messages.{message_of_state}
+use Rattle.channel_name.specs.Messages.{message_of_state, message_of_challenge}
 use Rattle.channel_model.specs.Rules.{Rules}
 use Rattle.channel_calls.specs.Reading.{message_of}
 use Rattle.channel_calls.specs.declared.entry.Entry.{Entry}
@@ -11,9 +11,11 @@ use Rattle.channel_calls.specs.declared.event.NodeRefusal.{NodeRefusal}
 use Rattle.net_model.specs.Journals.{In, is_watched}
 use Rattle.channel_watcher.specs.Watching.{looks}
 use Rattle.channel_store.specs.Keeping.{held_chain}
-use Rattle.node_model.specs.Minds.{Mind, facts_of}
+use Rattle.sign_index.specs.Made.{made_key, made_bytes}
+use Rattle.node_model.specs.Minds.{Mind}
 use Rattle.node_model.specs.Tables.{Tables}
-use Rattle.node_model.specs.Refusing.{message_refusal, leaves, command_refusal, signs_in}
+use Rattle.node_model.specs.Refusing.{message_refusal, command_refusal, signs_in}
+use Rattle.node_model.specs.Leaving.{ChallengesWith, MayCall}
 use Rattle.node_model.specs.Places.{Told, mind_at, AreFew}
 use Rattle.net_party.specs.declared.command.Command.{Command}
 use Rattle.net_party.specs.declared.command.Command.TheVariants.{Pay}
@@ -23,6 +25,16 @@ pub record Signing : Type 0 where
   pub key : List ℕ
   pub limit : ℕ
   pub made : ℕ → List ℕ → List ℕ
+
+-- What a signer is made of: a seed, an identifier, and the height of its tree.
+pub record SignerOf : Type 0 where
+  pub seed : List ℕ
+  pub id : List ℕ
+  pub h : ℕ
+
+-- the signer that is made of these
+unfoldable pub signing_of : SignerOf → Signing
+signing_of s = record { key = made_key s.seed s.id s.h; limit = 2 ^ s.h; made = made_bytes s.seed s.id s.h }
 
 -- each of its signatures verifies
 abbrev pub SignsWell : Rules → Signing → Type 0
@@ -49,7 +61,7 @@ pending (x ∷ front) = payment_in x.deed x.command
 
 abbrev pub Answers : Tables → Rules → Signing → ℕ → Mind → Option NodeRefusal → Option Command → Type 0
 Answers t r s used m refusal None = ⊥
-Answers t r s used m refusal (Some command) = (leaves command ≡ false) × (refusal ≡ command_refusal t r s.limit used m command)
+Answers t r s used m refusal (Some command) = refusal ≡ command_refusal t r s.limit used m command
 
 -- what a node may put into its journal, by the entries, what it knows, the signatures before, and a payment that waits
 abbrev pub Allowed : Tables → Rules → Signing → List Entry → Mind → ℕ → Option Command → Deed → Option Command → Type 0
@@ -57,8 +69,9 @@ Allowed t r s past m used waits (deeds.Commanded step refusal) command = (waits 
 Allowed t r s past m used waits (deeds.Handled bytes refusal) command = (waits ≡ None) × (refusal ≡ message_refusal t r m (message_of bytes))
 Allowed t r s past m used waits (deeds.Signed channel state signature) command =
     (signs_in t r waits m channel ≡ Some state) × (used < s.limit) × (signature ≡ s.made used (message_of_state (r.digest channel state)))
-Allowed t r s past m used waits (deeds.SignedChallenge channel state who signature) command = ⊥
-Allowed t r s past m used waits (deeds.Called call) command = (waits ≡ None) × In call (t.calls (facts_of m))
+Allowed t r s past m used waits (deeds.SignedChallenge channel state who signature) command =
+    (waits ≡ None) × ChallengesWith m channel state who × (used < s.limit) × (signature ≡ s.made used (message_of_challenge (r.digest channel state) who))
+Allowed t r s past m used waits (deeds.Called call) command = (waits ≡ None) × MayCall t m call
 Allowed t r s past m used waits (deeds.Watched watcher given) command = (waits ≡ None) × (given ≡ looks r past (flat_map held_chain m.kept))
 
 -- And it had seen no more than there is, entries of few people each; nothing but a look had seen more than what comes

@@ -29,13 +29,13 @@ use Rattle.channel_store.specs.Keeping.{is_ended, next_of, step_of}
 use Rattle.channel_store.specs.Storing.{kept_of}
 use Rattle.channel_store.specs.declared.kept.Kept.{Kept}
 use Rattle.funding_value.specs.Known.{FactsOf}
-use Rattle.funding_value.specs.Parts.{channels_of, channels, joined_of, ledgers_of}
+use Rattle.funding_value.specs.Parts.{channels_of, channels, joined_of, ledgers_of, running, closed}
 use Rattle.funding_value.specs.Shapes.{items_in}
 use Rattle.funding_value.specs.declared.plan.Goal.{Goal}
 use Rattle.funding_value.specs.declared.plan.Part.{Part}
 use Rattle.net_party.specs.declared.command.Command.{Command}
 use Rattle.net_party.specs.declared.command.Command.TheVariants as commands
-use Rattle.node_model.specs.Tables.{Tables, running, closed}
+use Rattle.node_model.specs.Tables.{Tables}
 use Rattle.node_model.specs.Openings.{opened_by, ledgers_for, are_apart}
 use Rattle.node_model.specs.Minds.{Mind, facts_of, place_with}
 
@@ -71,6 +71,10 @@ unfinished_part t f part = fault_if (t.is_unfinished f part) (NotWanted (t.stage
 abbrev pub unfinished : Tables → FactsOf → Option NodeRefusal
 unfinished t f = first_fault (unfinished_part t f) f.plan.parts
 
+-- nothing more is signed or taken once it left
+abbrev pub has_left : Mind → Option NodeRefusal
+has_left m = fault_if m.left (NotWanted 99)
+
 -- the part that has a channel, and that which has one in which the node is a participant
 abbrev pub part_with : List ℕ → List Part → Option Part
 part_with channel parts = find (λ part. is_among channel (channels_of part)) parts
@@ -96,6 +100,7 @@ state_refusal t r m channel s (Some k) =
     ⊳ fault_if (not (s.state.turn == next_of k)) (NotNext (next_of k))
     ⊳ fault_if (not (is_signed_well r k.chain.fixed s)) BadSignature
     ⊳ fault_if (is_some (step_of r k s.state)) NotAStep
+    ⊳ has_left m
     ⊳ fault_if (not (t.accepts (facts_of m) channel s.state)) (NotWanted (stage_of t (facts_of m) (t.asked (facts_of m) channel)))
 
 abbrev pub message_refusal : Tables → Rules → Mind → Result Message ByteFault → Option NodeRefusal
@@ -161,6 +166,7 @@ pay_refusal t r limit used m channel asset amount (Some k) =
     not_open t (facts_of m)
     ⊳ fault_if (not (mover (people k.chain.fixed) (next_of k) == k.me)) (NotNext (next_of k))
     ⊳ fault_if (not (is_payable r m channel asset amount k (items_in asset (latest_outcome m channel k)))) NotAStep
+    ⊳ has_left m
     ⊳ not_running t (facts_of m) (part_joined channel m.parts)
     ⊳ fault_if (nat_le limit used) (KeySpent used)
 
@@ -186,6 +192,7 @@ open_refusal t r m command =
     fault_if (not (are_planned m (ledgers_for m.key command))) UnknownChannel
     ⊳ not_open t (facts_of m)
     ⊳ fault_if (not (can_open t r m command)) NotAStep
+    ⊳ has_left m
     ⊳ unfinished t (facts_of m)
     ⊳ fault_if (nat_lt 64 (length (channels m.parts) + length (opened_by command))) (TooMany (length (channels m.parts)))
 
@@ -195,20 +202,16 @@ open_refusal t r m command =
 abbrev pub standing_part : Tables → FactsOf → List ℕ → Part → Option NodeRefusal
 standing_part t f ledger part = fault_if (is_among ledger (ledgers_of part) && not (t.stage f part == closed part)) (NotWanted (t.stage f part))
 
-abbrev pub close_part : Tables → FactsOf → List ℕ → Option Part → Option NodeRefusal
-close_part t f channel None = Some UnknownChannel
-close_part t f channel (Some part) =
-    not_open t f
-    ⊳ unfinished t f
-    ⊳ not_running t f (Some part)
-    ⊳ first_fault (standing_part t f channel) f.plan.parts
+abbrev pub close_part : Tables → Mind → List ℕ → Option Part → Option NodeRefusal
+close_part t m channel None = Some UnknownChannel
+close_part t m channel (Some part) =
+    not_open t (facts_of m)
+    ⊳ has_left m
+    ⊳ unfinished t (facts_of m)
+    ⊳ not_running t (facts_of m) (Some part)
+    ⊳ first_fault (standing_part t (facts_of m) channel) m.parts
 
 -- ---- commands
-
--- it leaves every channel: what a node does from then on isn't described here
-abbrev pub leaves : Command → Bool
-leaves commands.Exit = true
-leaves _ = false
 
 -- with a key that signs `limit` times and has signed `used` times
 abbrev pub command_refusal : Tables → Rules → ℕ → ℕ → Mind → Command → Option NodeRefusal
@@ -216,15 +219,19 @@ command_refusal t r limit used m (commands.Open f outcome) = open_refusal t r m 
 command_refusal t r limit used m (commands.OpenOn ledger f asset amounts) = open_refusal t r m (commands.OpenOn ledger f asset amounts)
 command_refusal t r limit used m (commands.OpenVirtual ledgers guarantors joint channel asset amounts) = open_refusal t r m (commands.OpenVirtual ledgers guarantors joint channel asset amounts)
 command_refusal t r limit used m (commands.Pay channel asset amount) = pay_refusal t r limit used m channel asset amount (kept_of channel m.kept)
-command_refusal t r limit used m (commands.Close channel) = close_part t (facts_of m) channel (part_with channel m.parts)
+command_refusal t r limit used m (commands.Close channel) = close_part t m channel (part_with channel m.parts)
 command_refusal t r limit used m commands.Exit = None
 
 -- ---- what is signed
 
 -- the state of an accepted payment that isn't signed yet, else what the stage wants while every live channel is open
+abbrev pub wish_staying : Tables → Option Command → Mind → List ℕ → Kept → Option StateParts
+wish_staying t (Some (commands.Pay paid asset amount)) m channel k = if bytes_eq paid channel then Some (paying m channel asset amount k) else None
+wish_staying t _ m channel k = if is_none (not_open t (facts_of m)) then t.wanted (facts_of m) channel else None
+
+-- nothing once it left
 abbrev pub wish : Tables → Option Command → Mind → List ℕ → Kept → Option StateParts
-wish t (Some (commands.Pay paid asset amount)) m channel k = if bytes_eq paid channel then Some (paying m channel asset amount k) else None
-wish t _ m channel k = if is_none (not_open t (facts_of m)) then t.wanted (facts_of m) channel else None
+wish t pending m channel k = if m.left then None else wish_staying t pending m channel k
 
 -- it comes next, at the node's own turn, and follows; and the channel is open
 abbrev pub can_sign : Rules → FactsOf → List ℕ → Kept → StateParts → Bool

@@ -4,21 +4,7 @@ use Rattle.nitro_bytes.specs.Parts.{StateParts}
 use Rattle.channel_calls.specs.declared.call.Call.{Call}
 use Rattle.funding_value.specs.Known.{FactsOf}
 use Rattle.funding_value.specs.declared.plan.Part.{Part}
-use Rattle.funding_value.specs.declared.plan.Part.TheVariants.{Root, OnLedger, End, Middle}
 use Rattle.net_party.specs.declared.command.Command.{Command}
-
--- the stages in which a part is running and closed
-abbrev pub running : Part → ℕ
-running (Root channel) = 3
-running (OnLedger ledger channel) = 3
-running (End v) = 5
-running (Middle v) = 5
-
-abbrev pub closed : Part → ℕ
-closed (Root channel) = 6
-closed (OnLedger ledger channel) = 6
-closed (End v) = 9
-closed (Middle v) = 9
 
 -- What the tables say, by what a participant's facts are.
 pub record Tables : Type 0 where
@@ -31,5 +17,9 @@ pub record Tables : Type 0 where
   pub accepts : FactsOf → List ℕ → StateParts → Bool
   -- the calls of all parts
   pub calls : FactsOf → List Call
+  -- the calls of an exit, none while a channel with a held chain isn't final; and whether the participant can still get more
+  -- of an asset than it was paid
+  pub exits : FactsOf → List Call
+  pub is_owed : FactsOf → Bool
   -- the fixed parts, people and amounts of a command that opens fit the facts
   pub fits : FactsOf → Command → Bool

@@ -8,19 +8,19 @@ use Rattle.node_model.specs.Nodes.{NodeOf, Stands, asked}
 use Rattle.node_model.specs.Places.{told}
 use Rattle.node_model.specs.Playing.{Signing, Plays}
 use Rattle.node_model.specs.Tables.{Tables}
-use Rattle.node_model.specs.Refusing.{leaves, command_refusal}
+use Rattle.node_model.specs.Refusing.{command_refusal}
 use Rattle.net_party.specs.declared.command.Command.{Command}
 use Rattle.node_laws.proofs.Keepers.{waiting, asks, loses}
 use Rattle.node_objective.specs.Answers.{IsPartly}
 
-pub loses-partly : (t : Tables) (r : Rules) (s : Signing) (h : List Entry) (n mid new : NodeOf) (step : ℕ) (command : Command) → leaves command ≡ false → Legal r h → new.is_lost ≡ true → new.journal ≡ mid.journal → new.commands ≡ mid.commands
+pub loses-partly : (t : Tables) (r : Rules) (s : Signing) (h : List Entry) (n mid new : NodeOf) (step : ℕ) (command : Command) → Legal r h → new.is_lost ≡ true → new.journal ≡ mid.journal → new.commands ≡ mid.commands
     → IsPartly t r s step command n mid → n.is_lost ≡ false → Stands t r s h n → Stands t r s h new
-loses-partly t r s h n mid new step command stays legal lost journal commands (inl same) kept st = loses t r s h n new lost (journal ∙ same.journal) (commands ∙ same.commands) st
-loses-partly t r s h n mid new step command stays legal lost journal commands (inr same) kept st =
+loses-partly t r s h n mid new step command legal lost journal commands (inl same) kept st = loses t r s h n new lost (journal ∙ same.journal) (commands ∙ same.commands) st
+loses-partly t r s h n mid new step command legal lost journal commands (inr same) kept st =
     record {
       plays = subst (Plays t r s h)
           (sym (ap (λ (j : List Event). told (reverse j) (reverse new.commands)) (journal ∙ same.journal)
           ∙ ap (λ (k : List Command). told (reverse (asked r s step command (command_refusal t r s.limit n.used n.mind command) n).journal) (reverse k)) (commands ∙ same.commands)))
-          (asks t r s h legal n step command stays (waiting t r s h legal n kept st)).plays;
+          (asks t r s h legal n step command (waiting t r s h legal n kept st)).plays;
       knows = λ alive. absurd cc;
     }

@@ -5,6 +5,7 @@ use Rattle.nitro_bytes.specs.Parts.{StateParts}
 use Rattle.channel_model.specs.Rules.{Rules}
 use Rattle.net_party.specs.declared.command.Command.{Command}
 use Rattle.node_model.specs.Tables.{Tables}
+use Rattle.node_model.specs.Leaving.{OwnChallenge, challenge_in}
 use Rattle.node_model.specs.Minds.{Mind}
 use Rattle.node_model.specs.Refusing.{signs_in}
 use Rattle.node_objective.specs.Answers.{IsWanted}
@@ -13,3 +14,7 @@ pub wanted_so : (t : Tables) (r : Rules) (waits : Option Command) (m : Mind) (ch
     → IfSome state (λ s. IsWanted t r m channel s)
 wanted_so t r waits m channel None e = tt
 wanted_so t r waits m channel (Some s) e = record { waits = waits; is = sym e }
+
+pub own_so : (m : Mind) (channel : List ℕ) (own : Option OwnChallenge) → own ≡ challenge_in m channel → IfSome own (λ c. challenge_in m channel ≡ Some c)
+own_so m channel None e = tt
+own_so m channel (Some c) e = sym e

@@ -1,10 +1,12 @@
 -- What the calls of a node answer, and what it is after them.
 use Rattle.std.specs.Prelude.{◌≡◌, ℕ, true, false, List, ◌⊎◌, Option, Some, None, Result, Ok, Err}
 use Rattle.channel_model.specs.Rules.{Rules}
+use Rattle.channel_calls.specs.History.{Legal}
 use Rattle.channel_calls.specs.Reading.{message_of}
+use Rattle.channel_calls.specs.declared.entry.Entry.{Entry}
 use Rattle.nitro_bytes.specs.Parts.{StateParts}
 use Rattle.node_model.specs.Minds.{Mind}
-use Rattle.node_model.specs.Nodes.{NodeOf, handled, asked, told_to}
+use Rattle.node_model.specs.Nodes.{NodeOf, Stands, handled, asked, told_to}
 use Rattle.node_model.specs.Tables.{Tables}
 use Rattle.node_model.specs.Playing.{Signing}
 use Rattle.net_party.specs.declared.outs.Outs.{Outs}
@@ -23,6 +25,10 @@ pub record IsWanted (t : Tables) (r : Rules) (m : Mind) (channel : List ℕ) (st
 pub record SameJournal (old new : NodeOf) : Type 0 where
   pub journal : new.journal ≡ old.journal
   pub commands : new.commands ≡ old.commands
+
+-- the same as those of a node that stands for each history for which this one did
+abbrev pub StandsPartly : Tables → Rules → Signing → NodeOf → NodeOf → Type 0
+StandsPartly t r s old new = (mid : NodeOf) × ((h : List Entry) → Legal r h → Stands t r s h old → Stands t r s h mid) × SameJournal mid new
 
 -- the journal and the commands as they were, or with the command's event
 abbrev pub IsPartly : Tables → Rules → Signing → ℕ → Command → NodeOf → NodeOf → Type 0

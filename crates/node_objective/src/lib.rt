@@ -4,5 +4,5 @@
 mod mind;
 mod node;
 
-pub use mind::Knowing;
+pub use mind::{Knowing, OwnChallenge};
 pub use node::Node;

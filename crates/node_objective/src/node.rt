@@ -1,19 +1,21 @@
 //! A node over what it knows.
 
 ghost use Rattle.std.specs.Prelude.{◌≡◌, ◌≤◌, ◌++◌, [], length, List, true, false, None, IfOk, IfSome, OnOk, OnErr};
+ghost use Rattle.std.specs.List.{All};
 ghost use Rattle.std.specs.Option.{option_or};
-ghost use Rattle.node_model.specs.Giving.{sent_if, spent_if, sent, spent, paid_sends, tick_gives, after_tick};
+ghost use Rattle.node_model.specs.Giving.{sent_if, spent_if, sent, spent, challenge_call, challenge_calls, spent_challenging, paid_sends, after_challenging, tick_gives, after_tick};
+ghost use Rattle.node_model.specs.Leaving.{challenge_in, MayCall};
 ghost use Rattle.channel_calls.specs.History.{Legal};
 ghost use Rattle.channel_calls.specs.declared.entry.Entry.{Entry as AnEntry};
-ghost use Rattle.history_view.specs.Views.{CanFollow};
 ghost use Rattle.channel_calls.specs.Reading.{message_of};
-ghost use Rattle.node_model.specs.Minds.{facts_of, fresh};
-ghost use Rattle.node_model.specs.Refusing.{message_refusal, leaves, command_refusal, signs_in};
+ghost use Rattle.node_model.specs.Minds.{fresh};
+ghost use Rattle.node_model.specs.Playing.{signing_of};
+ghost use Rattle.node_model.specs.Refusing.{message_refusal, command_refusal, signs_in};
 ghost use Rattle.net_party.specs.declared.command.Command.TheVariants.{Pay};
-ghost use Rattle.node_model.specs.Nodes.{NodeOf, Stands, handled, asked, paid_if, signed_if, ticked, gave_one, gave_all, told_to, saw_one, watched, ComesNext, Looks, wrote_at};
-ghost use Rattle.node_objective.specs.Answers.{IsWanted, CommandAnswers, HandleAnswers, IsPartly, SameJournal};
+ghost use Rattle.node_model.specs.Nodes.{NodeOf, new_node, Stands, handled, asked, paid_if, signed_if, ticked, challenged_if, challenged_all, gave_one, gave, told_to, saw_one, watched, ComesNext, Looks, wrote_at};
+ghost use Rattle.node_objective.specs.Answers.{IsWanted, CommandAnswers, HandleAnswers, IsPartly, SameJournal, StandsPartly};
 
-use crate::mind::Knowing;
+use crate::mind::{Knowing, OwnChallenge};
 use channel_calls::{Call, Deed, Entry, Event, NodeRefusal, copy_call};
 use net_party::{Command, NodeFault, Outs};
 use nitro_bytes::{Listed, Name, NoMemory, State};
@@ -24,6 +26,13 @@ use std::marker::Model;
 #[derive(Drop)]
 struct Sent {
     sends: Vec<(Name, Listed<u8>)>,
+    spent: Option<u32>,
+}
+
+/// Challenges that go out, and the same.
+#[derive(Drop)]
+struct Challenged {
+    calls: Vec<Call>,
     spent: Option<u32>,
 }
 
@@ -44,6 +53,16 @@ fn add_sent(all: &mut Sent, more: Sent) -> Result<(), NoMemory>
     Ok(())
 }
 
+fn add_challenged(all: &mut Challenged, more: Challenged) -> Result<(), NoMemory>
+    ensures calls { OnOk result (all.new.calls.items ≡ all.old.calls.items ++ more.calls.items) }
+    ensures spent { OnOk result (all.new.spent ≡ option_or all.old.spent more.spent) }
+{
+    let Challenged { mut calls, spent } = more;
+    all.calls.append(&mut calls)?;
+    all.spent = all.spent.or(spent);
+    Ok(())
+}
+
 /// A node. After it answered that memory is gone it answers nothing else.
 #[derive(Drop)]
 pub struct Node<M: Knowing + Drop> {
@@ -58,15 +77,16 @@ impl<M: Knowing + Drop> Model for Node<M> {
 
     ghost Value = { NodeOf };
 
-    ghost view = { λ n. record { mind = M.mind n.mind; used = M.times n.mind; journal = n.journal.items; commands = n.commands.items; is_lost = n.is_lost } };
+    ghost view = { λ n. record { mind = M.mind n.mind; signer = M.signer n.mind; used = M.times n.mind; journal = n.journal.items; commands = n.commands.items; is_lost = n.is_lost } };
 }
 
 impl<M: Knowing + Drop> Node<M> {
     /// A node that followed nothing: it stands for the beginning of every history.
     pub fn make(alloc: Global, mind: M) -> Node<M>
-        requires knows { M.mind mind ≡ fresh M.signer.key }
+        requires knows { M.mind mind ≡ fresh (signing_of (M.signer mind)).key }
         requires unused { M.times mind ≡ 0 }
-        ensures { (h : List AnEntry) → Stands M.tables M.rules M.signer h result }
+        ensures fresh { result ≡ new_node (M.signer mind) }
+        ensures stands { (h : List AnEntry) → Stands M.tables M.rules (signing_of (M.signer mind)) h result }
     {
         Node {
             mind,
@@ -79,6 +99,7 @@ impl<M: Knowing + Drop> Node<M> {
     fn write(&mut self, deed: Deed) -> Result<(), NoMemory>
         ensures ok { OnOk result (self.new ≡ wrote_at self.old.mind.view.count deed self.old.mind self.old) }
         ensures err { OnErr result (self.new ≡ self.old) }
+        ensures signer { self.new.signer ≡ self.old.signer }
     {
         let seen = self.mind.count();
         self.journal.push(Event { seen, deed })?;
@@ -88,6 +109,7 @@ impl<M: Knowing + Drop> Node<M> {
     fn handle_now(&mut self, bytes: Listed<u8>) -> Result<Option<NodeRefusal>, NoMemory>
         ensures ok { IfOk result (λ refusal. (refusal ≡ message_refusal M.tables M.rules self.old.mind (message_of bytes)) × (self.new ≡ handled M.tables M.rules bytes self.old)) }
         ensures err { OnErr result (SameJournal self.old self.new) }
+        ensures signer { self.new.signer ≡ self.old.signer }
     {
         let refusal = self.mind.handle(bytes.as_slice())?;
         self.write(Deed::Handled(bytes, refusal))?;
@@ -99,7 +121,8 @@ impl<M: Knowing + Drop> Node<M> {
         ensures answer { HandleAnswers M.tables M.rules bytes self.old self.new result }
 
         // Its journal stays one that the rules give, over every history that it stood for.
-        ensures keeps { (h : List AnEntry) → Legal M.rules h → Stands M.tables M.rules M.signer h self.old → Stands M.tables M.rules M.signer h self.new }
+        ensures keeps { (h : List AnEntry) → Legal M.rules h → Stands M.tables M.rules (signing_of self.old.signer) h self.old → Stands M.tables M.rules (signing_of self.old.signer) h self.new }
+        ensures signer { self.new.signer ≡ self.old.signer }
     {
         if self.is_lost {
             return Err(NodeFault::NoMemory);
@@ -116,9 +139,10 @@ impl<M: Knowing + Drop> Node<M> {
 
     /// Puts a command and its event into the journal and among the commands.
     fn take_up(&mut self, step: u32, command: Command) -> Result<Option<NodeRefusal>, NoMemory>
-        ensures refusal { IfOk result (λ refusal. refusal ≡ command_refusal M.tables M.rules M.signer.limit self.old.used self.old.mind command) }
-        ensures ok { IfOk result (λ refusal. self.new ≡ asked M.rules M.signer step command refusal self.old) }
+        ensures refusal { IfOk result (λ refusal. refusal ≡ command_refusal M.tables M.rules (signing_of self.old.signer).limit self.old.used self.old.mind command) }
+        ensures ok { IfOk result (λ refusal. self.new ≡ asked M.rules (signing_of self.old.signer) step command refusal self.old) }
         ensures err { OnErr result (SameJournal self.old self.new) }
+        ensures signer { self.new.signer ≡ self.old.signer }
     {
         let refusal = self.mind.command(&command)?;
         let seen = self.mind.count();
@@ -135,9 +159,10 @@ impl<M: Knowing + Drop> Node<M> {
     /// Signs the state of a payment.
     #[tactic(auto, using(crate::proofs::Wanting::wanted_so))]
     fn pay(&mut self, channel: &Name, asset: u32, amount: u64) -> Result<Sent, NoMemory>
-        ensures sends { IfOk result (λ sent. sent.sends.items ≡ paid_sends M.tables M.rules M.signer (Pay channel.now asset amount) self.old) }
-        ensures ok { OnOk result (self.new ≡ paid_if M.tables M.rules M.signer None (Pay channel.now asset amount) self.old) }
+        ensures sends { IfOk result (λ sent. sent.sends.items ≡ paid_sends M.tables M.rules (signing_of self.old.signer) (Pay channel.now asset amount) self.old) }
+        ensures ok { OnOk result (self.new ≡ paid_if M.tables M.rules (signing_of self.old.signer) None (Pay channel.now asset amount) self.old) }
         ensures err { OnErr result (SameJournal self.old self.new) }
+        ensures signer { self.new.signer ≡ self.old.signer }
     {
         let state = self.mind.paying(channel, asset, amount)?;
         self.sign_state(channel, state)
@@ -150,10 +175,11 @@ impl<M: Knowing + Drop> Node<M> {
         asset: u32,
         amount: u64,
     ) -> Result<Told, NoMemory>
-        ensures refusal { IfOk result (λ told. told.refusal ≡ command_refusal M.tables M.rules M.signer.limit self.old.used self.old.mind (Pay channel asset amount)) }
-        ensures sends { IfOk result (λ told. told.refusal ≡ None → told.sends.items ≡ paid_sends M.tables M.rules M.signer (Pay channel asset amount) (asked M.rules M.signer step (Pay channel asset amount) None self.old)) }
-        ensures ok { IfOk result (λ told. self.new ≡ paid_if M.tables M.rules M.signer told.refusal (Pay channel asset amount) (asked M.rules M.signer step (Pay channel asset amount) told.refusal self.old)) }
-        ensures err { OnErr result (IsPartly M.tables M.rules M.signer step (Pay channel asset amount) self.old self.new) }
+        ensures refusal { IfOk result (λ told. told.refusal ≡ command_refusal M.tables M.rules (signing_of self.old.signer).limit self.old.used self.old.mind (Pay channel asset amount)) }
+        ensures sends { IfOk result (λ told. told.refusal ≡ None → told.sends.items ≡ paid_sends M.tables M.rules (signing_of self.old.signer) (Pay channel asset amount) (asked M.rules (signing_of self.old.signer) step (Pay channel asset amount) None self.old)) }
+        ensures ok { IfOk result (λ told. self.new ≡ paid_if M.tables M.rules (signing_of self.old.signer) told.refusal (Pay channel asset amount) (asked M.rules (signing_of self.old.signer) step (Pay channel asset amount) told.refusal self.old)) }
+        ensures err { OnErr result (IsPartly M.tables M.rules (signing_of self.old.signer) step (Pay channel asset amount) self.old self.new) }
+        ensures signer { self.new.signer ≡ self.old.signer }
     {
         let refusal = self.take_up(
             step,
@@ -187,20 +213,22 @@ impl<M: Knowing + Drop> Node<M> {
     }
 
     fn take_up_quietly(&mut self, step: u32, command: Command) -> Result<Told, NoMemory>
-        ensures refusal { IfOk result (λ told. told.refusal ≡ command_refusal M.tables M.rules M.signer.limit self.old.used self.old.mind command) }
+        ensures refusal { IfOk result (λ told. told.refusal ≡ command_refusal M.tables M.rules (signing_of self.old.signer).limit self.old.used self.old.mind command) }
         ensures sends { IfOk result (λ told. told.sends.items ≡ []) }
-        ensures ok { IfOk result (λ told. self.new ≡ asked M.rules M.signer step command told.refusal self.old) }
+        ensures ok { IfOk result (λ told. self.new ≡ asked M.rules (signing_of self.old.signer) step command told.refusal self.old) }
         ensures err { OnErr result (SameJournal self.old self.new) }
+        ensures signer { self.new.signer ≡ self.old.signer }
     {
         let refusal = self.take_up(step, command)?;
         Ok(self.quiet(refusal))
     }
 
     fn command_now(&mut self, step: u32, command: Command) -> Result<Told, NoMemory>
-        ensures refusal { IfOk result (λ told. told.refusal ≡ command_refusal M.tables M.rules M.signer.limit self.old.used self.old.mind command) }
-        ensures sends { IfOk result (λ told. told.refusal ≡ None → told.sends.items ≡ paid_sends M.tables M.rules M.signer command (asked M.rules M.signer step command None self.old)) }
-        ensures ok { IfOk result (λ told. self.new ≡ told_to M.tables M.rules M.signer step command self.old) }
-        ensures err { OnErr result (IsPartly M.tables M.rules M.signer step command self.old self.new) }
+        ensures refusal { IfOk result (λ told. told.refusal ≡ command_refusal M.tables M.rules (signing_of self.old.signer).limit self.old.used self.old.mind command) }
+        ensures sends { IfOk result (λ told. told.refusal ≡ None → told.sends.items ≡ paid_sends M.tables M.rules (signing_of self.old.signer) command (asked M.rules (signing_of self.old.signer) step command None self.old)) }
+        ensures ok { IfOk result (λ told. self.new ≡ told_to M.tables M.rules (signing_of self.old.signer) step command self.old) }
+        ensures err { OnErr result (IsPartly M.tables M.rules (signing_of self.old.signer) step command self.old self.new) }
+        ensures signer { self.new.signer ≡ self.old.signer }
     {
         match command {
             Command::Pay {
@@ -250,9 +278,9 @@ impl<M: Knowing + Drop> Node<M> {
 
     /// Takes a command up, or says why not; a payment it signs.
     pub fn command(&mut self, step: u32, command: Command) -> Result<Outs, NodeFault>
-        requires { leaves command ≡ false }
-        ensures answer { CommandAnswers M.tables M.rules M.signer step command self.old self.new result }
-        ensures keeps { (h : List AnEntry) → Legal M.rules h → Stands M.tables M.rules M.signer h self.old → Stands M.tables M.rules M.signer h self.new }
+        ensures answer { CommandAnswers M.tables M.rules (signing_of self.old.signer) step command self.old self.new result }
+        ensures keeps { (h : List AnEntry) → Legal M.rules h → Stands M.tables M.rules (signing_of self.old.signer) h self.old → Stands M.tables M.rules (signing_of self.old.signer) h self.new }
+        ensures signer { self.new.signer ≡ self.old.signer }
     {
         if self.is_lost {
             return Err(NodeFault::NoMemory);
@@ -274,19 +302,19 @@ impl<M: Knowing + Drop> Node<M> {
     }
 
     fn see_now(&mut self, entry: &Entry) -> Result<(), NoMemory>
-        requires { CanFollow M.rules.named entry.now self.old.mind.view }
         ensures ok { OnOk result (self.new ≡ saw_one M.rules self.old entry.now) }
         ensures err { OnErr result (SameJournal self.old self.new) }
+        ensures signer { self.new.signer ≡ self.old.signer }
     {
         self.mind.see(entry)
     }
 
-    /// Follows the entry that comes next.
+    /// Follows the entry that comes next. One that can't come next it doesn't follow: it is lost then too.
     pub fn see(&mut self, entry: &Entry) -> Result<(), NoMemory>
-        requires { CanFollow M.rules.named entry.now self.old.mind.view }
         ensures ok { OnOk result ((self.old.is_lost ≡ false) × (self.new ≡ saw_one M.rules self.old entry.now)) }
         ensures err { OnErr result ((self.new.is_lost ≡ true) × SameJournal self.old self.new) }
-        ensures keeps { (h : List AnEntry) → Legal M.rules h → ComesNext h entry.now self.old → Stands M.tables M.rules M.signer h self.old → Stands M.tables M.rules M.signer h self.new }
+        ensures keeps { (h : List AnEntry) → Legal M.rules h → ComesNext h entry.now self.old → Stands M.tables M.rules (signing_of self.old.signer) h self.old → Stands M.tables M.rules (signing_of self.old.signer) h self.new }
+        ensures signer { self.new.signer ≡ self.old.signer }
     {
         if self.is_lost {
             return Err(NoMemory);
@@ -303,10 +331,11 @@ impl<M: Knowing + Drop> Node<M> {
     /// Signs a state, if it is given one and the key isn't spent.
     fn sign_state(&mut self, channel: &Name, state: Option<State>) -> Result<Sent, NoMemory>
         requires { IfSome state (λ s. IsWanted M.tables M.rules self.old.mind channel.now s) }
-        ensures sends { IfOk result (λ sent. sent.sends.items ≡ sent_if M.rules M.signer channel.now state self.old) }
-        ensures spent { IfOk result (λ sent. sent.spent ≡ spent_if M.signer state self.old) }
-        ensures ok { OnOk result (self.new ≡ signed_if M.rules M.signer channel.now state self.old) }
+        ensures sends { IfOk result (λ sent. sent.sends.items ≡ sent_if M.rules (signing_of self.old.signer) channel.now state self.old) }
+        ensures spent { IfOk result (λ sent. sent.spent ≡ spent_if (signing_of self.old.signer) state self.old) }
+        ensures ok { OnOk result (self.new ≡ signed_if M.rules (signing_of self.old.signer) channel.now state self.old) }
         ensures err { OnErr result (SameJournal self.old self.new) }
+        ensures signer { self.new.signer ≡ self.old.signer }
     {
         let Some(state) = state else {
             return Ok(self.nothing(None));
@@ -332,10 +361,11 @@ impl<M: Knowing + Drop> Node<M> {
 
     #[tactic(auto, using(crate::proofs::Wanting::wanted_so))]
     fn sign_one(&mut self, channel: &Name) -> Result<Sent, NoMemory>
-        ensures sends { IfOk result (λ sent. sent.sends.items ≡ sent_if M.rules M.signer channel.now (signs_in M.tables M.rules None self.old.mind channel.now) self.old) }
-        ensures spent { IfOk result (λ sent. sent.spent ≡ spent_if M.signer (signs_in M.tables M.rules None self.old.mind channel.now) self.old) }
-        ensures ok { OnOk result (self.new ≡ signed_if M.rules M.signer channel.now (signs_in M.tables M.rules None self.old.mind channel.now) self.old) }
+        ensures sends { IfOk result (λ sent. sent.sends.items ≡ sent_if M.rules (signing_of self.old.signer) channel.now (signs_in M.tables M.rules None self.old.mind channel.now) self.old) }
+        ensures spent { IfOk result (λ sent. sent.spent ≡ spent_if (signing_of self.old.signer) (signs_in M.tables M.rules None self.old.mind channel.now) self.old) }
+        ensures ok { OnOk result (self.new ≡ signed_if M.rules (signing_of self.old.signer) channel.now (signs_in M.tables M.rules None self.old.mind channel.now) self.old) }
         ensures err { OnErr result (SameJournal self.old self.new) }
+        ensures signer { self.new.signer ≡ self.old.signer }
     {
         let state = self.mind.wanted(channel)?;
         self.sign_state(channel, state)
@@ -344,11 +374,12 @@ impl<M: Knowing + Drop> Node<M> {
     fn sign_all(&mut self, all: &mut Sent, channels: &[Name]) -> Result<(), NoMemory>
         requires { self.old.is_lost ≡ false }
         ensures kept { OnOk result (self.new.is_lost ≡ false) }
-        ensures sends { OnOk result (all.new.sends.items ≡ all.old.sends.items ++ sent M.tables M.rules M.signer channels.now self.old) }
-        ensures spent { OnOk result (all.new.spent ≡ option_or all.old.spent (spent M.tables M.rules M.signer channels.now self.old)) }
-        ensures stands { OnOk result ((h : List AnEntry) → Legal M.rules h → Stands M.tables M.rules M.signer h self.old → Stands M.tables M.rules M.signer h self.new) }
-        ensures ok { OnOk result (self.new ≡ ticked M.tables M.rules M.signer channels.now self.old) }
-        ensures err { OnErr result ((mid : NodeOf) × ((h : List AnEntry) → Legal M.rules h → Stands M.tables M.rules M.signer h self.old → Stands M.tables M.rules M.signer h mid) × SameJournal mid self.new) }
+        ensures sends { OnOk result (all.new.sends.items ≡ all.old.sends.items ++ sent M.tables M.rules (signing_of self.old.signer) channels.now self.old) }
+        ensures spent { OnOk result (all.new.spent ≡ option_or all.old.spent (spent M.tables M.rules (signing_of self.old.signer) channels.now self.old)) }
+        ensures stands { OnOk result ((h : List AnEntry) → Legal M.rules h → Stands M.tables M.rules (signing_of self.old.signer) h self.old → Stands M.tables M.rules (signing_of self.old.signer) h self.new) }
+        ensures ok { OnOk result (self.new ≡ ticked M.tables M.rules (signing_of self.old.signer) channels.now self.old) }
+        ensures err { OnErr result (StandsPartly M.tables M.rules (signing_of self.old.signer) self.old self.new) }
+        ensures signer { self.new.signer ≡ self.old.signer }
     {
         for channel in channels {
             let more = self.sign_one(channel)?;
@@ -357,19 +388,94 @@ impl<M: Knowing + Drop> Node<M> {
         Ok(())
     }
 
+    fn no_challenges(&self, spent: Option<u32>) -> Challenged
+        ensures calls { result.calls.items ≡ [] }
+        ensures spent { result.spent ≡ spent }
+    {
+        Challenged {
+            calls: Vec::new(*self.journal.allocator()),
+            spent,
+        }
+    }
+
+    /// Signs a challenge, if it is given one and the key isn't spent.
+    fn sign_challenge(
+        &mut self,
+        channel: &Name,
+        own: Option<OwnChallenge>,
+    ) -> Result<Challenged, NoMemory>
+        requires { IfSome own (λ c. challenge_in self.old.mind channel.now ≡ Some c) }
+        ensures calls { IfOk result (λ given. given.calls.items ≡ challenge_call M.rules (signing_of self.old.signer) channel.now own self.old) }
+        ensures spent { IfOk result (λ given. given.spent ≡ spent_if (signing_of self.old.signer) own self.old) }
+        ensures ok { OnOk result (self.new ≡ challenged_if M.rules (signing_of self.old.signer) channel.now own self.old) }
+        ensures err { OnErr result (SameJournal self.old self.new) }
+        ensures signer { self.new.signer ≡ self.old.signer }
+    {
+        let Some(own) = own else {
+            return Ok(self.no_challenges(None));
+        };
+        if !self.mind.can_sign() {
+            return Ok(self.no_challenges(Some(self.mind.used())));
+        }
+        let signature = self.mind.sign_challenge(channel, &own)?;
+        let OwnChallenge { chain, state, who } = own;
+        let call = Call::Challenge {
+            chain,
+            challenger: who,
+            signature: signature.copy()?,
+        };
+        let calls = vec![in *self.journal.allocator(); call]?;
+        self.write(Deed::SignedChallenge(*channel, state, who, signature))?;
+        Ok(Challenged { calls, spent: None })
+    }
+
+    #[tactic(auto, using(crate::proofs::Wanting::own_so))]
+    fn challenge_one(&mut self, channel: &Name) -> Result<Challenged, NoMemory>
+        ensures calls { IfOk result (λ given. given.calls.items ≡ challenge_call M.rules (signing_of self.old.signer) channel.now (challenge_in self.old.mind channel.now) self.old) }
+        ensures spent { IfOk result (λ given. given.spent ≡ spent_if (signing_of self.old.signer) (challenge_in self.old.mind channel.now) self.old) }
+        ensures ok { OnOk result (self.new ≡ challenged_if M.rules (signing_of self.old.signer) channel.now (challenge_in self.old.mind channel.now) self.old) }
+        ensures err { OnErr result (SameJournal self.old self.new) }
+        ensures signer { self.new.signer ≡ self.old.signer }
+    {
+        let own = self.mind.challenge(channel)?;
+        self.sign_challenge(channel, own)
+    }
+
+    fn challenge_all(&mut self, all: &mut Challenged, channels: &[Name]) -> Result<(), NoMemory>
+        requires { self.old.is_lost ≡ false }
+        ensures kept { OnOk result (self.new.is_lost ≡ false) }
+        ensures calls { OnOk result (all.new.calls.items ≡ all.old.calls.items ++ challenge_calls M.rules (signing_of self.old.signer) channels.now self.old) }
+        ensures spent { OnOk result (all.new.spent ≡ option_or all.old.spent (spent_challenging M.rules (signing_of self.old.signer) channels.now self.old)) }
+        ensures stands { OnOk result ((h : List AnEntry) → Legal M.rules h → Stands M.tables M.rules (signing_of self.old.signer) h self.old → Stands M.tables M.rules (signing_of self.old.signer) h self.new) }
+        ensures ok { OnOk result (self.new ≡ challenged_all M.rules (signing_of self.old.signer) channels.now self.old) }
+        ensures err { OnErr result (StandsPartly M.tables M.rules (signing_of self.old.signer) self.old self.new) }
+        ensures signer { self.new.signer ≡ self.old.signer }
+    {
+        for channel in channels {
+            let more = self.challenge_one(channel)?;
+            add_challenged(all, more)?;
+        }
+        Ok(())
+    }
+
+    /// Puts a call into the journal, and notes it.
     fn give(&mut self, call: &Call) -> Result<(), NoMemory>
         ensures ok { OnOk result (self.new ≡ gave_one self.old call.now) }
         ensures err { OnErr result (SameJournal self.old self.new) }
+        ensures signer { self.new.signer ≡ self.old.signer }
     {
-        let call = copy_call(call)?;
-        self.write(Deed::Called(call))
+        let copy = copy_call(call)?;
+        self.write(Deed::Called(copy))?;
+        self.mind.called(call);
+        Ok(())
     }
 
     fn give_all(&mut self, given: &[Call]) -> Result<(), NoMemory>
         requires kept { self.old.is_lost ≡ false }
-        requires given { given.now ≡ M.tables.calls (facts_of self.old.mind) }
-        ensures ok { OnOk result (self.new ≡ gave_all M.tables self.old) }
-        ensures err { OnErr result ((mid : NodeOf) × ((h : List AnEntry) → Legal M.rules h → Stands M.tables M.rules M.signer h self.old → Stands M.tables M.rules M.signer h mid) × SameJournal mid self.new) }
+        requires may { All (MayCall M.tables self.old.mind) given.now }
+        ensures ok { OnOk result (self.new ≡ gave given.now self.old) }
+        ensures err { OnErr result (StandsPartly M.tables M.rules (signing_of self.old.signer) self.old self.new) }
+        ensures signer { self.new.signer ≡ self.old.signer }
     {
         for call in given {
             self.give(call)?;
@@ -377,33 +483,55 @@ impl<M: Knowing + Drop> Node<M> {
         Ok(())
     }
 
-    fn tick_now(&mut self) -> Result<Outs, NoMemory>
+    /// Signs its states and then its challenges, and tells all that it gives.
+    fn signed_outs(&mut self) -> Result<Outs, NoMemory>
         requires { self.old.is_lost ≡ false }
-        ensures gives { IfOk result (λ outs. outs ≡ tick_gives M.tables M.rules M.signer self.old) }
-        ensures few { IfOk result (λ outs. length outs.calls ≤ 8192) }
-        ensures ok { OnOk result (self.new ≡ after_tick M.tables M.rules M.signer self.old) }
-        ensures err { OnErr result ((mid : NodeOf) × ((h : List AnEntry) → Legal M.rules h → Stands M.tables M.rules M.signer h self.old → Stands M.tables M.rules M.signer h mid) × SameJournal mid self.new) }
+        ensures gives { IfOk result (λ outs. outs ≡ tick_gives M.tables M.rules (signing_of self.old.signer) self.old) }
+        ensures few { IfOk result (λ outs. length outs.calls ≤ 32768) }
+        ensures kept { OnOk result (self.new.is_lost ≡ false) }
+        ensures stands { OnOk result ((h : List AnEntry) → Legal M.rules h → Stands M.tables M.rules (signing_of self.old.signer) h self.old → Stands M.tables M.rules (signing_of self.old.signer) h self.new) }
+        ensures ok { OnOk result (self.new ≡ after_challenging M.tables M.rules (signing_of self.old.signer) self.old) }
+        ensures err { OnErr result (StandsPartly M.tables M.rules (signing_of self.old.signer) self.old self.new) }
+        ensures signer { self.new.signer ≡ self.old.signer }
     {
         let channels = self.mind.channels()?;
         let mut all = self.nothing(None);
         self.sign_all(&mut all, channels.as_slice())?;
-        let given = self.mind.calls()?;
-        self.give_all(given.as_slice())?;
+        let mut given = self.no_challenges(all.spent);
+        self.challenge_all(&mut given, channels.as_slice())?;
+        let Challenged { mut calls, spent } = given;
+        let mut more = self.mind.calls()?;
+        calls.append(&mut more)?;
         Ok(Outs {
             sends: Listed::make(all.sends),
-            calls: Listed::make(given),
-            spent: all.spent,
+            calls: Listed::make(calls),
+            spent,
         })
     }
 
-    /// Signs in each channel, in order, at most one state, which it wants there, and gives the calls of its stages, at
-    /// most 8192.
+    #[tactic(auto, using(crate::proofs::Given::tick_calls_may))]
+    fn tick_now(&mut self) -> Result<Outs, NoMemory>
+        requires { self.old.is_lost ≡ false }
+        ensures gives { IfOk result (λ outs. outs ≡ tick_gives M.tables M.rules (signing_of self.old.signer) self.old) }
+        ensures few { IfOk result (λ outs. length outs.calls ≤ 32768) }
+        ensures ok { OnOk result (self.new ≡ after_tick M.tables M.rules (signing_of self.old.signer) self.old) }
+        ensures err { OnErr result (StandsPartly M.tables M.rules (signing_of self.old.signer) self.old self.new) }
+        ensures signer { self.new.signer ≡ self.old.signer }
+    {
+        let outs = self.signed_outs()?;
+        self.give_all(outs.calls.as_slice())?;
+        Ok(outs)
+    }
+
+    /// Signs in each channel, in order, at most one state, which it wants there, or once it left at most one challenge,
+    /// and gives these and the calls of its stages or of its exit, at most 32768.
     pub fn tick(&mut self) -> Result<Outs, NoMemory>
-        ensures gives { IfOk result (λ outs. outs ≡ tick_gives M.tables M.rules M.signer self.old) }
-        ensures few { IfOk result (λ outs. length outs.calls ≤ 8192) }
-        ensures ok { OnOk result ((self.old.is_lost ≡ false) × (self.new ≡ after_tick M.tables M.rules M.signer self.old)) }
+        ensures gives { IfOk result (λ outs. outs ≡ tick_gives M.tables M.rules (signing_of self.old.signer) self.old) }
+        ensures few { IfOk result (λ outs. length outs.calls ≤ 32768) }
+        ensures ok { OnOk result ((self.old.is_lost ≡ false) × (self.new ≡ after_tick M.tables M.rules (signing_of self.old.signer) self.old)) }
         ensures err { OnErr result (self.new.is_lost ≡ true) }
-        ensures keeps { (h : List AnEntry) → Legal M.rules h → Stands M.tables M.rules M.signer h self.old → Stands M.tables M.rules M.signer h self.new }
+        ensures keeps { (h : List AnEntry) → Legal M.rules h → Stands M.tables M.rules (signing_of self.old.signer) h self.old → Stands M.tables M.rules (signing_of self.old.signer) h self.new }
+        ensures signer { self.new.signer ≡ self.old.signer }
     {
         if self.is_lost {
             return Err(NoMemory);
@@ -420,6 +548,7 @@ impl<M: Knowing + Drop> Node<M> {
     fn watch_now(&mut self, seen: u32, place: u32, calls: Listed<Call>) -> Result<(), NoMemory>
         ensures ok { OnOk result (self.new ≡ watched seen place calls self.old) }
         ensures err { OnErr result (self.new ≡ self.old) }
+        ensures signer { self.new.signer ≡ self.old.signer }
     {
         self.journal.push(Event {
             seen,
@@ -434,7 +563,8 @@ impl<M: Knowing + Drop> Node<M> {
         ensures err { OnErr result ((self.new.is_lost ≡ true) × SameJournal self.old self.new) }
 
         // Where these are the calls of a look by the chains that it holds.
-        ensures keeps { (h : List AnEntry) → Legal M.rules h → Looks M.rules h seen calls self.old → Stands M.tables M.rules M.signer h self.old → Stands M.tables M.rules M.signer h self.new }
+        ensures keeps { (h : List AnEntry) → Legal M.rules h → Looks M.rules h seen calls self.old → Stands M.tables M.rules (signing_of self.old.signer) h self.old → Stands M.tables M.rules (signing_of self.old.signer) h self.new }
+        ensures signer { self.new.signer ≡ self.old.signer }
     {
         if self.is_lost {
             return Err(NoMemory);
@@ -446,6 +576,21 @@ impl<M: Knowing + Drop> Node<M> {
             }
             Ok(()) => Ok(()),
         }
+    }
+
+    /// What it knows, with its signer.
+    pub fn mind(&self) -> &M
+        ensures mind { M.mind result.now ≡ self.now.mind }
+        ensures signer { M.signer result.now ≡ self.now.signer }
+    {
+        &self.mind
+    }
+
+    /// Whether memory failed it.
+    pub fn is_lost(&self) -> bool
+        ensures { result ≡ self.now.is_lost }
+    {
+        self.is_lost
     }
 
     /// Its events, in the order of time.

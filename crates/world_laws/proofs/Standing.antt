@@ -149,4 +149,4 @@ module _ {P : Type 0} (ways : Ways P) (stands : List Entry → P → Type 0) (ke
 
   -- and its journals are honest
   pub honest : (w : WorldOf P) → IsWorld stands w → AreHonest ways w
-  honest w is m i = kept.honest w.history m.node is.legal (is.nodes m i)
+  honest w is valid m i = kept.honest w.history m.node is.legal valid (is.nodes m i)

@@ -5,16 +5,20 @@ use Rattle.channel_calls.specs.declared.entry.Entry.{Entry}
 use Rattle.channel_watcher.specs.Watching.{StandsFor}
 use Rattle.net_model.specs.Honest.{Honest}
 use Rattle.net_model.specs.Journals.{In}
+use Rattle.net_model.specs.Valid.{IsValidEntry}
+use Rattle.std.specs.List.{AllByRecursion}
+use Rattle.sign_index.specs.Signing.{Signing}
 use Rattle.support_chain.specs.Real.{real}
-use Rattle.net_party.specs.Ways.{Ways, followed, looked, ComeNext, HasLooked}
+use Rattle.net_party.specs.Ways.{Ways, IsFresh, followed, looked, ComeNext, HasLooked}
 use Rattle.net_party.specs.declared.command.Command.{Command}
 use Rattle.net_party.specs.declared.lookout.Lookout.{Lookout}
 use Rattle.net_world.specs.Members.{MemberOf}
 use Rattle.net_world.specs.Worlds.{WorldOf}
 
--- What nodes of these rules keep: `stands h p` says that p has followed a front of h, over which its journal is honest.
+-- What nodes of these rules keep: `stands h p` says that p has followed a front of h; over a history of values its journal is
+-- honest.
 pub record AreKept {P : Type 0} (ways : Ways P) (stands : List Entry → P → Type 0) : Type 0 where
-  pub fresh : (h : List Entry) (number : ℕ) (seed : List ℕ) (height : ℕ) → stands h (ways.fresh number seed height)
+  pub fresh : (h : List Entry) (number : ℕ) (signer : Signing) → IsFresh signer → stands h (ways.fresh number signer)
   pub saw : (h entries : List Entry) (p : P) → Legal real h → ComeNext h entries (ways.seen p) → stands h p → stands h (ways.saw entries p)
   pub commanded : (h : List Entry) (step : ℕ) (command : Command) (p : P) → Legal real h → stands h p → stands h (ways.commanded step command p)
   pub handled : (h : List Entry) (bytes : List ℕ) (p : P) → Legal real h → stands h p → stands h (ways.handled bytes p)
@@ -24,7 +28,7 @@ pub record AreKept {P : Type 0} (ways : Ways P) (stands : List Entry → P → T
       → stands h (ways.watched (followed entries l).seen place (looked (ways.chains p) (followed entries l)) p)
   pub grows : (h : List Entry) (e : Entry) (p : P) → Legal real (e ∷ h) → stands h p → stands (e ∷ h) p
   pub within : (h : List Entry) (p : P) → stands h p → ways.seen p ≤ length h
-  pub honest : (h : List Entry) (p : P) → Legal real h → stands h p → Honest real (ways.key p) h (ways.lines p)
+  pub honest : (h : List Entry) (p : P) → Legal real h → AllByRecursion IsValidEntry h → stands h p → Honest real (ways.key p) h (ways.lines p)
 
 -- a watcher stands for a front of the history
 pub record Follows (h : List Entry) (l : Lookout) : Type 0 where
@@ -39,6 +43,6 @@ pub record IsWorld {P : Type 0} (stands : List Entry → P → Type 0) (w : Worl
   pub nodes : (m : MemberOf P) → In m w.members → stands w.history m.node
   pub watchers : (m : MemberOf P) → In m w.members → (l : Lookout) → In l m.watchers → Follows w.history l
 
--- each journal is honest over the whole history
+-- where the history is one of values, each journal is honest over the whole of it
 abbrev pub AreHonest : {P : Type 0} → Ways P → WorldOf P → Type 0
-AreHonest {P} ways w = (m : MemberOf P) → In m w.members → Honest real (ways.key m.node) w.history (ways.lines m.node)
+AreHonest {P} ways w = AllByRecursion IsValidEntry w.history → (m : MemberOf P) → In m w.members → Honest real (ways.key m.node) w.history (ways.lines m.node)

@@ -2,16 +2,17 @@
 use Rattle.std.proofs.Common.{refl, sym, ◌∙◌, ap, subst}
 use Rattle.node_model.specs.Nodes.{NodeOf, Stands}
 use Rattle.node_laws.proofs.Calling.{calls_keep_standing}
+use Rattle.node_model.specs.Playing.{signing_of}
 use Rattle.node_objective.proofs.Losing.{loses-partly}
 use Rattle.node_objective.proofs.node.Node.command.Goals as goal
 
 pub returns-after-told-clause-keeps : goal.returns-after-told-clause-keeps
 returns-after-told-clause-keeps g c = λ h legal st.
-    subst (Stands g.M.Knowing.tables g.M.Knowing.rules g.M.Knowing.signer h) (sym c.in-Ok.ensures.ok)
-    ((calls_keep_standing g.M.Knowing.tables g.M.Knowing.rules g.M.Knowing.signer h c.args.self.now legal (ap (λ (n : NodeOf). n.is_lost) (sym c.self.view_is) ∙ c.if-self.false) st).tells c.args.step c.args.command c.requires)
+    subst (Stands g.M.Knowing.tables g.M.Knowing.rules (signing_of c.args.self.now.signer) h) (sym c.in-Ok.ensures.ok)
+    ((calls_keep_standing g.M.Knowing.tables g.M.Knowing.rules (signing_of c.args.self.now.signer) h c.args.self.now legal (ap (λ (n : NodeOf). n.is_lost) (sym c.self.view_is) ∙ c.if-self.false) st).tells c.args.step c.args.command)
 
 pub returns-in-Err-clause-keeps : goal.returns-in-Err-clause-keeps
 returns-in-Err-clause-keeps g c = λ h legal st.
-    loses-partly g.M.Knowing.tables g.M.Knowing.rules g.M.Knowing.signer h c.args.self.now c.command_now.new.self _ c.args.step c.args.command c.requires legal refl
+    loses-partly g.M.Knowing.tables g.M.Knowing.rules (signing_of c.args.self.now.signer) h c.args.self.now c.command_now.new.self _ c.args.step c.args.command legal refl
     (ap (λ (n : NodeOf). n.journal) c.self-2.view_is) (ap (λ (n : NodeOf). n.commands) c.self-2.view_is) c.in-Err.ensures.err
     (ap (λ (n : NodeOf). n.is_lost) (sym c.self.view_is) ∙ c.if-self.false) st

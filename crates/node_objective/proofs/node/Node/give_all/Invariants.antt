@@ -1,5 +1,6 @@
-use Rattle.node_objective.proofs.Ticking.{Giving}
+use Rattle.std.proofs.Common.{◌≡◌, take}
+use Rattle.node_model.specs.Nodes.{gave}
 use Rattle.node_objective.proofs.node.Node.give_all.Given as goal
 
 abbrev pub invariant-loop-call : goal.invariant-loop-call
-invariant-loop-call g l = Giving g.M.Knowing.tables g.M.Knowing.rules g.M.Knowing.signer l.given l.initial.self l.call-index l.self
+invariant-loop-call g l = l.self ≡ gave (take l.call-index l.given) l.initial.self

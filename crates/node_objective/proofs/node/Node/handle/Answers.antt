@@ -2,14 +2,15 @@
 use Rattle.std.proofs.Common.{sym, ◌∙◌, ap, subst}
 use Rattle.node_model.specs.Nodes.{NodeOf, Stands}
 use Rattle.node_laws.proofs.Calling.{calls_keep_standing}
+use Rattle.node_model.specs.Playing.{signing_of}
 use Rattle.node_objective.proofs.node.Node.handle.Goals as goal
 
 pub returns-in-Ok-None-clause-keeps : goal.returns-in-Ok-None-clause-keeps
 returns-in-Ok-None-clause-keeps g c = λ h legal st.
-    subst (Stands g.M.Knowing.tables g.M.Knowing.rules g.M.Knowing.signer h) (sym c.in-Ok-None.ensures.ok.1)
-    ((calls_keep_standing g.M.Knowing.tables g.M.Knowing.rules g.M.Knowing.signer h c.args.self.now legal (ap (λ (n : NodeOf). n.is_lost) (sym c.self.view_is) ∙ c.if-self.false) st).handles c.args.bytes)
+    subst (Stands g.M.Knowing.tables g.M.Knowing.rules (signing_of c.args.self.now.signer) h) (sym c.in-Ok-None.ensures.ok.1)
+    ((calls_keep_standing g.M.Knowing.tables g.M.Knowing.rules (signing_of c.args.self.now.signer) h c.args.self.now legal (ap (λ (n : NodeOf). n.is_lost) (sym c.self.view_is) ∙ c.if-self.false) st).handles c.args.bytes)
 
 pub returns-in-Ok-Some-clause-keeps : goal.returns-in-Ok-Some-clause-keeps
 returns-in-Ok-Some-clause-keeps g c = λ h legal st.
-    subst (Stands g.M.Knowing.tables g.M.Knowing.rules g.M.Knowing.signer h) (sym c.in-Ok-Some.ensures.ok.1)
-    ((calls_keep_standing g.M.Knowing.tables g.M.Knowing.rules g.M.Knowing.signer h c.args.self.now legal (ap (λ (n : NodeOf). n.is_lost) (sym c.self.view_is) ∙ c.if-self.false) st).handles c.args.bytes)
+    subst (Stands g.M.Knowing.tables g.M.Knowing.rules (signing_of c.args.self.now.signer) h) (sym c.in-Ok-Some.ensures.ok.1)
+    ((calls_keep_standing g.M.Knowing.tables g.M.Knowing.rules (signing_of c.args.self.now.signer) h c.args.self.now legal (ap (λ (n : NodeOf). n.is_lost) (sym c.self.view_is) ∙ c.if-self.false) st).handles c.args.bytes)

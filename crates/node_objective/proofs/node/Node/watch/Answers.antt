@@ -2,9 +2,10 @@
 use Rattle.std.proofs.Common.{sym, ◌∙◌, ap, subst}
 use Rattle.node_model.specs.Nodes.{NodeOf, Stands}
 use Rattle.node_laws.proofs.Calling.{calls_keep_standing}
+use Rattle.node_model.specs.Playing.{signing_of}
 use Rattle.node_objective.proofs.node.Node.watch.Goals as goal
 
 pub returns-in-Ok-clause-keeps : goal.returns-in-Ok-clause-keeps
 returns-in-Ok-clause-keeps g c = λ h legal looks st.
-    subst (Stands g.M.Knowing.tables g.M.Knowing.rules g.M.Knowing.signer h) (sym c.in-Ok.ensures.ok)
-    ((calls_keep_standing g.M.Knowing.tables g.M.Knowing.rules g.M.Knowing.signer h c.args.self.now legal (ap (λ (n : NodeOf). n.is_lost) (sym c.self.view_is) ∙ c.if-self.false) st).watches c.args.seen c.args.place c.args.calls looks)
+    subst (Stands g.M.Knowing.tables g.M.Knowing.rules (signing_of c.args.self.now.signer) h) (sym c.in-Ok.ensures.ok)
+    ((calls_keep_standing g.M.Knowing.tables g.M.Knowing.rules (signing_of c.args.self.now.signer) h c.args.self.now legal (ap (λ (n : NodeOf). n.is_lost) (sym c.self.view_is) ∙ c.if-self.false) st).watches c.args.seen c.args.place c.args.calls looks)

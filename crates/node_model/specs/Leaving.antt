@@ -1,0 +1,60 @@
+-- What a node does once it left: it challenges with the chains that it holds, and gives the calls of its exit.
+use Rattle.std.specs.Prelude.{◌≡◌, ℕ, true, not, ◌&&◌, ◌||◌, List, [], Option, Some, None, ◌⊎◌, if◌then◌else◌}
+use Rattle.nitro_bytes.specs.Parts.{StateParts}
+use Rattle.nitro_bytes.specs.declared.chain.Chain.{Chain}
+use Rattle.channel_model.specs.Rules.{newest}
+use Rattle.channel_calls.specs.declared.call.Call.{Call}
+use Rattle.channel_calls.specs.declared.call.Call.TheVariants.{Challenge}
+use Rattle.channel_calls.specs.declared.held_chain.HeldChain.{HeldChain}
+use Rattle.net_model.specs.Journals.{In}
+use Rattle.channel_store.specs.Keeping.{is_held}
+use Rattle.channel_store.specs.Storing.{kept_of}
+use Rattle.channel_store.specs.declared.kept.Kept.{Kept}
+use Rattle.node_model.specs.Tables.{Tables}
+use Rattle.node_model.specs.Minds.{Mind, facts_of}
+use Rattle.node_model.specs.Refusing.{is_open, stands_in}
+
+-- ---- challenges
+
+-- A chain to challenge with, its newest state, and the challenger's position.
+pub record OwnChallenge : Type 0 where
+  pub chain : Chain
+  pub state : StateParts
+  pub who : ℕ
+
+abbrev pub challenge_with : Kept → Option StateParts → Option OwnChallenge
+challenge_with k None = None
+challenge_with k (Some s) = Some (record { chain = k.chain; state = s; who = k.me })
+
+abbrev pub challenge_of : Mind → List ℕ → Option Kept → Option OwnChallenge
+challenge_of m channel None = None
+challenge_of m channel (Some k) = if is_held k && is_open (stands_in (facts_of m) channel) then challenge_with k (newest k.chain.states) else None
+
+-- with what it challenges in a channel: once it left, with the chain that it holds of a channel that is open
+abbrev pub challenge_in : Mind → List ℕ → Option OwnChallenge
+challenge_in m channel = if m.left then challenge_of m channel (kept_of channel m.kept) else None
+
+-- it challenges with this state, as this participant
+abbrev pub ChallengesWith : Mind → List ℕ → StateParts → ℕ → Type 0
+ChallengesWith m channel state who = (c : OwnChallenge) × (challenge_in m channel ≡ Some c) × (c.state ≡ state) × (c.who ≡ who)
+
+-- ---- calls
+
+-- once it left, the calls of its exit: when all channels with a held chain are final, and again while it can still get more
+-- than it was paid; before, those that its stages give
+abbrev pub exit_given : Tables → Mind → List Call
+exit_given t m = if not m.gave || t.is_owed (facts_of m) then t.exits (facts_of m) else []
+
+abbrev pub calls_of : Tables → Mind → List Call
+calls_of t m = if m.left then exit_given t m else t.calls (facts_of m)
+
+-- what it may call: besides, a challenge with a chain that it holds
+abbrev pub may_give : Tables → Mind → List Call
+may_give t m = if m.left then t.exits (facts_of m) else t.calls (facts_of m)
+
+abbrev pub IsOwnChallenge : Mind → Call → Type 0
+IsOwnChallenge m (Challenge chain who signature) = (m.left ≡ true) × (held : HeldChain) × In held (facts_of m).chains × (held.chain ≡ chain)
+IsOwnChallenge m _ = ⊥
+
+abbrev pub MayCall : Tables → Mind → Call → Type 0
+MayCall t m call = IsOwnChallenge m call ⊎ In call (may_give t m)
