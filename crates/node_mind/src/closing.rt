@@ -1,0 +1,30 @@
+//! What is commanded of a part that is to close.
+
+ghost use Rattle.std.specs.Prelude.{◌≡◌, ◌==◌, map};
+ghost use Rattle.node_model.specs.Minds.{place_with, close_if};
+
+use funding_value::{Goal, Part};
+use nitro_bytes::Name;
+
+/// The place of the part that has a channel, or how many parts there are.
+pub fn place_with(channel: &Name, parts: &[Part]) -> usize
+    ensures { result ≡ place_with channel.now parts.now }
+{
+    for (place, part) in parts.iter().enumerate() {
+        if part.has_channel(channel) {
+            return place;
+        }
+    }
+    parts.len()
+}
+
+/// The part at a place is to close.
+pub(crate) fn close(goals: &mut [Goal], place: usize)
+    ensures { goals.new ≡ map (λ goal. close_if (goal.part == place) goal) goals.old }
+{
+    for goal in goals.iter_mut() {
+        if goal.part as usize == place {
+            goal.closing = true;
+        }
+    }
+}

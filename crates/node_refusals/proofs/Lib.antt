@@ -1,0 +1,5 @@
+pub mod Among
+pub mod Tests
+pub mod Shares
+pub mod Accepted
+pub mod Taken

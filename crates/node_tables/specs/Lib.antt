@@ -1,0 +1,5 @@
+pub mod Ledgers
+pub mod Fitting
+pub mod Exiting
+pub mod Stages
+pub mod Examples

@@ -1,0 +1,4 @@
+mod Standings
+mod Moved
+mod Signed
+mod Told

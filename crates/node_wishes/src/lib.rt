@@ -1,0 +1,16 @@
+//! What a node signs, and why it refuses messages and payments.
+#![tactic(auto)]
+
+mod live;
+mod messages;
+mod moving;
+mod payments;
+mod signing;
+
+pub use live::{has_left, not_open, not_running, part_joined, part_with, stage_of, stands_in};
+pub use messages::{handle, message_refusal};
+pub use payments::{pay_refusal, paying};
+pub use signing::signable;
+
+#[cfg(test)]
+mod tests;
