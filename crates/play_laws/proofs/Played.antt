@@ -1,24 +1,29 @@
 -- Each step of a play keeps the world.
-use Rattle.std.proofs.Common.{◌≡◌, ℕ, zero, suc, Bool, true, false, List, [], ◌∷◌, ◌++◌, fold, replicate, append-nil, refl, sym, subst, ◌⊎◌, inl, inr}
-use Rattle.std.specs.Prelude.{cond}
+use Rattle.std.proofs.Common.{◌≡◌, ℕ, ◌+◌, zero, suc, Bool, true, false, List, [], ◌∷◌, ◌++◌, fold, replicate, append-nil, refl, sym, subst, ◌⊎◌, inl, inr}
+use Rattle.std.proofs.lemmas.List.Elements.{All-head, All-tail}
+use Rattle.std.specs.Prelude.{All, cond}
 use Rattle.channel_calls.specs.declared.call.Call.{Call}
 use Rattle.channel_calls.specs.declared.entry.Entry.{Entry}
 use Rattle.net_model.specs.Journals.{In}
 use Rattle.channel_watcher.proofs.Standing.{stands_fresh}
 use Rattle.support_chain.specs.Real.{real}
-use Rattle.net_party.specs.Ways.{Ways, unlooking}
+use Rattle.sign_index.specs.Signing.{Signing}
+use Rattle.net_party.specs.Ways.{Ways, IsFresh, unlooking}
 use Rattle.net_party.specs.declared.command.Command.{Command}
 use Rattle.net_party.specs.declared.lookout.Lookout.{Lookout}
 use Rattle.net_world.specs.Members.{MemberOf}
 use Rattle.net_world.specs.Worlds.{WorldOf, new_world, happened, given, joined}
 use Rattle.net_world.specs.declared.happening.Happening.{Happening}
 use Rattle.net_world.specs.declared.happening.Happening.TheVariants as happenings
+use Rattle.script_play.proofs.Meant.{meaning_grows}
+use Rattle.script_play.specs.Growth.{FitsEffect}
 use Rattle.script_play.specs.Meanings.{Meaning, meaning}
 use Rattle.script_play.specs.Names.{who_of}
-use Rattle.script_play.specs.Play.{Letter, Mailed, SceneOf, entering, handed, entered_by, with_calls, node_acted, acted, looked, watched, play_rounds, told, done, played, empty, numbered, play}
+use Rattle.script_play.specs.Play.{Letter, Mailed, SceneOf, entering, handed, entered_by, with_calls, node_acted, acted, looked, watched, play_rounds, told, done, played, empty, numbered, play_steps, seen_by, play}
 use Rattle.script_play.specs.declared.effect.Effect.{Effect}
 use Rattle.script_play.specs.declared.effect.Effect.TheVariants.{Nothing, Enter, Join, Tell, Post, Lose, Catch, Rounds}
 use Rattle.script_play.specs.declared.people.Person.{Person}
+use Rattle.script_reader.specs.Bounds.{Fits}
 use Rattle.script_reader.specs.declared.step.Step.{Step}
 use Rattle.world_laws.specs.Standing.{AreKept, Follows, IsWorld}
 use Rattle.world_laws.proofs.Standing.{stays, honest}
@@ -94,8 +99,8 @@ module _ {P : Type 0} (ways : Ways P) (stands : List Entry → P → Type 0) (ke
       told_kept number command numbers (told ways number command s who) (step _ (happenings.Command who number command) (step s.world (happenings.See who) is))
 
   -- a node that joins
-  joined_kept : (number : ℕ) (seed : List ℕ) (h watchers : ℕ) (w : WorldOf P) → World w → World (joined ways number seed h watchers w)
-  joined_kept number seed h watchers w is =
+  joined_kept : (number : ℕ) (signer : Signing) (watchers : ℕ) (w : WorldOf P) → IsFresh signer → World w → World (joined ways number signer watchers w)
+  joined_kept number signer watchers w unused is =
       record {
         legal = is.legal;
         nodes = λ m i. node_of m (in_more w.members _ m i);
@@ -103,13 +108,13 @@ module _ {P : Type 0} (ways : Ways P) (stands : List Entry → P → Type 0) (ke
       }
     where
       new : MemberOf P
-      new = record { node = ways.fresh number seed h; watchers = replicate watchers unlooking }
+      new = record { node = ways.fresh number signer; watchers = replicate watchers unlooking }
 
       follows : Follows w.history unlooking
       follows = record { later = w.history; past = []; is = sym (append-nil w.history); count = refl; stands = stands_fresh real }
 
       node_of : (m : MemberOf P) → (m ≡ new) ⊎ In m w.members → stands w.history m.node
-      node_of m (inl same) = subst (λ (y : MemberOf P). stands w.history y.node) (sym same) (kept.fresh w.history number seed h)
+      node_of m (inl same) = subst (λ (y : MemberOf P). stands w.history y.node) (sym same) (kept.fresh w.history number signer unused)
       node_of m (inr i) = is.nodes m i
 
       watchers_of : (m : MemberOf P) → (m ≡ new) ⊎ In m w.members → (l : Lookout) → In l m.watchers → Follows w.history l
@@ -118,31 +123,36 @@ module _ {P : Type 0} (ways : Ways P) (stands : List Entry → P → Type 0) (ke
           (λ l i. subst (Follows w.history) (sym (in_replicate watchers unlooking l i)) follows)
       watchers_of m (inr i) = is.watchers m i
 
-  done_kept : (number : ℕ) (s : SceneOf P) (effect : Effect) → World s.world → World (done ways number s effect).world
-  done_kept number s Nothing is = is
-  done_kept number s (Enter op) is = step s.world (entering op) is
-  done_kept number s (Join who seed h watchers) is = joined_kept who seed h watchers s.world is
-  done_kept number s (Tell numbers command) is = told_kept number command numbers s is
-  done_kept number s (Post to bytes) is = is
-  done_kept number s (Lose to) is = is
-  done_kept number s (Catch name who key channel turn) is = is
-  done_kept number s (Rounds count) is = rounds_kept count s is
+  done_kept : (number : ℕ) (s : SceneOf P) (effect : Effect) → FitsEffect effect → World s.world → World (done ways number s effect).world
+  done_kept number s Nothing fits is = is
+  done_kept number s (Enter op) fits is = step s.world (entering op) is
+  done_kept number s (Join who signer watchers) fits is = joined_kept who signer watchers s.world fits is
+  done_kept number s (Tell numbers command) fits is = told_kept number command numbers s is
+  done_kept number s (Post to bytes) fits is = is
+  done_kept number s (Lose to) fits is = is
+  done_kept number s (Catch name who key channel turn) fits is = is
+  done_kept number s (Rounds count) fits is = rounds_kept count s is
 
-  steps_kept : (steps : List (ℕ × Step)) (s : SceneOf P) → World s.world → World (fold (played ways) s steps).world
-  steps_kept [] s is = is
-  steps_kept (x ∷ steps) s is =
-      let m : Meaning = meaning s.names x.1 in
-      steps_kept steps (played ways s x) (done_kept x.0 (record s { names = m.names }) m.effect is)
+  steps_kept : (number : ℕ) (steps : List Step) (s : SceneOf P) → All Fits steps → World s.world → World (fold (played ways) s (numbered number steps)).world
+  steps_kept number [] s fit is = is
+  steps_kept number (x ∷ steps) s fit is =
+      let m : Meaning = meaning s.names x in
+      let grown = meaning_grows s.names x (All-head Fits x steps fit) in
+      steps_kept (number + 1) steps (played ways s (number, x)) (All-tail Fits x steps fit) (done_kept number (record s { names = m.names }) m.effect grown.fits is)
+
+  seen_kept : (people : List Person) (w : WorldOf P) → World w → World (fold (seen_by ways) w people)
+  seen_kept [] w is = is
+  seen_kept (p ∷ people) w is = seen_kept people (seen_by ways w p) (step w (happenings.See p.number) is)
 
   pub plays_are_kept : PlaysAreKept ways stands
   plays_are_kept =
       record {
         worlds = worlds;
-        honest = λ steps. honest ways stands kept (play ways steps).world (worlds steps);
+        honest = λ steps fit. honest ways stands kept (play ways steps).world (worlds steps fit);
       }
     where
       fresh : World new_world
       fresh = record { legal = tt; nodes = λ m i. absurd i; watchers = λ m i. absurd i }
 
-      worlds : (steps : List Step) → World (play ways steps).world
-      worlds steps = steps_kept (numbered 1 steps) empty fresh
+      worlds : (steps : List Step) → All Fits steps → World (play ways steps).world
+      worlds steps fit = seen_kept (play_steps ways steps).names.people (play_steps ways steps).world (steps_kept 1 steps empty fit fresh)

@@ -1,7 +1,13 @@
 -- What a step means declares at most one person, and asks for no more entries than its weight.
-use Rattle.std.proofs.Common.{◌≡◌, ℕ, ◌+◌, ◌*◌, ◌≤◌, true, false, List, [], ◌∷◌, ◌++◌, length, refl, arith, rules, length-append}
-use Rattle.std.proofs.lemmas.List.{length-set}
-use Rattle.std.specs.Prelude.{Option, Some, None, unwrap_or, slice_set}
+use Rattle.std.proofs.Common.{◌≡◌, ℕ, ◌+◌, ◌*◌, ◌≤◌, true, false, List, [], ◌∷◌, ◌++◌, length, refl, arith, rules, length-append, inl, inr}
+use Rattle.std.proofs.lemmas.Bool.{eqb-true}
+use Rattle.std.proofs.lemmas.List.{length-set, length-take-le}
+use Rattle.std.specs.Prelude.{Bool, ◌||◌, ◌==◌, IsTrue, Option, Some, None, unwrap_or, slice_set}
+use Rattle.sha2.proofs.Facts256.{length-sha256}
+use Rattle.sha2.specs.Sha256.{sha256}
+use Rattle.sign_index.specs.Signing.{IsHeight}
+use Rattle.net_party.specs.Ways.{IsFresh}
+use Rattle.script_reader.specs.Digests.{id_of, fresh}
 use Rattle.script_reader.specs.Bounds.{Fits, persons}
 use Rattle.script_play.specs.Growth.{FitsEffect, effect_weight, weight}
 use Rattle.channel_calls.specs.declared.call.Op.{Op}
@@ -36,6 +42,23 @@ sign_keeps people name message = search (rules, keeps_after, set_keeps)
 challenge_keeps : (people : List Person) (by : List ℕ) (f : FixedParts) (states : List NamedState) (who : ℕ) → Keeps people (sign_challenge people by f states who)
 challenge_keeps people by f [] who = refl
 challenge_keeps people by f (last ∷ earlier) who = sign_keeps people by _
+
+-- ---- who joins
+
+id_long : (seed : List ℕ) → length (id_of seed) ≡ 16
+unfolding id_of
+id_long seed = length-take-le 16 (sha256 (seed ++ 0x49 ∷ [])) (omega (arith, length-sha256 (seed ++ 0x49 ∷ [])))
+
+five_or_ten : (h : ℕ) → (h == 5 || h == 10) ≡ true → IsHeight h
+five_or_ten h e = by (h == 5) refl (h == 10) refl e
+  where
+    by : (a : Bool) → (h == 5) ≡ a → (b : Bool) → (h == 10) ≡ b → (a || b) ≡ true → IsHeight h
+    by true t b u e = inl (eqb-true h 5 t)
+    by false t true u e = inr (eqb-true h 10 u)
+    by false t false u e = absurd (cc)
+
+is_fresh : (seed : List ℕ) (h : ℕ) → IsTrue (h == 5 || h == 10) → IsFresh (fresh seed h)
+is_fresh seed h able = record { id = id_long seed; height = five_or_ten h able; unused = refl }
 
 -- ---- growth
 
@@ -82,13 +105,13 @@ loses n to = record { few = omega (arith); light = omega (arith); fits = tt }
 catches : (n : Names) (name : List ℕ) (number : ℕ) (key channel : List ℕ) (turn : ℕ) → Grows n 0 1 (doing n (Catch name number key channel turn))
 catches n name number key channel turn = record { few = omega (arith); light = omega (arith); fits = tt }
 
-plays : (n : Names) (count : ℕ) → Grows n 0 (count * 135168) (doing n (Rounds count))
+plays : (n : Names) (count : ℕ) → Grows n 0 (count * 528384) (doing n (Rounds count))
 plays n count = record { few = omega (arith); light = omega (arith); fits = tt }
 
 meant_grows : (n : Names) (step : Step) → Fits step → GrowsIf n (persons step) (weight step) (meant n step)
 meant_grows n (steps.Deposit channel asset expected amount) fit = search (rules, after, enters)
 meant_grows n (steps.Time to) fit = enters n n (ops.Time to) refl
-meant_grows n (steps.Person name seed h true watchers) fit = record { few = one_more n.people _; light = omega (arith); fits = fit.0 }
+meant_grows n (steps.Person name seed h true watchers) fit = record { few = one_more n.people _; light = omega (arith); fits = is_fresh seed h fit.0 }
 meant_grows n (steps.Person name seed h false watchers) fit = record { few = one_more n.people _; light = omega (arith); fits = tt }
 meant_grows n (steps.Channel name people nonce app duration) fit = search (rules, after, nothing)
 meant_grows n (steps.Sign name channel by turn is_final items votes proposal) fit = search (rules, after, after_signed, sign_keeps, nothing)

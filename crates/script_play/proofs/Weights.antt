@@ -6,13 +6,13 @@ use Rattle.script_play.specs.Growth.{weight, weight_of}
 use Rattle.script_reader.specs.declared.step.Step.{Step}
 use Rattle.script_reader.specs.declared.step.Step.TheVariants as steps
 
-light : (step : Step) → weight step ≤ 1 + rounds step * 135168
+light : (step : Step) → weight step ≤ 1 + rounds step * 528384
 light (steps.Rounds count) = omega (arith)
 light step = omega (arith)
 
-all_light : (steps : List Step) → weight_of steps ≤ length steps + rounds_of steps * 135168
+all_light : (steps : List Step) → weight_of steps ≤ length steps + rounds_of steps * 528384
 all_light [] = omega (arith)
 all_light (step ∷ steps) = omega (arith, light step, all_light steps, sum_by-cons weight step steps, sum_by-cons rounds step steps)
 
-pub has_room : (steps : List Step) → length steps ≤ 4096 → rounds_of steps ≤ 4096 → weight_of steps + 8192 < 2 ^ 32
+pub has_room : (steps : List Step) → length steps ≤ 4096 → rounds_of steps ≤ 4096 → weight_of steps + 32768 < 2 ^ 32
 has_room steps short few = omega (arith, all_light steps, short, few)

@@ -67,10 +67,10 @@ with_person n name seed h node =
       labels = n.labels ++ (dests.Person (person_name seed h), name) ∷ [];
     }
 
--- a node joins for the person
-abbrev pub joins_if : Bool → ℕ → List ℕ → ℕ → ℕ → Effect
-joins_if true number seed h watchers = Join number seed h watchers
-joins_if false number seed h watchers = Nothing
+-- a node joins for the person, with the person's signer
+abbrev pub joins_if : Bool → ℕ → Signing → ℕ → Effect
+joins_if true number signer watchers = Join number signer watchers
+joins_if false number signer watchers = Nothing
 
 -- one more channel
 abbrev pub with_channel : Names → List ℕ → FixedParts → Names
@@ -129,7 +129,7 @@ meant n (steps.Deposit channel asset expected amount) = do
   Some (calling n (calls.Deposit to asset expected amount))
 meant n (steps.Time to) = Some (doing n (Enter (ops.Time to)))
 meant n (steps.Person name seed h node watchers) =
-    Some (doing (with_person n name seed h node) (joins_if node (length n.people + 1) seed h watchers))
+    Some (doing (with_person n name seed h node) (joins_if node (length n.people + 1) (fresh seed h) watchers))
 meant n (steps.Channel name people nonce app duration) = do
   f ← valid_fixed (fixed_with (keys_by n.people people) nonce app duration)
   Some (learning (with_channel n name f))

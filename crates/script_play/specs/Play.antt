@@ -145,7 +145,7 @@ module _ {P : Type 0} (ways : Ways P) where
   abbrev pub done : ℕ → SceneOf P → Effect → SceneOf P
   done step s Nothing = s
   done step s (Enter op) = record s { world = happened ways (entering op) s.world }
-  done step s (Join number seed h watchers) = record s { world = joined ways number seed h watchers s.world }
+  done step s (Join number signer watchers) = record s { world = joined ways number signer watchers s.world }
   done step s (Tell numbers command) = fold (told step command) s numbers
   done step s (Post to bytes) = record s { post = s.post ++ (to, bytes) ∷ [] }
   done step s (Lose to) = record s { post = filter (λ letter. not (bytes_eq letter.0 to)) s.post }
@@ -160,5 +160,16 @@ module _ {P : Type 0} (ways : Ways P) where
   abbrev pub played : SceneOf P → ℕ × Step → SceneOf P
   played s step = done_as step.0 s (meaning s.names step.1)
 
+  abbrev pub play_steps : List Step → SceneOf P
+  play_steps steps = fold played empty (numbered 1 steps)
+
+  -- the node of a person follows what it hasn't followed of the history, if there is one
+  abbrev pub seen_by : WorldOf P → Person → WorldOf P
+  seen_by w p = happened ways (happenings.See p.number) w
+
+  abbrev pub at_end : SceneOf P → SceneOf P
+  at_end s = record s { world = fold seen_by s.world s.names.people }
+
+  -- the steps one after another, and then each node sees
   abbrev pub play : List Step → SceneOf P
-  play steps = fold played empty (numbered 1 steps)
+  play steps = at_end (play_steps steps)

@@ -254,7 +254,7 @@ impl Names {
         self.labels.push((to, name))
     }
 
-    /// Declares a person, who has a node with watchers, or the signer as its hand.
+    /// Declares a person. The signer goes to its node, which has watchers, or else is its hand.
     #[tactic(auto, unfolding(script_reader::specs::Digests::key_of))]
     pub(crate) fn person(
         &mut self,
@@ -266,14 +266,17 @@ impl Names {
         watchers: u32,
     ) -> Result<Effect, NoMemory>
         requires fresh { signer ≡ fresh seed.now h }
-        requires able { IsTrue (h == 5 || h == 10) }
         requires few { length self.old.people < 16 }
         ensures { IfOk result (λ e. doing self.new e ≡ meaning self.old (steps.Person name.now seed.now h node watchers)) }
     {
         let key = signer.public();
         let number = self.people.as_slice().len() as u32 + 1;
         let copy = name.copy()?;
-        let hand = if node { None } else { Some(signer) };
+        let (hand, effect) = if node {
+            (None, Effect::Join(number, signer, watchers))
+        } else {
+            (Some(signer), Effect::Nothing)
+        };
         self.people.push(Person {
             number,
             name: copy,
@@ -281,12 +284,7 @@ impl Names {
             hand,
         })?;
         self.label(Dest::Person(person_name(&key)), name)?;
-        let height = if h == 5 { 5 } else { 10 };
-        Ok(if node {
-            Effect::Join(number, *seed, height, watchers)
-        } else {
-            Effect::Nothing
-        })
+        Ok(effect)
     }
 
     pub(crate) fn channel(

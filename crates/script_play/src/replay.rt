@@ -157,7 +157,8 @@ fn signer_for(step: &Step, signers: &mut VecDeque<Signer>) -> Option<Signer>
     }
 }
 
-/// Plays the steps, each on what those before it made. The signers are those of the people that they declare.
+/// Plays the steps, each on what those before it made, and lets each node see. The signers are those of the people that
+/// the steps declare.
 pub fn play<P: Party, D: Docket>(
     alloc: Global,
     steps: &[Step],
@@ -178,5 +179,6 @@ pub fn play<P: Party, D: Docket>(
         let signer = signer_for(step, &mut signers);
         scene.play_step(number, step, signer)?;
     }
+    scene.see_all()?;
     Ok(scene)
 }

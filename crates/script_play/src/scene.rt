@@ -5,22 +5,23 @@ ghost use Rattle.std.specs.Str.{bytes_eq};
 ghost use Rattle.std.specs.Option.{option_map};
 ghost use Rattle.channel_calls.specs.History.{Legal, newest_first};
 ghost use Rattle.support_chain.specs.Real.{real};
+ghost use Rattle.net_world.specs.Entered.{oldest_first};
 ghost use Rattle.net_world.specs.Worlds.{happened, given, joined, journal};
 ghost use Rattle.net_world.specs.declared.happening.Happening.TheVariants as happenings;
 ghost use Rattle.script_reader.specs.Conditions.{signer_of};
 ghost use Rattle.script_reader.specs.Bounds.{Fits, persons};
 ghost use Rattle.script_play.specs.Meanings.{with_state};
-ghost use Rattle.script_play.specs.Play.{empty, caught, told, naming, entering, play_round, play_rounds, done, played};
+ghost use Rattle.script_play.specs.Play.{empty, caught, told, naming, entering, play_round, play_rounds, done, played, at_end};
 ghost use Rattle.script_play.specs.Growth.{FitsEffect, effect_weight, weight};
 ghost use Rattle.script_play.specs.declared.effect.Effect.TheVariants as effects;
 
 use crate::caught::caught;
 use crate::effect::Effect;
 use crate::names::Names;
-use crate::rounds::{Letter, round, see};
+use crate::rounds::{Letter, round, see, see_all};
 use channel_calls::{Entry, Op};
 use net_party::{Command, Party, copy_command};
-use net_world::{Docket, Happening, World, world_step};
+use net_world::{Docket, Happening, Member, World, world_step};
 use nitro_bytes::{Key, Label, Listed, Name, NoMemory};
 use script_reader::Step;
 use sign_index::Signer;
@@ -80,20 +81,35 @@ impl<P: Party, D: Docket> Scene<P, D> {
         }
     }
 
-    /// What names stand for at the end, and the entries in the order of time.
-    pub fn into_parts(self) -> (Names, Vec<Entry>)
+    /// The nodes with their watchers, in the order in which they joined.
+    pub fn members(&self) -> &[Member<P>]
+        ensures { result.now ≡ self.now.world.members }
+    {
+        self.world.members()
+    }
+
+    /// The entries in the order of time.
+    pub fn history(&self) -> &[Entry]
+        ensures { result.now ≡ oldest_first self.now.world.history }
+    {
+        self.world.history()
+    }
+
+    /// What names stand for at the end, how long the history was after each round, and the entries in the order of time.
+    pub fn into_parts(self) -> (Names, Listed<u32>, Vec<Entry>)
         ensures names { result.0 ≡ self.names }
-        ensures history { newest_first result.1.items ≡ self.world.history }
+        ensures rounds { result.1 ≡ self.rounds }
+        ensures history { newest_first result.2.items ≡ self.world.history }
         ensures legal { Legal real self.world.history }
     {
         let history = self.world.into_history();
-        (self.names, history)
+        (self.names, self.rounds, history)
     }
 
     fn play_round(&mut self) -> Result<(), NoMemory>
-        requires { length self.old.world.history + 143360 < 2 ^ 32 }
+        requires { length self.old.world.history + 561152 < 2 ^ 32 }
         ensures played { OnOk result (self.new ≡ play_round P.ways self.old) }
-        ensures grown { OnOk result (length self.new.world.history ≤ length self.old.world.history + 135168) }
+        ensures grown { OnOk result (length self.new.world.history ≤ length self.old.world.history + 528384) }
     {
         let alloc = self.names.alloc();
         let people = self.names.people.as_slice();
@@ -104,9 +120,9 @@ impl<P: Party, D: Docket> Scene<P, D> {
     }
 
     fn play_rounds(&mut self, count: u64) -> Result<(), NoMemory>
-        requires { length self.old.world.history + (count * 135168 + 8192) < 2 ^ 32 }
+        requires { length self.old.world.history + (count * 528384 + 32768) < 2 ^ 32 }
         ensures played { OnOk result (self.new ≡ play_rounds P.ways count self.old) }
-        ensures grown { OnOk result (length self.new.world.history ≤ length self.old.world.history + count * 135168) }
+        ensures grown { OnOk result (length self.new.world.history ≤ length self.old.world.history + count * 528384) }
     {
         for round in 0..count {
             self.play_round()?;
@@ -116,7 +132,7 @@ impl<P: Party, D: Docket> Scene<P, D> {
 
     /// A node sees, and is told a command.
     fn tell(&mut self, step: u32, number: &u32, command: &Command) -> Result<(), NoMemory>
-        requires { length self.old.world.history + 8192 < 2 ^ 32 }
+        requires { length self.old.world.history + 32768 < 2 ^ 32 }
         ensures told { OnOk result (self.new ≡ told P.ways step command.now self.old number.now) }
         ensures same { OnOk result (length self.new.world.history ≡ length self.old.world.history) }
     {
@@ -129,7 +145,7 @@ impl<P: Party, D: Docket> Scene<P, D> {
     }
 
     fn tell_all(&mut self, step: u32, numbers: &[u32], command: &Command) -> Result<(), NoMemory>
-        requires { length self.old.world.history + 8192 < 2 ^ 32 }
+        requires { length self.old.world.history + 32768 < 2 ^ 32 }
         ensures told { OnOk result (self.new ≡ fold (told P.ways step command.now) self.old numbers.now) }
         ensures same { OnOk result (length self.new.world.history ≡ length self.old.world.history) }
     {
@@ -158,7 +174,7 @@ impl<P: Party, D: Docket> Scene<P, D> {
     }
 
     fn enter(&mut self, op: Op) -> Result<(), NoMemory>
-        requires { length self.old.world.history + 8192 < 2 ^ 32 }
+        requires { length self.old.world.history + 32768 < 2 ^ 32 }
         ensures entered { OnOk result (self.new ≡ record self.old { world = happened P.ways (entering op) self.old.world }) }
         ensures grown { OnOk result (length self.new.world.history ≤ length self.old.world.history + 1) }
     {
@@ -168,7 +184,7 @@ impl<P: Party, D: Docket> Scene<P, D> {
 
     /// Does what the step of this number asks.
     pub(crate) fn do_effect(&mut self, step: u32, effect: Effect) -> Result<(), NoMemory>
-        requires room { length self.old.world.history + (effect_weight effect + 8192) < 2 ^ 32 }
+        requires room { length self.old.world.history + (effect_weight effect + 32768) < 2 ^ 32 }
         requires fits { FitsEffect effect }
         ensures done { OnOk result (self.new ≡ done P.ways step self.old effect) }
         ensures grown { OnOk result (length self.new.world.history ≤ length self.old.world.history + effect_weight effect) }
@@ -176,7 +192,7 @@ impl<P: Party, D: Docket> Scene<P, D> {
         match effect {
             Effect::Nothing => Ok(()),
             Effect::Enter(op) => self.enter(op),
-            Effect::Join(number, seed, h, watchers) => self.world.join(number, seed, h, watchers),
+            Effect::Join(number, signer, watchers) => self.world.join(number, signer, watchers),
             Effect::Tell(numbers, command) => self.tell_all(step, numbers.as_slice(), &command),
             Effect::Post(to, bytes) => self.send(to, bytes),
             Effect::Lose(to) => self.lose(&to),
@@ -203,6 +219,15 @@ impl<P: Party, D: Docket> Scene<P, D> {
         Ok(())
     }
 
+    /// Each node sees.
+    pub(crate) fn see_all(&mut self) -> Result<(), NoMemory>
+        requires { length self.old.world.history < 2 ^ 32 - 1 }
+        ensures { OnOk result (self.new ≡ at_end P.ways self.old) }
+    {
+        let people = self.names.people.as_slice();
+        see_all(&mut self.world, people)
+    }
+
     /// Plays the step of this number. A person that it declares takes the signer.
     pub(crate) fn play_step(
         &mut self,
@@ -212,7 +237,7 @@ impl<P: Party, D: Docket> Scene<P, D> {
     ) -> Result<(), NoMemory>
         requires fresh { signer ≡ signer_of step.now }
         requires fits { Fits step.now }
-        requires room { length self.old.world.history + (weight step.now + 8192) < 2 ^ 32 }
+        requires room { length self.old.world.history + (weight step.now + 32768) < 2 ^ 32 }
         requires few { length self.old.names.people + persons step.now ≤ 16 }
         ensures played { OnOk result (self.new ≡ played P.ways self.old (number, step.now)) }
         ensures grown { OnOk result (length self.new.world.history ≤ length self.old.world.history + weight step.now) }

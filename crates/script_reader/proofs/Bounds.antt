@@ -1,14 +1,13 @@
 -- What the limits give of all steps that were read.
-use Rattle.std.proofs.Common.{◌≡◌, ◌≤◌, ◌<◌, ◌+◌, ◌^◌, ℕ, List, [], ◌∷◌, length, refl, sym, ◌∙◌, ap, true, false, arith, length-append}
+use Rattle.std.proofs.Common.{◌≡◌, ◌≤◌, ◌<◌, ◌+◌, ◌^◌, ℕ, List, [], ◌∷◌, length, refl, true, false, arith, length-append}
 use Rattle.std.specs.Prelude.{Bool, ◌&&◌, ◌||◌, ◌==◌, not, nat_lt, nat_le, All, IsTrue, if◌then◌else◌}
 use Rattle.std.proofs.lemmas.Bool.{ltb-true, leb-true, eqb-true}
 use Rattle.std.proofs.lemmas.List.Elements.{All-nil, All-cons}
 use Rattle.std.proofs.lemmas.List.Sums.{sum_by-cons}
 use Rattle.script_reader.specs.Bounds.{Fits, persons, persons_of, rounds, rounds_of}
-use Rattle.script_reader.specs.Conditions.{after, fits, fits_nodes, is_able, within}
+use Rattle.script_reader.specs.Conditions.{after, fits, is_able, within}
 use Rattle.script_reader.specs.Context.{has_index}
 use Rattle.script_reader.specs.Digests.{key_of, person_name}
-use Rattle.script_reader.specs.Reading.{Keeps}
 use Rattle.script_reader.specs.Script.{start, AreChecked}
 use Rattle.script_reader.specs.declared.context.Context.{Context}
 use Rattle.script_reader.specs.declared.step.Step.{Step}

@@ -1,5 +1,5 @@
 -- Steps that are read one after another.
-use Rattle.std.proofs.Common.{◌≡◌, ℕ, ◌+◌, List, [], ◌∷◌, ◌++◌, length, ap, ◌∙◌, ◌<◌, get_or, drop, Result, Ok, Err, Option, Some, None, arith, length-append, append-nil, refl}
+use Rattle.std.proofs.Common.{◌≡◌, ℕ, ◌+◌, List, [], ◌∷◌, ◌++◌, length, ap, ◌∙◌, ◌<◌, get_or, drop, Result, Ok, Err, Some, None, arith, length-append, append-nil}
 use Rattle.std.proofs.lemmas.List.{at_drop_more}
 use Rattle.std.proofs.lemmas.List.Elements.{filter_map-append}
 use Rattle.serde_json.specs.declared.value.Value.{Value}

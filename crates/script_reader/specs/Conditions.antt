@@ -88,11 +88,6 @@ is_single c s = true
 abbrev pub is_named : Context → Step → Bool
 is_named c s = is_free c (declares s) && are_known c (uses s) && is_single c s
 
--- a person with a node
-abbrev pub has_node : Step → Bool
-has_node (steps.Person name seed h node watchers) = node
-has_node s = false
-
 -- from low to high
 abbrev pub within : ℕ → ℕ → ℕ → Bool
 within n low high = nat_le low n && nat_le n high

@@ -25,12 +25,13 @@ words =
 abbrev pub is_word : List ℕ → Bool
 is_word word = list_any (bytes_eq word) words
 
--- the words of the forms that are played; `node` stands for a person with a node
+-- the words of the forms that are played
 abbrev pub built_words : List (List ℕ)
 built_words =
-    codes "deposit" ∷ codes "time" ∷ codes "person" ∷ codes "channel" ∷ codes "sign" ∷ codes "challenge"
-    ∷ codes "respond" ∷ codes "refute" ∷ codes "checkpoint" ∷ codes "conclude" ∷ codes "transfer"
-    ∷ codes "claim" ∷ []
+    codes "deposit" ∷ codes "time" ∷ codes "person" ∷ codes "channel" ∷ codes "sign" ∷ codes "catch"
+    ∷ codes "send" ∷ codes "drop" ∷ codes "challenge" ∷ codes "respond" ∷ codes "refute" ∷ codes "checkpoint"
+    ∷ codes "conclude" ∷ codes "transfer" ∷ codes "claim" ∷ codes "open" ∷ codes "open_on" ∷ codes "open_virtual"
+    ∷ codes "pay" ∷ codes "close" ∷ codes "exit" ∷ codes "rounds" ∷ []
 
 abbrev pub is_built : List ℕ → Bool
 is_built word = list_any (bytes_eq word) built_words

@@ -3,6 +3,7 @@ pub mod Conditions
 pub mod Context
 pub mod Digests
 pub mod Forms
+pub mod Index
 pub mod Kinds
 pub mod Listed
 pub mod Outside

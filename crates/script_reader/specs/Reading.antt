@@ -1,11 +1,11 @@
 -- The step that a value is, or the first rule that it breaks.
-use Rattle.std.specs.Prelude.{◌≡◌, ◌&&◌, ◌||◌, List, ℕ, Bool, true, false, not, Result, Ok, codes}
+use Rattle.std.specs.Prelude.{◌≡◌, ◌&&◌, ◌||◌, List, ℕ, Bool, true, not, Result, Ok}
 use Rattle.serde_json.specs.Data.{Data}
 use Rattle.script_reader.specs.Rules.{◌>>=◌, holds}
 use Rattle.script_reader.specs.Kinds.{word_at}
 use Rattle.script_reader.specs.Forms.{is_word, is_built, written_by}
 use Rattle.script_reader.specs.Resolved.{knows_outcome, resolved}
-use Rattle.script_reader.specs.Conditions.{sign_uses, open_uses, open_on_uses, open_virtual_uses, are_known, is_named, has_node, fits, distinct, runs_in_race}
+use Rattle.script_reader.specs.Conditions.{sign_uses, open_uses, open_on_uses, open_virtual_uses, are_known, is_named, fits, distinct, runs_in_race}
 use Rattle.script_reader.specs.Context.{is_new}
 use Rattle.script_reader.specs.declared.context.Context.{Context}
 use Rattle.script_reader.specs.declared.step.Rule.{Rule}
@@ -18,20 +18,13 @@ use Rattle.script_reader.specs.declared.written.Written.TheVariants as written
 abbrev pub plays : Context → List ℕ → Bool
 plays c word = c.all_forms || is_built word
 
--- a person with a node
-abbrev pub wants_node : Written → Bool
-wants_node (written.Plain s) = has_node s
-wants_node w = false
-
 -- first the shape alone; what isn't built is told before its keys are read
 abbrev pub written_of : Context → Data → Result Written Rule
 written_of c d = do
   word ← word_at d
   known ← holds rules.Shape (is_word word)
   built ← holds rules.NotBuilt (plays c word)
-  w ← written_by word d
-  noded ← holds rules.NotBuilt (not (wants_node w) || plays c (codes "node"))
-  Ok w
+  written_by word d
 
 -- all names, those of both outcomes among them
 abbrev pub knows_names : Context → Written → Bool

@@ -6,6 +6,7 @@ ghost use Rattle.std.specs.Str.{bytes_eq};
 ghost use Rattle.script_reader.specs.Context.{person_by, channel_by, is_person, is_hand, is_node, is_channel, is_state, is_new, knows, has_seed, has_index, signs, repeats};
 
 use crate::kinds::is_hex;
+use crate::name_list::NameList;
 use nitro_bytes::{Key, Label, Listed, Name};
 
 /// What a name must be declared as, where a key uses it.
@@ -52,7 +53,7 @@ pub struct Context {
     pub all_forms: bool,
     pub people: Listed<Person>,
     pub channels: Listed<Channel>,
-    pub states: Listed<Label>,
+    pub states: NameList,
     /// Who signed, once for each sign and challenge step.
     pub signers: Listed<Label>,
     /// The sum of all counts of rounds.
@@ -117,7 +118,7 @@ impl Context {
     fn is_state(&self, name: &str) -> bool
         ensures { result ≡ is_state self.now name.now }
     {
-        self.states.as_slice().iter().any(|s| s.as_str() == name)
+        self.states.contains(name)
     }
 
     pub(crate) fn is_new(&self, name: &str) -> bool

@@ -64,7 +64,7 @@ pub(crate) fn is_word(word: &str) -> bool
     )
 }
 
-/// Whether the steps of this word are played yet. `node` stands for a person with a node.
+/// Whether the steps of this word are played yet.
 pub(crate) fn is_built(word: &str) -> bool
     ensures { result ≡ is_built word.now }
 {
@@ -75,6 +75,9 @@ pub(crate) fn is_built(word: &str) -> bool
             | "person"
             | "channel"
             | "sign"
+            | "catch"
+            | "send"
+            | "drop"
             | "challenge"
             | "respond"
             | "refute"
@@ -82,6 +85,13 @@ pub(crate) fn is_built(word: &str) -> bool
             | "conclude"
             | "transfer"
             | "claim"
+            | "open"
+            | "open_on"
+            | "open_virtual"
+            | "pay"
+            | "close"
+            | "exit"
+            | "rounds"
     )
 }
 

@@ -2,7 +2,7 @@
 
 ghost use Rattle.std.specs.Prelude.{◌≡◌, ◌==◌, ◌&&◌, ◌||◌, ◌^◌, not, length, nat_lt, nat_le};
 ghost use Rattle.script_reader.specs.Context.{has_index};
-ghost use Rattle.script_reader.specs.Conditions.{within, is_able, fits, fits_nodes, has_node, runs_in_race};
+ghost use Rattle.script_reader.specs.Conditions.{within, is_able, fits, fits_nodes, runs_in_race};
 
 use crate::context::Context;
 use crate::step::Step;
@@ -108,16 +108,6 @@ impl Context {
             } => *asset < 1 << 32 && *position < 1 << 8,
             _ => self.fits_nodes(step),
         }
-    }
-}
-
-/// Whether the step is a person with a node.
-pub(crate) fn has_node(step: &Step) -> bool
-    ensures { result ≡ has_node step.now }
-{
-    match step {
-        Step::Person { node, .. } => *node,
-        _ => false,
     }
 }
 

@@ -4,13 +4,13 @@ ghost use Rattle.std.specs.Prelude.{◌≡◌, IfOk};
 ghost use Rattle.serde_json.specs.View.{view};
 ghost use Rattle.script_reader.specs.Rules.{Gives};
 ghost use Rattle.script_reader.specs.Conditions.{after, signer_of};
-ghost use Rattle.script_reader.specs.Reading.{plays, wants_node, written_of, knows_names, named_of, led, limited, step_of};
+ghost use Rattle.script_reader.specs.Reading.{plays, written_of, knows_names, named_of, led, limited, step_of};
 
 use crate::context::Context;
 use crate::entering::enter;
 use crate::forms::{is_built, is_word, written_by};
 use crate::kinds::word_at;
-use crate::limits::{has_node, runs_in_race};
+use crate::limits::runs_in_race;
 use crate::resolve::{knows_outcome, resolved};
 use crate::step::{Rule, Step, StepFault};
 use crate::written::Written;
@@ -24,15 +24,6 @@ fn plays(context: &Context, word: &str) -> bool
     context.all_forms || is_built(word)
 }
 
-fn wants_node(written: &Written) -> bool
-    ensures { result ≡ wants_node written.now }
-{
-    match written {
-        Written::Plain(step) => has_node(step),
-        _ => false,
-    }
-}
-
 /// Reads a step as it is written, if steps of its kind are played.
 fn written_of(alloc: Global, context: &Context, step: &Value) -> Result<Written, StepFault>
     ensures { Gives (λ w. w) result (written_of context.now (view step.now)) }
@@ -44,11 +35,7 @@ fn written_of(alloc: Global, context: &Context, step: &Value) -> Result<Written,
     if !plays(context, word) {
         return Err(StepFault::Broken(Rule::NotBuilt));
     }
-    let written = written_by(alloc, word, step)?;
-    if wants_node(&written) && !plays(context, "node") {
-        return Err(StepFault::Broken(Rule::NotBuilt));
-    }
-    Ok(written)
+    written_by(alloc, word, step)
 }
 
 /// Whether all names of a step are declared as what their keys need, those of its outcomes too.

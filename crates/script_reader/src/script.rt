@@ -12,6 +12,7 @@ ghost use Rattle.script_reader.specs.declared.script.ScriptFault.TheVariants.{No
 
 use crate::context::Context;
 use crate::kinds::{array_at, keys};
+use crate::name_list::NameList;
 use crate::reading::step_of;
 use crate::step::{Rule, Step, StepFault};
 use nitro_bytes::{Listed, NoMemory};
@@ -83,7 +84,7 @@ fn start(alloc: Global, race: bool) -> Context
         all_forms: false,
         people: Listed::make(Vec::new(alloc)),
         channels: Listed::make(Vec::new(alloc)),
-        states: Listed::make(Vec::new(alloc)),
+        states: NameList::make(alloc),
         signers: Listed::make(Vec::new(alloc)),
         rounds: 0,
     }

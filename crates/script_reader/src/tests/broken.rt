@@ -299,33 +299,18 @@ fn a_deposit_has_a_channel_and_an_asset(rt: HostRuntime) -> Result<(), Fail> {
     Ok(())
 }
 
-const LATER: [&str; 10] = [
-    "catch",
-    "send",
-    "drop",
-    "open",
-    "open_on",
-    "open_virtual",
-    "pay",
-    "close",
-    "exit",
-    "rounds",
+const EXITS: [(&str, Rule); 4] = [
+    (r#"{"steps":[{"do":"exit"}]}"#, Rule::Shape),
+    (r#"{"steps":[{"do":"exit","who":"A"}]}"#, Rule::Shape),
+    (r#"{"steps":[{"do":"exit","who":["A"]}]}"#, Rule::Name),
+    (r#"{"steps":[{"do":"exit_","who":[]}]}"#, Rule::Shape),
 ];
 
-/// A word of the table whose form isn't built, before its keys; other words have a wrong shape.
+/// An exit is of people with nodes.
 #[test]
-fn later_words_are_not_built(rt: HostRuntime) -> Result<(), Fail> {
-    let alloc = rt.alloc();
-    for word in LATER {
-        let alone = format!(in alloc; "{{\"steps\":[{{\"do\":\"{word}\"}}]}}")?;
-        breaks(&rt, alone.as_str(), false, 1, Rule::NotBuilt)?;
-        let second = format!(in alloc;
-            "{{\"steps\":[{{\"do\":\"time\",\"to\":1}},{{\"do\":\"{word}\",\"to\":-1}}]}}"
-        )?;
-        breaks(&rt, second.as_str(), true, 1, Rule::NotInRace)?;
-        breaks(&rt, second.as_str(), false, 2, Rule::NotBuilt)?;
-        let longer = format!(in alloc; "{{\"steps\":[{{\"do\":\"{word}_\"}}]}}")?;
-        breaks(&rt, longer.as_str(), false, 1, Rule::Shape)?;
+fn an_exit_is_of_declared_people(rt: HostRuntime) -> Result<(), Fail> {
+    for (script, rule) in EXITS {
+        breaks(&rt, script, false, 1, rule)?;
     }
     Ok(())
 }

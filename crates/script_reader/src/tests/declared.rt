@@ -90,14 +90,14 @@ const PEOPLE: [(&str, u32, Rule); 25] = [
         Rule::Shape,
     ),
     (
-        r#"{"do":"person","name":"P","seed":"3333333333333333333333333333333333333333333333333333333333333333","h":5,"node":true,"watchers":1}"#,
+        r#"{"do":"person","name":"P","seed":"3333333333333333333333333333333333333333333333333333333333333333","h":5,"node":true,"watchers":5}"#,
         6,
-        Rule::NotBuilt,
+        Rule::Limit,
     ),
     (
         r#"{"do":"person","name":"A","seed":"aaaaaaaaaaaaaaaaaaaaaaaaaaaaaaaaaaaaaaaaaaaaaaaaaaaaaaaaaaaaaaaa","h":7,"node":true,"watchers":5}"#,
         6,
-        Rule::NotBuilt,
+        Rule::Name,
     ),
     (
         r#"{"do":"person","name":"A","seed":"3333333333333333333333333333333333333333333333333333333333333333","h":5,"node":false,"watchers":0}"#,
