@@ -1,0 +1,5 @@
+pub mod Pairs
+pub mod Safe
+pub mod Honest
+pub mod Once
+pub mod Shared

@@ -1,0 +1,100 @@
+-- What a report tells of a play, and what it says of the people with nodes.
+use Rattle.std.specs.Prelude.{◌≡◌, ℕ, true, List, map, flat_map, IsTrue, ◌↔◌}
+use Rattle.std.specs.List.{AllByRecursion}
+use Rattle.nitro_bytes.specs.Parts.{FixedParts}
+use Rattle.channel_name.specs.Digests.{name_of_person}
+use Rattle.channel_calls.specs.History.{flows_of, newest_first}
+use Rattle.channel_calls.specs.declared.entry.Entry.{Entry}
+use Rattle.flow_balances.specs.Receipts.{assets_of}
+use Rattle.net_model.specs.Honest.{Honest}
+use Rattle.net_model.specs.Journals.{In}
+use Rattle.net_model.specs.Safety.{IsSafe}
+use Rattle.net_party.specs.Ways.{Ways}
+use Rattle.net_world.specs.Members.{MemberOf}
+use Rattle.premises.specs.Collision.{Distinct, DistinctWith, strings_added}
+use Rattle.premises.specs.Persons.{IsUnforged, IsInTime}
+use Rattle.premises.specs.declared.journal.Journal.{Journal}
+use Rattle.report_text.specs.declared.report.Judged.{Judged}
+use Rattle.report_text.specs.declared.report.Report.{Report}
+use Rattle.report_text.specs.declared.report.Share.{Share}
+use Rattle.script_play.specs.Play.{SceneOf, play}
+use Rattle.script_reader.specs.declared.step.Step.{Step}
+use Rattle.share_model.specs.Places.{Order}
+use Rattle.support_chain.specs.Real.{real}
+use Rattle.told_party.specs.Telling.{Pairwise, HaveFixed, Tale}
+use Rattle.play_report.specs.Shares.{shares_of, exits_of, real_shares}
+
+-- What is told of the person with this journal: each premise holds exactly where its definition does, whatever the
+-- commands of the journal add to the plan.
+pub record IsJudged (h : List Entry) (journals : List Journal) (j : Journal) (p : Judged) : Type 0 where
+  pub person : p.person ≡ name_of_person j.key
+  pub unforged : (adds : ℕ → List FixedParts) → IsTrue p.unforged ↔ IsUnforged h adds j
+  pub distinct : IsTrue p.distinct ↔ Distinct h journals
+  pub in_time : (adds : ℕ → List FixedParts) → IsTrue p.in_time ↔ IsInTime h adds j
+
+-- so of each
+abbrev pub AreJudged : List Entry → List Journal → List Judged → Type 0
+AreJudged h journals premises = Pairwise (IsJudged h journals) journals premises
+
+module _ {P : Type 0} (ways : Ways P) where
+  abbrev pub journal_of : MemberOf P → Journal
+  journal_of m = record { number = ways.number m.node; key = ways.key m.node; events = ways.journal m.node }
+
+  -- what the commands of the nodes add to their plans are fixed parts
+  abbrev pub AllFixed : List (MemberOf P) → Type 0
+  AllFixed members = AllByRecursion (λ m. HaveFixed (ways.lines m.node)) members
+
+  -- each person with a node has an honest journal over the whole history
+  abbrev pub AllHonest : Report → List (MemberOf P) → Type 0
+  AllHonest r members = (m : MemberOf P) → In m members → Honest real (ways.key m.node) (newest_first r.history) (ways.lines m.node)
+
+  -- Where all three premises are told to hold, and the strings of its own commands' fixed parts don't collide with others
+  -- either, no channel of the person becomes final with an outcome older than its newest supported state.
+  abbrev pub IsSafeIf : Report → MemberOf P → Judged → Type 0
+  IsSafeIf r m p =
+      p.unforged ≡ true → p.distinct ≡ true → p.in_time ≡ true
+      → DistinctWith r.history r.journals (strings_added (ways.lines m.node))
+      → IsSafe real (ways.key m.node) (newest_first r.history) (ways.lines m.node)
+
+  -- so of each person with a node
+  abbrev pub AllSafe : Report → List (MemberOf P) → Type 0
+  AllSafe r members = Pairwise (IsSafeIf r) members r.premises
+
+  -- What is told of each person's share of each asset that was deposited is its share over the whole history and its whole
+  -- journal, where `orders` says what its commands asked for.
+  abbrev pub AllShared : (P → ℕ → Order) → Report → List (MemberOf P) → Type 0
+  AllShared orders r members =
+      r.shares ≡ flat_map (λ m. shares_of ways (real_shares ways orders (newest_first r.history)) (assets_of (flows_of r.history)) m.node) members
+
+  -- so where the report is that of these steps
+  abbrev pub PlaysHonestly : Report → List Step → Type 0
+  PlaysHonestly r steps = AllHonest r (play ways steps).world.members
+
+  abbrev pub PlaysSafely : Report → List Step → Type 0
+  PlaysSafely r steps = AllSafe r (play ways steps).world.members
+
+  abbrev pub PlaysShares : (P → ℕ → Order) → Report → List Step → Type 0
+  PlaysShares orders r steps = AllShared orders r (play ways steps).world.members
+
+-- ---- what is told
+
+module _ {P : Type 0} (tale : Tale P) where
+  -- the shares of the people with nodes in the assets that a history deposits, and those at their exits
+  abbrev pub told_shares : List Entry → SceneOf P → List Share
+  told_shares h s = flat_map (λ m. shares_of tale.ways tale.shares (assets_of (flows_of h)) m.node) s.world.members
+
+  abbrev pub told_exits : List Entry → SceneOf P → List Share
+  told_exits h s = flat_map (λ m. exits_of tale.ways tale.exits (assets_of (flows_of h)) m.node) s.world.members
+
+  -- the report is that of a play, which came to this
+  pub record Tells (r : Report) (s : SceneOf P) : Type 0 where
+    pub history : newest_first r.history ≡ s.world.history
+    pub journals : r.journals ≡ map (journal_of tale.ways) s.world.members
+    pub rounds : r.rounds ≡ s.rounds
+    pub labels : r.labels ≡ s.names.labels
+    pub judged : AreJudged r.history r.journals r.premises
+    pub shares : r.shares ≡ told_shares r.history s
+    pub exits : r.exits ≡ told_exits r.history s
+
+  abbrev pub IsPlayed : Report → List Step → Type 0
+  IsPlayed r steps = Tells r (play tale.ways steps)

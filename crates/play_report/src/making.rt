@@ -1,0 +1,112 @@
+//! The report of a play.
+
+ghost use Rattle.std.specs.Prelude.{◌≡◌, ◌≤◌, All, IfOk, OnOk, length, map};
+ghost use Rattle.std.specs.List.{AllByRecursion};
+ghost use Rattle.channel_calls.specs.History.{Legal, newest_first};
+ghost use Rattle.net_model.specs.Valid.{IsValidEntry, IsValidEvent};
+ghost use Rattle.net_world.specs.Entered.{oldest_first};
+ghost use Rattle.support_chain.specs.Real.{real};
+ghost use Rattle.script_reader.specs.Bounds.{Fits, persons_of, rounds_of, signers_of};
+ghost use Rattle.play_report.specs.Reported.{Tells, IsPlayed, journal_of, told_shares, told_exits, AllFixed, AllHonest, AllSafe, PlaysHonestly, PlaysSafely, PlaysShares};
+ghost use Rattle.play_report.specs.Shares.{HasFollowed};
+ghost use Rattle.told_party.specs.Telling.{tale_of};
+
+use crate::judging::judge_all;
+use crate::sharing::{exits_of, have_followed, shares_of};
+use crate::walking::{journals_are_valid, journals_of, openings_are_fixed};
+use net_model::entries_are_valid;
+use net_world::Docket;
+use nitro_bytes::{Listed, NoMemory};
+use premises::Journal;
+use report_text::{Report, Share, assets_of};
+use script_play::{Scene, play};
+use script_reader::{STEP_LIMIT, Step};
+use sign_index::Signer;
+use std::alloc::Global;
+use told_party::Told;
+
+/// What is told of the people with nodes, in their order: their journals, what each can get of each asset, and what it
+/// could when it was commanded to exit.
+#[derive(Drop)]
+struct Tales {
+    journals: Vec<Journal>,
+    shares: Vec<Share>,
+    exits: Vec<Share>,
+}
+
+/// What is told of people whose nodes have followed the whole history of a play.
+fn tales_of<P: Told, D: Docket>(alloc: Global, scene: &Scene<P, D>) -> Result<Tales, NoMemory>
+    ensures journals { IfOk result (λ t. t.journals.items ≡ map (journal_of P.ways) scene.now.world.members) }
+    ensures valid { IfOk result (λ t. AllByRecursion (λ j. AllByRecursion IsValidEvent j.events) t.journals.items) }
+    ensures fixed { OnOk result (AllFixed P.ways scene.now.world.members) }
+    ensures shares { IfOk result (λ t. t.shares.items ≡ told_shares (tale_of P.ways P.shares P.exits) (oldest_first scene.now.world.history) scene.now) }
+    ensures exits { IfOk result (λ t. t.exits.items ≡ told_exits (tale_of P.ways P.shares P.exits) (oldest_first scene.now.world.history) scene.now) }
+    ensures followed { OnOk result (AllByRecursion (λ m. HasFollowed P.ways P.lost (length (oldest_first scene.now.world.history)) m.node) scene.now.world.members) }
+{
+    let journals = journals_of(alloc, scene.members())?;
+    openings_are_fixed(scene.members());
+    journals_are_valid(&journals);
+    let assets = assets_of(alloc, scene.history())?;
+    have_followed(scene.members(), scene.history().len())?;
+    let shares = shares_of(alloc, &assets, scene.members())?;
+    let exits = exits_of(alloc, &assets, scene.members())?;
+    Ok(Tales {
+        journals,
+        shares,
+        exits,
+    })
+}
+
+/// The report of what a play came to.
+#[tactic(auto, using(crate::proofs::Shared::tells_so))]
+fn report_of<P: Told, D: Docket>(alloc: Global, scene: Scene<P, D>) -> Result<Report, NoMemory>
+    ensures tells { IfOk result (λ report. Tells (tale_of P.ways P.shares P.exits) report scene) }
+    ensures legal { IfOk result (λ report. Legal real (newest_first report.history)) }
+    ensures valid { IfOk result (λ report. AllByRecursion IsValidEntry report.history) }
+    ensures safe { IfOk result (λ report. AllHonest P.ways report scene.world.members
+        → AllSafe P.ways report scene.world.members) }
+    ensures followed { OnOk result (AllByRecursion (λ m. HasFollowed P.ways P.lost (length (oldest_first scene.world.history)) m.node) scene.world.members) }
+{
+    let tales = tales_of(alloc, &scene)?;
+    let (names, rounds, history) = scene.into_parts();
+    entries_are_valid(&history);
+    let premises = judge_all(alloc, &history, &tales.journals)?;
+    Ok(Report {
+        history: Listed::make(history),
+        journals: Listed::make(tales.journals),
+        rounds,
+        labels: names.labels,
+        premises: Listed::make(premises),
+        shares: Listed::make(tales.shares),
+        exits: Listed::make(tales.exits),
+    })
+}
+
+/// Plays the steps, and tells what came of them. The signers are those of the people that the steps declare.
+pub fn report_play<P: Told, D: Docket>(
+    alloc: Global,
+    steps: &[Step],
+    signers: Vec<Signer>,
+) -> Result<Report, NoMemory>
+    requires fit { All Fits steps.now }
+    requires few { persons_of steps.now ≤ 16 }
+    requires rounds { rounds_of steps.now ≤ 4096 }
+    requires short { length steps.now ≤ STEP_LIMIT }
+    requires fresh { signers.items ≡ signers_of steps.now }
+    ensures played { IfOk result (λ report. IsPlayed (tale_of P.ways P.shares P.exits) report steps.now) }
+
+    // Each reply of the history is the sequential adjudicator's at its place.
+    ensures legal { IfOk result (λ report. Legal real (newest_first report.history)) }
+
+    // Each person with a node has an honest journal.
+    ensures honest { IfOk result (λ report. PlaysHonestly P.ways report steps.now) }
+
+    // Each person with a node is safe where its premises are told to hold.
+    ensures safe { IfOk result (λ report. PlaysSafely P.ways report steps.now) }
+
+    // What is told of each share is the definition's, over the whole history and the person's journal.
+    ensures shares { IfOk result (λ report. PlaysShares P.ways P.orders report steps.now) }
+{
+    let scene: Scene<P, D> = play(alloc, steps, signers)?;
+    report_of(alloc, scene)
+}

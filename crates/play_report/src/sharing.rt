@@ -1,0 +1,123 @@
+//! What people with nodes can get, and what they could when they were commanded to exit.
+
+ghost use Rattle.std.specs.Prelude.{◌≡◌, ◌++◌, flat_map, IfOk, OnOk, IsTrue};
+ghost use Rattle.std.specs.List.{AllByRecursion};
+ghost use Rattle.play_report.specs.Shares.{HasFollowed, shares_of, amount_then, exits_for, exits_of};
+
+use channel_name::person_name;
+use net_party::Party;
+use net_world::Member;
+use nitro_bytes::{Name, NoMemory};
+use report_text::Share;
+use std::alloc::Global;
+use told_party::Told;
+
+fn has_followed<P: Told>(node: &P, count: usize) -> bool
+    ensures { IsTrue result → HasFollowed P.ways P.lost count node.now }
+{
+    !node.is_lost() && node.seen() as usize == count
+}
+
+/// Each node has followed so many entries; else memory ran out.
+pub(crate) fn have_followed<P: Told>(members: &[Member<P>], count: usize) -> Result<(), NoMemory>
+    ensures { OnOk result (AllByRecursion (λ m. HasFollowed P.ways P.lost count m.node) members.now) }
+{
+    for member in members {
+        if !has_followed(member.node(), count) {
+            return Err(NoMemory);
+        }
+    }
+    Ok(())
+}
+
+/// Adds what a person can get of each of these assets.
+#[tactic(auto, using(premises::proofs::Adding::map_step))]
+fn add_shares<P: Told>(all: &mut Vec<Share>, assets: &[u32], node: &P) -> Result<(), NoMemory>
+    ensures { OnOk result (all.new.items ≡ all.old.items ++ shares_of P.ways P.shares assets.now node.now) }
+{
+    let person = person_name(node.key());
+    for asset in assets {
+        let amount = node.share(*asset)?;
+        all.push(Share {
+            person,
+            asset: *asset,
+            amount,
+        })?;
+    }
+    Ok(())
+}
+
+/// What each person with a node can get of each of these assets.
+#[tactic(auto, using(premises::proofs::Adding::joined_step))]
+pub(crate) fn shares_of<P: Told>(
+    alloc: Global,
+    assets: &[u32],
+    members: &[Member<P>],
+) -> Result<Vec<Share>, NoMemory>
+    ensures { IfOk result (λ all. all.items ≡ flat_map (λ m. shares_of P.ways P.shares assets.now m.node) members.now) }
+{
+    let mut all = Vec::new(alloc);
+    for member in members {
+        add_shares(&mut all, assets, member.node())?;
+    }
+    Ok(all)
+}
+
+/// The amount of an asset, 0 where there is none.
+fn amount_then(amounts: &[(u32, u128)], asset: u32) -> u128
+    ensures { result ≡ amount_then amounts.now asset }
+{
+    match amounts {
+        [] => 0,
+        [first, ..] if first.0 == asset => first.1,
+        [_, rest @ ..] => amount_then(rest, asset),
+    }
+}
+
+/// Adds what a person could get then of each of these assets.
+#[tactic(auto, using(premises::proofs::Adding::map_step))]
+fn add_amounts(
+    all: &mut Vec<Share>,
+    person: Name,
+    assets: &[u32],
+    amounts: &[(u32, u128)],
+) -> Result<(), NoMemory>
+    ensures { OnOk result (all.new.items ≡ all.old.items ++ exits_for person assets.now amounts.now) }
+{
+    for asset in assets {
+        let amount = amount_then(amounts, *asset);
+        all.push(Share {
+            person,
+            asset: *asset,
+            amount,
+        })?;
+    }
+    Ok(())
+}
+
+/// Adds what a person could get when it was commanded to exit, if it was.
+#[tactic(auto, using(premises::proofs::Adding::nothing_more))]
+fn add_exits<P: Told>(all: &mut Vec<Share>, assets: &[u32], node: &P) -> Result<(), NoMemory>
+    ensures { OnOk result (all.new.items ≡ all.old.items ++ exits_of P.ways P.exits assets.now node.now) }
+{
+    match node.exit_shares() {
+        None => Ok(()),
+        Some(amounts) => add_amounts(all, person_name(node.key()), assets, amounts),
+    }
+}
+
+/// What each person with a node could get when it was commanded to exit.
+#[tactic(auto, using(premises::proofs::Adding::joined_step))]
+pub(crate) fn exits_of<P: Told>(
+    alloc: Global,
+    assets: &[u32],
+    members: &[Member<P>],
+) -> Result<Vec<Share>, NoMemory>
+    ensures { IfOk result (λ all. all.items ≡ flat_map (λ m. exits_of P.ways P.exits assets.now m.node) members.now) }
+{
+    let mut all = Vec::new(alloc);
+    for member in members {
+        add_exits(&mut all, assets, member.node())?;
+    }
+    Ok(all)
+}

@@ -1,0 +1,4 @@
+pub mod Backed
+pub mod Numbers
+pub mod Printed
+pub mod Texts

@@ -1,0 +1,46 @@
+//! The flows of a history.
+
+ghost use Rattle.std.specs.Prelude.{◌≡◌, ◌++◌, IfOk, OnOk};
+ghost use Rattle.channel_calls.specs.History.{flow_of, flows_of};
+ghost use Rattle.flow_balances.specs.Receipts.{assets_of};
+
+use channel_calls::{Entry, Flow, flow_of};
+use flow_balances::Balances;
+use nitro_bytes::NoMemory;
+use std::alloc::{AllocError, Global};
+
+/// Adds the flow of an accepted call.
+fn add_flow(flows: &mut Vec<Flow>, entry: &Entry) -> Result<(), AllocError>
+    ensures { OnOk result (flows.new.items ≡ flows.old.items ++ flow_of entry.now.op entry.now.reply) }
+{
+    match flow_of(&entry.op, &entry.reply) {
+        Some(flow) => flows.push(flow)?,
+        None => {}
+    }
+    Ok(())
+}
+
+/// The flows of a history, in the order of time.
+#[tactic(auto, using(crate::proofs::Texts::flows_of_more))]
+pub(crate) fn flows_of(alloc: Global, history: &[Entry]) -> Result<Vec<Flow>, AllocError>
+    ensures { IfOk result (λ flows. flows.items ≡ flows_of history.now) }
+{
+    let mut flows = Vec::new(alloc);
+    for entry in history {
+        add_flow(&mut flows, entry)?;
+    }
+    Ok(flows)
+}
+
+/// The assets of a history, rising.
+pub fn assets_of(alloc: Global, history: &[Entry]) -> Result<Vec<u32>, NoMemory>
+    ensures { IfOk result (λ assets. assets.items ≡ assets_of (flows_of history.now)) }
+{
+    let flows = flows_of(alloc, history)?;
+    let balances = Balances::of(alloc, flows)?;
+    let mut assets = Vec::new(alloc);
+    for asset in balances.assets().iter() {
+        assets.push(*asset)?;
+    }
+    Ok(assets)
+}

@@ -1,0 +1,19 @@
+//! The printed text of a run, from its report: the entries, the refused commands, the balances, and for each person with
+//! a node whether the premises of safety hold, what it was paid and can get, and what it could at its exit.
+#![tactic(auto)]
+
+mod commands;
+mod entries;
+mod flows;
+mod judged;
+pub mod laws;
+mod names;
+mod people;
+mod report;
+mod text;
+
+pub use flows::assets_of;
+pub use report::{Judged, Report, Share, text_of};
+
+#[cfg(test)]
+mod tests;

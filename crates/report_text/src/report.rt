@@ -1,0 +1,52 @@
+//! What a run made, and its text.
+
+ghost use Rattle.std.specs.Prelude.{◌≡◌, IfOk};
+ghost use Rattle.channel_calls.specs.History.{Legal, newest_first};
+ghost use Rattle.support_chain.specs.Real.{real};
+ghost use Rattle.report_text.specs.Report.{text_of};
+
+use crate::text::report_text;
+use channel_calls::Entry;
+use nitro_bytes::{Dest, Label, Listed, Name, NoMemory};
+use premises::Journal;
+
+/// Whether each premise of a person's safety holds.
+#[derive(Clone, Copy, Debug, Drop)]
+pub struct Judged {
+    pub person: Name,
+    pub unforged: bool,
+    pub distinct: bool,
+    pub in_time: bool,
+}
+
+/// What a person can get of an asset.
+#[derive(Clone, Copy, Debug, Drop)]
+pub struct Share {
+    pub person: Name,
+    pub asset: u32,
+    pub amount: u128,
+}
+
+/// What a run made: its history, in the order of time; the journals of the people with nodes, in the order of their
+/// declaration; how long the history was after each round; the names of the declared people and channels, in the order
+/// of declaration; for each journal whether the premises of its person's safety hold; the shares of those people at the
+/// end; and those just after they were commanded to exit.
+#[derive(Drop)]
+pub struct Report {
+    pub history: Listed<Entry>,
+    pub journals: Listed<Journal>,
+    pub rounds: Listed<u32>,
+    pub labels: Listed<(Dest, Label)>,
+    pub premises: Listed<Judged>,
+    pub shares: Listed<Share>,
+    pub exits: Listed<Share>,
+}
+
+/// The printed text of a report.
+pub fn text_of(report: &Report) -> Result<Vec<u8>, NoMemory>
+    requires { Legal real (newest_first report.now.history) }
+    ensures { IfOk result (λ text. text.items ≡ text_of report.now) }
+{
+    let text = report_text(report.history.allocator(), report)?;
+    Ok(text.into_bytes())
+}

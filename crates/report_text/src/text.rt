@@ -1,0 +1,245 @@
+//! The text of a whole report.
+
+ghost use Rattle.std.specs.Prelude.{◌≡◌, ◌++◌, flat_map, length, IfOk, OnOk, List, ℕ, string_bytes};
+ghost use Rattle.channel_calls.specs.Flows.{AreWithinAmounts};
+ghost use Rattle.channel_calls.specs.History.{Legal, newest_first, time_set, or_before, now_of, flows_of};
+ghost use Rattle.channel_calls.specs.declared.entry.Entry.{Entry};
+ghost use Rattle.support_chain.specs.Real.{real};
+ghost use Rattle.flow_balances.specs.Receipts.{assets_of};
+ghost use Rattle.report_text.specs.Text.{entry_line, end_line, asset_line, balance_line, held_line, paid_line, balance_lines};
+ghost use Rattle.report_text.specs.Shares.{person_lines};
+ghost use Rattle.report_text.specs.Report.{text_of};
+
+use crate::commands::append_commands;
+use crate::entries::entry_line;
+use crate::flows::flows_of;
+use crate::names::{channel_text, person_text};
+use crate::people::append_people;
+use crate::report::Report;
+use channel_calls::{Entry, Op, Reply};
+use flow_balances::Balances;
+use nitro_bytes::{Dest, Label, NoMemory};
+use std::alloc::{AllocError, Global};
+
+fn end_line(alloc: Global, count: usize, now: u64) -> Result<String, AllocError>
+    ensures { (h : List Entry) → length h ≡ count → now_of (newest_first h) ≡ now
+        → IfOk result (λ text. string_bytes text ≡ end_line h) }
+{
+    format!(in alloc; "end entries {count} now {now}\n")
+}
+
+fn asset_line(alloc: Global, balances: &Balances, asset: u32) -> Result<String, AllocError>
+    requires { AreWithinAmounts balances.now }
+    ensures { IfOk result (λ text. string_bytes text ≡ asset_line balances.now asset) }
+{
+    let deposited = balances.deposited(asset);
+    let held = balances.held_by_all(asset);
+    let paid = balances.paid_to_all(asset);
+    format!(in alloc; "asset {asset} deposited {deposited} held {held} paid {paid}\n")
+}
+
+/// A line where the balance isn't 0.
+#[tactic(auto, unfolding(crate::specs::Text::balance_line))]
+fn balance_line(
+    alloc: Global,
+    word: &str,
+    name: &str,
+    asset: u32,
+    amount: u64,
+) -> Result<String, AllocError>
+    ensures { IfOk result (λ text. string_bytes text ≡ balance_line word.now name.now asset amount) }
+{
+    if amount == 0 {
+        return Ok(String::new(alloc));
+    }
+    format!(in alloc; "{word} {name} {asset} {amount}\n")
+}
+
+/// What a channel holds; nothing of a person.
+fn held_line(
+    alloc: Global,
+    labels: &[(Dest, Label)],
+    balances: &Balances,
+    pair: &(Dest, u32),
+) -> Result<String, AllocError>
+    requires { AreWithinAmounts balances.now }
+    ensures { IfOk result (λ text. string_bytes text ≡ held_line labels.now balances.now pair.now) }
+{
+    let (to, asset) = pair;
+    match to {
+        Dest::Person(_) => Ok(String::new(alloc)),
+        Dest::Channel(channel) => {
+            let name = channel_text(alloc, labels, channel)?;
+            let held = balances.held(channel, *asset);
+            balance_line(alloc, "held", name.as_str(), *asset, held)
+        }
+    }
+}
+
+/// What a person was paid; nothing of a channel.
+fn paid_line(
+    alloc: Global,
+    labels: &[(Dest, Label)],
+    balances: &Balances,
+    pair: &(Dest, u32),
+) -> Result<String, AllocError>
+    requires { AreWithinAmounts balances.now }
+    ensures { IfOk result (λ text. string_bytes text ≡ paid_line labels.now balances.now pair.now) }
+{
+    let (to, asset) = pair;
+    match to {
+        Dest::Channel(_) => Ok(String::new(alloc)),
+        Dest::Person(person) => {
+            let name = person_text(alloc, labels, person)?;
+            let paid = balances.paid(person, *asset);
+            balance_line(alloc, "paid", name.as_str(), *asset, paid)
+        }
+    }
+}
+
+/// The time after an entry.
+fn time_after(before: u64, entry: &Entry) -> u64
+    ensures { result ≡ or_before (time_set entry.now.op entry.now.reply) before }
+{
+    match (&entry.op, &entry.reply) {
+        (Op::Call(_), _) | (Op::Time(_), Reply::No(_)) => before,
+        (Op::Time(to), _) => *to,
+    }
+}
+
+/// The time after a history.
+#[tactic(auto, using(crate::proofs::Texts::now_of_more))]
+fn now_of(history: &[Entry]) -> u64
+    ensures { result ≡ now_of (newest_first history.now) }
+{
+    let mut now = 0;
+    for entry in history {
+        now = time_after(now, entry);
+    }
+    now
+}
+
+fn append_entries(
+    alloc: Global,
+    text: &mut String,
+    labels: &[(Dest, Label)],
+    history: &[Entry],
+) -> Result<(), AllocError>
+    ensures { OnOk result (string_bytes text.new
+        ≡ string_bytes text.old ++ flat_map (entry_line labels.now) history.now) }
+{
+    for entry in history {
+        let line = entry_line(alloc, labels, entry)?;
+        text.push_str(line.as_str())?;
+    }
+    Ok(())
+}
+
+fn append_assets(alloc: Global, text: &mut String, balances: &Balances) -> Result<(), AllocError>
+    requires { AreWithinAmounts balances.now }
+    ensures { OnOk result (string_bytes text.new
+        ≡ string_bytes text.old ++ flat_map (asset_line balances.now) (assets_of balances.now)) }
+{
+    for asset in balances.assets().iter() {
+        let line = asset_line(alloc, balances, *asset)?;
+        text.push_str(line.as_str())?;
+    }
+    Ok(())
+}
+
+fn append_holdings(
+    alloc: Global,
+    text: &mut String,
+    labels: &[(Dest, Label)],
+    balances: &Balances,
+    pairs: &[(Dest, u32)],
+) -> Result<(), AllocError>
+    requires { AreWithinAmounts balances.now }
+    ensures { OnOk result (string_bytes text.new
+        ≡ string_bytes text.old ++ flat_map (held_line labels.now balances.now) pairs.now) }
+{
+    for pair in pairs {
+        let line = held_line(alloc, labels, balances, pair)?;
+        text.push_str(line.as_str())?;
+    }
+    Ok(())
+}
+
+fn append_payouts(
+    alloc: Global,
+    text: &mut String,
+    labels: &[(Dest, Label)],
+    balances: &Balances,
+    pairs: &[(Dest, u32)],
+) -> Result<(), AllocError>
+    requires { AreWithinAmounts balances.now }
+    ensures { OnOk result (string_bytes text.new
+        ≡ string_bytes text.old ++ flat_map (paid_line labels.now balances.now) pairs.now) }
+{
+    for pair in pairs {
+        let line = paid_line(alloc, labels, balances, pair)?;
+        text.push_str(line.as_str())?;
+    }
+    Ok(())
+}
+
+/// The assets, and what channels hold and persons were paid.
+fn append_tables(
+    alloc: Global,
+    text: &mut String,
+    labels: &[(Dest, Label)],
+    balances: &Balances,
+) -> Result<(), AllocError>
+    requires { AreWithinAmounts balances.now }
+    ensures { OnOk result (string_bytes text.new
+        ≡ string_bytes text.old ++ balance_lines labels.now balances.now) }
+{
+    let pairs = balances.receivers();
+    append_assets(alloc, text, balances)?;
+    append_holdings(alloc, text, labels, balances, pairs)?;
+    append_payouts(alloc, text, labels, balances, pairs)
+}
+
+/// The balances of a history.
+fn balances_of(alloc: Global, history: &[Entry]) -> Result<Balances, NoMemory>
+    requires { Legal real (newest_first history.now) }
+    ensures flows { IfOk result (λ balances. balances ≡ flows_of history.now) }
+    ensures within { IfOk result (λ balances. AreWithinAmounts balances) }
+{
+    let flows = flows_of(alloc, history)?;
+    Balances::of(alloc, flows)
+}
+
+/// The balances of a report's history, and the lines of the people with nodes, which tell some of them again.
+fn append_sums(
+    alloc: Global,
+    text: &mut String,
+    labels: &[(Dest, Label)],
+    report: &Report,
+) -> Result<(), NoMemory>
+    requires { Legal real (newest_first report.now.history) }
+    ensures { OnOk result (string_bytes text.new
+        ≡ string_bytes text.old ++ balance_lines labels.now (flows_of report.now.history)
+        ++ flat_map (person_lines labels.now (flows_of report.now.history) report.now.shares report.now.exits) report.now.premises) }
+{
+    let balances = balances_of(alloc, report.history.as_slice())?;
+    append_tables(alloc, text, labels, &balances)?;
+    append_people(alloc, text, labels, &balances, report)?;
+    Ok(())
+}
+
+/// The text of a report. Its labels are the names in the order of declaration.
+pub(crate) fn report_text(alloc: Global, report: &Report) -> Result<String, NoMemory>
+    requires { Legal real (newest_first report.now.history) }
+    ensures { IfOk result (λ text. string_bytes text ≡ text_of report.now) }
+{
+    let history = report.history.as_slice();
+    let labels = report.labels.as_slice();
+    let end = end_line(alloc, history.len(), now_of(history))?;
+    let mut text = String::new(alloc);
+    append_entries(alloc, &mut text, labels, history)?;
+    append_commands(alloc, &mut text, labels, report.journals.as_slice())?;
+    text.push_str(end.as_str())?;
+    append_sums(alloc, &mut text, labels, report)?;
+    Ok(text)
+}

@@ -1,0 +1,48 @@
+-- Lines and the events of which they are, and what nodes tell of shares.
+use Rattle.std.specs.Prelude.{◌≡◌, ℕ, Bool, false, List, [], ◌∷◌, length, Option}
+use Rattle.std.specs.List.{AllByRecursion}
+use Rattle.nitro_bytes.specs.Parts.{IsFixed}
+use Rattle.channel_name.specs.Digests.{name_of_person}
+use Rattle.channel_calls.specs.History.{Legal}
+use Rattle.channel_calls.specs.declared.entry.Entry.{Entry}
+use Rattle.channel_calls.specs.declared.event.Event.{Event}
+use Rattle.net_model.specs.Journals.{Line}
+use Rattle.net_model.specs.Valid.{IsValidEntry}
+use Rattle.net_party.specs.Ways.{Ways}
+use Rattle.share_model.specs.Places.{Order, share}
+use Rattle.support_chain.specs.Real.{real}
+
+-- each of the one list stands so to the one at its place in the other, which is as long
+abbrev pub Pairwise : {A B : Type 0} → (A → B → Type 0) → List A → List B → Type 0
+Pairwise R [] [] = Unit {0}
+Pairwise R [] (y ∷ ys) = ⊥
+Pairwise R (x ∷ xs) [] = ⊥
+Pairwise R (x ∷ xs) (y ∷ ys) = R x y × Pairwise R xs ys
+
+abbrev pub IsTold : Line → Event → Type 0
+IsTold x e = (x.seen ≡ e.seen) × (x.deed ≡ e.deed)
+
+-- the lines are of these events
+abbrev pub AreTold : List Line → List Event → Type 0
+AreTold = Pairwise IsTold
+
+-- what they add to the plan are fixed parts
+abbrev pub HaveFixed : List Line → Type 0
+HaveFixed = AllByRecursion (λ x. AllByRecursion IsFixed x.adds)
+
+-- What is told of nodes: by their ways, what their people can get of an asset, and what those that were commanded to exit
+-- could get just after that.
+pub record Tale (P : Type 0) : Type 0 where
+  pub ways : Ways P
+  pub shares : P → ℕ → ℕ
+  pub exits : P → Option (List (ℕ × ℕ))
+
+abbrev pub tale_of : {P : Type 0} → Ways P → (P → ℕ → ℕ) → (P → Option (List (ℕ × ℕ))) → Tale P
+tale_of ways shares exits = record { ways = ways; shares = shares; exits = exits }
+
+-- The shares that a node tells, where memory didn't fail it and it followed the whole history, are those of the definition
+-- over the history and its own journal.
+abbrev pub SharesAreReal : {P : Type 0} → Ways P → (stands : List Entry → P → Type 0) → (lost : P → Bool) → (shares : P → ℕ → ℕ) → (orders : P → ℕ → Order) → Type 0
+SharesAreReal {P} ways stands lost shares orders =
+    (h : List Entry) (p : P) → Legal real h → AllByRecursion IsValidEntry h → stands h p → lost p ≡ false → ways.seen p ≡ length h
+    → (asset : ℕ) → shares p asset ≡ share real (name_of_person (ways.key p)) (orders p) h (ways.lines p) asset
