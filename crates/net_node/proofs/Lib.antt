@@ -1,0 +1,4 @@
+pub mod Heights
+pub mod Followed
+pub mod Kept
+pub mod Gaining

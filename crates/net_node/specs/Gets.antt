@@ -1,0 +1,20 @@
+-- The shares of a node that lost nothing and followed the whole history are those of the definition.
+use Rattle.std.proofs.Common.{◌≡◌, ℕ, Bool, false, cond, List, length, sym, ◌∙◌, ap}
+use Rattle.std.specs.List.{AllByRecursion}
+use Rattle.channel_calls.specs.History.{Legal}
+use Rattle.channel_calls.specs.declared.entry.Entry.{Entry}
+use Rattle.net_model.specs.Valid.{IsValidEntry}
+use Rattle.node_model.specs.Playing.{signing_of}
+use Rattle.node_shares.proofs.Telling.{nodes_tell_shares}
+use Rattle.node_tables.specs.Stages.{stages}
+use Rattle.node_ways.proofs.Kept.{few-values}
+use Rattle.node_ways.specs.Ways.{Numbered, ways, IsPlaced}
+use Rattle.support_chain.specs.Real.{real}
+use Rattle.told_party.specs.Telling.{SharesAreReal}
+use Rattle.net_node.specs.Shares.{is_lost, shares, orders}
+
+pub nodes_get : SharesAreReal ways IsPlaced is_lost shares orders
+unfolding signing_of
+nodes_get h p legal valid placed kept seen asset =
+    (nodes_tell_shares stages real (signing_of p.node.signer) h p.node legal kept (placed.stands (few-values h valid))
+    (sym (ap (λ (b : Bool). cond b 0 p.node.mind.view.count) kept) ∙ seen)).shares asset

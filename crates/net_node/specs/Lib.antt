@@ -1,0 +1,4 @@
+pub mod Minds
+pub mod Openings
+pub mod Shares
+pub mod Gets

@@ -1,0 +1,226 @@
+//! What a node knows, with its signer.
+
+ghost use Rattle.std.specs.Prelude.{◌≡◌, ◌+◌, ◌<◌, ◌^◌, true, OnOk, IfOk};
+ghost use Rattle.std.specs.List.{flat_map};
+ghost use Rattle.channel_store.specs.Keeping.{held_chain};
+ghost use Rattle.node_model.specs.Minds.{fresh, noted};
+ghost use Rattle.node_tables.specs.Stages.{stages};
+ghost use Rattle.node_ways.specs.Ways.{made_of, key_of};
+ghost use Rattle.sign_index.specs.Made.{made_bytes};
+ghost use Rattle.sign_index.specs.Signing.{IsHeight};
+ghost use Rattle.support_chain.specs.Real.{real};
+
+use crate::seeing::can_see;
+use channel_calls::{Call, Entry, HeldChain, NodeRefusal};
+use channel_name::{challenge_message, state_digest, state_message};
+use net_party::Command;
+use nitro_bytes::{Key, Listed, Name, NoMemory, Signed, State};
+use node_mind::Known;
+use node_objective::{Knowing, OwnChallenge};
+use node_refusals::command_refusal;
+use node_wishes::{handle, paying, signable};
+use sign_index::Signer;
+use std::alloc::Global;
+use std::marker::Model;
+
+/// What a node knows, its signer, and how often that signs.
+#[derive(Drop)]
+pub struct Mind {
+    known: Known,
+    signer: Signer,
+    limit: u32,
+}
+
+impl Model for Mind {
+    ghost use Rattle.std.specs.Prelude.{◌≡◌, ◌^◌};
+    ghost use Rattle.net_node.specs.Minds.{MindOf};
+
+    ghost Value = { MindOf };
+
+    ghost view = { λ m. record { known = m.known; signer = m.signer } };
+
+    ghost invariant = { λ m. m.limit ≡ 2 ^ m.signer.h };
+}
+
+/// How often a signer signs: its key begins with the type of its tree.
+
+fn limit_of(signer: &Signer) -> u32
+    requires { IsHeight signer.now.h }
+    ensures { result ≡ 2 ^ signer.now.h }
+{
+    if signer.public()[3] == 5 { 32 } else { 1024 }
+}
+
+impl Mind {
+    /// Nothing is known.
+    pub(crate) fn make(alloc: Global, signer: Signer) -> Mind
+        requires { IsHeight signer.h }
+        ensures known { result.known ≡ fresh (key_of (made_of signer)) }
+        ensures signer { result.signer ≡ signer }
+    {
+        let limit = limit_of(&signer);
+        Mind {
+            known: Known::make(alloc, signer.public()),
+            signer,
+            limit,
+        }
+    }
+
+    pub(crate) fn known(&self) -> &Known
+        ensures { result.now ≡ self.now.known }
+    {
+        &self.known
+    }
+
+    /// The chains that it holds.
+    pub(crate) fn chains(&self) -> &[HeldChain]
+        ensures { result.now ≡ flat_map held_chain self.now.known.kept }
+    {
+        self.known.store().chains()
+    }
+
+    /// The next signature.
+    fn signature(&mut self, message: &[u8]) -> Result<Listed<u8>, NoMemory>
+        requires { self.old.signer.used < 2 ^ self.old.signer.h }
+        ensures made { IfOk result (λ bytes. bytes ≡ made_bytes self.old.signer.seed self.old.signer.id self.old.signer.h self.old.signer.used message.now) }
+        ensures used { OnOk result (self.new.signer.used ≡ self.old.signer.used + 1) }
+        ensures known { self.new.known ≡ self.old.known }
+        ensures signer { made_of self.new.signer ≡ made_of self.old.signer }
+    {
+        match self.signer.sign(message) {
+            Ok(bytes) => Ok(Listed::make(bytes)),
+            Err(_) => Err(NoMemory),
+        }
+    }
+
+    /// Notes a state that the node signed, which passes the store's tests.
+    fn note(&mut self, channel: &Name, signed: Signed) -> Result<(), NoMemory>
+        ensures known { OnOk result (self.new.known ≡ noted real true channel.now signed self.old.known) }
+        ensures signer { self.new.signer ≡ self.old.signer }
+    {
+        match self.known.store().check(channel, &signed) {
+            Ok(()) => self.known.note(true, channel, signed),
+            Err(_) => Err(NoMemory),
+        }
+    }
+}
+
+impl Knowing for Mind {
+    ghost tables = { stages };
+
+    ghost rules = { real };
+
+    ghost mind = { λ m. m.known };
+
+    ghost signer = { λ m. made_of m.signer };
+
+    ghost times = { λ m. m.signer.used };
+
+    fn count(&self) -> u32 {
+        self.known.view().count
+    }
+
+    fn see(&mut self, entry: &Entry) -> Result<(), NoMemory> {
+        if can_see(self.known.view(), entry) {
+            self.known.see(entry)
+        } else {
+            Err(NoMemory)
+        }
+    }
+
+    fn handle(&mut self, bytes: &[u8]) -> Result<Option<NodeRefusal>, NoMemory> {
+        handle(&mut self.known, bytes)
+    }
+
+    #[tactic(auto, unfolding(node_model::specs::Playing::signing_of))]
+    fn command(&mut self, command: &Command) -> Result<Option<NodeRefusal>, NoMemory> {
+        let used = self.signer.used();
+        let refusal = command_refusal(&self.known, self.limit, used, command)?;
+        if refusal.is_none() {
+            self.known.commanded(command)?;
+        }
+        Ok(refusal)
+    }
+
+    fn wanted(&self, channel: &Name) -> Result<Option<State>, NoMemory> {
+        signable(&self.known, channel)
+    }
+
+    fn channels(&self) -> Result<Vec<Name>, NoMemory> {
+        self.known.channels()
+    }
+
+    fn messages(
+        &self,
+        channel: &Name,
+        state: &State,
+        signature: &[u8],
+    ) -> Result<Vec<(Name, Listed<u8>)>, NoMemory> {
+        self.known.messages(channel, state, signature)
+    }
+
+    fn challenge(&self, channel: &Name) -> Result<Option<OwnChallenge>, NoMemory> {
+        match self.known.challenge(channel) {
+            None => Ok(None),
+            Some(own) => {
+                let chain = own.chain.copy()?;
+                let state = own.state.copy()?;
+                Ok(Some(OwnChallenge {
+                    chain,
+                    state,
+                    who: own.who,
+                }))
+            }
+        }
+    }
+
+    fn calls(&self) -> Result<Vec<Call>, NoMemory> {
+        let alloc = self.known.view().channels.allocator();
+        let _parts = self.known.parts();
+        let facts = self.known.facts();
+        if self.known.left() {
+            node_tables::exit_calls_given(alloc, &facts, self.known.gave())
+        } else {
+            node_tables::calls(alloc, &facts)
+        }
+    }
+
+    fn called(&mut self, call: &Call) {
+        self.known.called(call);
+    }
+
+    fn paying(&self, channel: &Name, asset: u32, amount: u64) -> Result<Option<State>, NoMemory> {
+        paying(&self.known, channel, asset, amount)
+    }
+
+    fn used(&self) -> u32 {
+        self.signer.used()
+    }
+
+    #[tactic(auto, unfolding(node_model::specs::Playing::signing_of))]
+    fn can_sign(&self) -> bool {
+        self.signer.used() < self.limit
+    }
+
+    #[tactic(auto, unfolding(node_model::specs::Playing::signing_of))]
+    fn sign(&mut self, channel: &Name, state: &State) -> Result<Listed<u8>, NoMemory> {
+        let digest = state_digest(channel, state.bytes());
+        let signature = self.signature(&state_message(&digest))?;
+        let signed = Signed {
+            state: state.copy()?,
+            signature: signature.copy()?,
+        };
+        self.note(channel, signed)?;
+        Ok(signature)
+    }
+
+    #[tactic(auto, unfolding(node_model::specs::Playing::signing_of))]
+    fn sign_challenge(
+        &mut self,
+        channel: &Name,
+        own: &OwnChallenge,
+    ) -> Result<Listed<u8>, NoMemory> {
+        let digest = state_digest(channel, own.state.bytes());
+        self.signature(&challenge_message(&digest, own.who))
+    }
+}

@@ -1,0 +1,216 @@
+//! A node with its number.
+
+ghost use Rattle.std.specs.Prelude.{◌≡◌, true, false, OnOk, OnErr, IfOk};
+ghost use Rattle.support_chain.specs.Real.{real};
+ghost use Rattle.node_model.specs.Nodes.{NodeOf, new_node, saw_all};
+ghost use Rattle.node_objective.specs.Answers.{SameJournal};
+ghost use Rattle.node_ways.proofs.Kept.{nodes_are_kept};
+ghost use Rattle.node_ways.specs.Gains.{leaves};
+ghost use Rattle.node_ways.specs.Ways.{ways, noting_exit, IsPlaced};
+ghost use Rattle.std.specs.Option.{option_map};
+
+use crate::mind::Mind;
+use crate::sharing::shares_known;
+use channel_calls::{Call, Entry, Event, copy_call};
+use net_party::{Command, Lookout, NodeFault, Outs, Party};
+use nitro_bytes::{Key, Listed, NoMemory};
+use node_mind::Known;
+use node_objective::Knowing;
+use sign_index::Signer;
+use std::alloc::Global;
+use std::marker::Model;
+
+/// A node of the network, with its number and its key.
+#[derive(Drop)]
+pub struct Node {
+    alloc: Global,
+    number: u32,
+    key: Key,
+    node: node_objective::Node<Mind>,
+    exits: Option<Listed<(u32, u128)>>,
+}
+
+impl Model for Node {
+    ghost use Rattle.std.specs.Prelude.{◌≡◌};
+    ghost use Rattle.node_ways.specs.Ways.{Numbered, key_of};
+
+    ghost Value = { Numbered };
+
+    ghost view = { λ n. record { number = n.number; node = n.node; exits = n.exits } };
+
+    ghost invariant = { λ n. n.key ≡ key_of n.node.signer };
+}
+
+/// Follows the entries, one after the other.
+fn see_all(node: &mut node_objective::Node<Mind>, entries: &[Entry]) -> Result<(), NoMemory>
+    ensures saw { OnOk result (node.new ≡ saw_all real entries.now node.old) }
+    ensures lost { OnErr result (node.new.is_lost ≡ true) }
+    ensures same { OnErr result (SameJournal node.old node.new) }
+    ensures signer { node.new.signer ≡ node.old.signer }
+{
+    for entry in entries {
+        node.see(entry)?;
+    }
+    Ok(())
+}
+
+fn is_exit(command: &Command) -> bool
+    ensures { result ≡ leaves command.now }
+{
+    match command {
+        Command::Exit => true,
+        _ => false,
+    }
+}
+
+fn copied_bytes(alloc: Global, bytes: &[u8]) -> Result<Listed<u8>, NoMemory>
+    ensures { IfOk result (λ copy. copy ≡ bytes.now) }
+{
+    let copy = Vec::from_slice(alloc, bytes)?;
+    Ok(Listed::make(copy))
+}
+
+fn copied_calls(alloc: Global, calls: &[Call]) -> Result<Listed<Call>, NoMemory>
+    ensures { IfOk result (λ copies. copies ≡ calls.now) }
+{
+    let mut copies = Vec::new(alloc);
+    for call in calls {
+        let copy = copy_call(call)?;
+        copies.push(copy)?;
+    }
+    Ok(Listed::make(copies))
+}
+
+impl Node {
+    /// The commands that it was told, in their order.
+    pub(crate) fn commands(&self) -> &[Command]
+        ensures { result.now ≡ self.now.node.commands }
+    {
+        self.node.commands()
+    }
+
+    pub(crate) fn alloc(&self) -> Global {
+        self.alloc
+    }
+
+    /// What it knows.
+    pub(crate) fn known(&self) -> &Known
+        ensures { result.now ≡ self.now.node.mind }
+    {
+        self.node.mind().known()
+    }
+
+    /// Whether memory failed it.
+    pub(crate) fn has_lost(&self) -> bool
+        ensures { result ≡ self.now.node.is_lost }
+    {
+        self.node.is_lost()
+    }
+
+    /// What its person could get when it was commanded to exit, if it was.
+    pub(crate) fn exits(&self) -> Option<&[(u32, u128)]>
+        ensures { option_map (λ s. s.now) result ≡ self.now.exits }
+    {
+        match &self.exits {
+            None => None,
+            Some(amounts) => Some(amounts.as_slice()),
+        }
+    }
+
+    /// Notes what its person can get, where that wasn't noted before.
+    fn note_exit(&mut self) -> Result<(), NoMemory>
+        ensures noted { OnOk result (self.new ≡ noting_exit self.old) }
+        ensures node { self.new.node ≡ self.old.node }
+    {
+        if self.exits.is_none() {
+            let amounts = shares_known(self.alloc, self.node.mind().known())?;
+            self.exits = Some(amounts);
+        }
+        Ok(())
+    }
+}
+
+impl Party for Node {
+    ghost ways = { ways };
+
+    ghost stands = { IsPlaced };
+
+    ghost grows = { nodes_are_kept.grows };
+
+    ghost honest = { nodes_are_kept.honest };
+
+    ghost within = { nodes_are_kept.within };
+
+    #[tactic(auto, unfolding(node_model::specs::Playing::signing_of))]
+    fn make(alloc: Global, number: u32, signer: Signer) -> Result<Node, NoMemory> {
+        let key = signer.public();
+        let mind = Mind::make(alloc, signer);
+        Ok(Node {
+            alloc,
+            number,
+            key,
+            node: node_objective::Node::make(alloc, mind),
+            exits: None,
+        })
+    }
+
+    fn number(&self) -> u32 {
+        self.number
+    }
+
+    fn key(&self) -> &Key {
+        &self.key
+    }
+
+    fn journal(&self) -> &[Event] {
+        self.node.journal()
+    }
+
+    fn seen(&self) -> u32 {
+        if self.node.is_lost() {
+            0
+        } else {
+            self.node.mind().count()
+        }
+    }
+
+    fn see(&mut self, entries: &[Entry]) -> Result<(), NoMemory> {
+        if self.node.is_lost() {
+            return Err(NoMemory);
+        }
+        see_all(&mut self.node, entries)
+    }
+
+    fn command(&mut self, step: u32, command: Command) -> Result<Outs, NodeFault> {
+        let leaves = is_exit(&command);
+        let outs = self.node.command(step, command)?;
+        if leaves {
+            self.note_exit()?;
+        }
+        Ok(outs)
+    }
+
+    fn handle(&mut self, bytes: &[u8]) -> Result<(), NodeFault> {
+        let bytes = copied_bytes(self.alloc, bytes)?;
+        self.node.handle(bytes)
+    }
+
+    fn tick(&mut self) -> Result<Outs, NoMemory> {
+        self.node.tick()
+    }
+
+    fn watch(
+        &mut self,
+        lookout: &mut Lookout,
+        place: u32,
+        entries: &[Entry],
+    ) -> Result<Vec<Call>, NoMemory> {
+        let calls = lookout.look(entries, self.node.mind().chains())?;
+        if calls.len() > 64 {
+            return Err(NoMemory);
+        }
+        let given = copied_calls(self.alloc, calls.as_slice())?;
+        self.node.watch(lookout.seen, place, given)?;
+        Ok(calls)
+    }
+}

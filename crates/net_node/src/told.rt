@@ -1,0 +1,84 @@
+//! What is told of a node.
+
+ghost use Rattle.std.specs.List.{AllByRecursion};
+ghost use Rattle.nitro_bytes.specs.Parts.{IsFixed};
+ghost use Rattle.node_model.specs.Openings.{opened_by};
+ghost use Rattle.node_ways.proofs.Kept.{nodes_are_kept};
+ghost use Rattle.net_node.specs.Gets.{nodes_get};
+ghost use Rattle.net_node.specs.Openings.{lines_are_told};
+ghost use Rattle.net_node.specs.Shares.{shares, exits, orders, is_lost};
+
+use crate::node::Node;
+use crate::sharing::share_known;
+use net_party::Command;
+use nitro_bytes::{Fixed, NoMemory};
+use told_party::Told;
+
+fn fixed_is_valid(fixed: &Fixed)
+    ensures { IsFixed fixed.now }
+{
+    let _nonce = fixed.nonce();
+}
+
+fn openings_are_valid(command: &Command)
+    ensures { AllByRecursion IsFixed (opened_by command.now) }
+{
+    match command {
+        Command::Open { fixed, .. } | Command::OpenOn { fixed, .. } => fixed_is_valid(fixed),
+        Command::OpenVirtual {
+            guarantors,
+            joint,
+            channel,
+            ..
+        } => {
+            let (first, second) = guarantors;
+            fixed_is_valid(first);
+            fixed_is_valid(second);
+            fixed_is_valid(joint);
+            fixed_is_valid(channel);
+        }
+        Command::Pay { .. } | Command::Close { .. } | Command::Exit => {}
+    }
+}
+
+/// The fixed parts that commands open are such as their type promises.
+fn all_openings_are_valid(commands: &[Command])
+    ensures { AllByRecursion (λ c. AllByRecursion IsFixed (opened_by c)) commands.now }
+{
+    for command in commands {
+        openings_are_valid(command);
+    }
+}
+
+impl Told for Node {
+    ghost shares = { shares };
+
+    ghost exits = { exits };
+
+    ghost orders = { orders };
+
+    ghost lost = { is_lost };
+
+    fn share(&self, asset: u32) -> Result<u128, NoMemory> {
+        share_known(self.alloc(), self.known(), asset)
+    }
+
+    fn exit_shares(&self) -> Option<&[(u32, u128)]> {
+        self.exits()
+    }
+
+    fn is_lost(&self) -> bool {
+        self.has_lost()
+    }
+
+    #[tactic(auto, using(crate::specs::Openings::adds_are_fixed))]
+    fn openings_are_fixed(&self) {
+        all_openings_are_valid(self.commands());
+    }
+
+    ghost keeps = { nodes_are_kept };
+
+    ghost tells = { lines_are_told };
+
+    ghost gets = { nodes_get };
+}

@@ -1,0 +1,53 @@
+-- What an accepted command answers.
+use Rattle.std.proofs.Common.{◌≡◌, List, [], ap, refl}
+use Rattle.std.specs.Prelude.{ℕ, Option, Some, None, Ok, Result}
+use Rattle.nitro_bytes.specs.Parts.{StateParts}
+use Rattle.channel_calls.specs.declared.event.NodeRefusal.{NodeRefusal}
+use Rattle.net_party.specs.declared.command.Command.{Command}
+use Rattle.net_party.specs.declared.command.Command.TheVariants.{Open, OpenOn, OpenVirtual, Pay, Close, Exit}
+use Rattle.net_party.specs.declared.outs.NodeFault.{NodeFault}
+use Rattle.net_party.specs.declared.outs.Outs.{Outs}
+use Rattle.node_model.specs.Giving.{sent_if, paid_sends, command_gives, command_answers}
+use Rattle.node_model.specs.Nodes.{NodeOf, asked}
+use Rattle.node_model.specs.Playing.{Signing, signing_of}
+use Rattle.node_model.specs.Refusing.{command_refusal, signs_in}
+use Rattle.node_model.specs.Tables.{Tables}
+use Rattle.node_tables.specs.Stages.{stages}
+use Rattle.node_ways.specs.Laws.{CommandsCallNothing}
+use Rattle.channel_model.specs.Rules.{Rules}
+use Rattle.support_chain.specs.Real.{real}
+
+abbrev accepted : Outs → Result Outs NodeFault
+accepted outs = Ok outs
+
+same-calls : (given outs : Outs) → accepted given ≡ accepted outs → given.calls ≡ [] → outs.calls ≡ []
+same-calls given outs e none = let is : given ≡ outs = cc in cc
+
+gives-none : (t : Tables) (r : Rules) (s : Signing) (step : ℕ) (command : Command) (n : NodeOf) (refusal : Option NodeRefusal) (outs : Outs) → command_gives t r s step command n refusal ≡ Ok outs → outs.calls ≡ []
+gives-none t r s step command n (Some refusal) outs e = cc
+gives-none t r s step command n None outs e = same-calls (record { sends = paid_sends t r s command (asked r s step command None n); calls = []; spent = None }) outs e refl
+
+pub commands_call_nothing : CommandsCallNothing
+commands_call_nothing command p outs e =
+    gives-none stages real (signing_of p.node.signer) 0 command p.node (command_refusal stages real (signing_of p.node.signer).limit p.node.used p.node.mind command) outs e
+
+-- the step stands in no answer
+paid-so : (t : Tables) (r : Rules) (s : Signing) (step : ℕ) (command : Command) (n : NodeOf)
+    → paid_sends t r s command (asked r s step command None n) ≡ paid_sends t r s command (asked r s 0 command None n)
+paid-so t r s step (Open f outcome) n = refl
+paid-so t r s step (OpenOn ledger f asset amounts) n = refl
+paid-so t r s step (OpenVirtual ledgers guarantors joint channel asset amounts) n = refl
+paid-so t r s step (Pay channel asset amount) n = go (signs_in t r (Some (Pay channel asset amount)) n.mind channel)
+  where
+    go : (o : Option StateParts) → sent_if r s channel o (asked r s step (Pay channel asset amount) None n) ≡ sent_if r s channel o (asked r s 0 (Pay channel asset amount) None n)
+    go None = refl
+    go (Some state) = refl
+paid-so t r s step (Close channel) n = refl
+paid-so t r s step Exit n = refl
+
+pub answers-so : (t : Tables) (r : Rules) (s : Signing) (step : ℕ) (command : Command) (n : NodeOf) → command_answers t r s step command n ≡ command_answers t r s 0 command n
+answers-so t r s step command n = go (command_refusal t r s.limit n.used n.mind command)
+  where
+    go : (refusal : Option NodeRefusal) → command_gives t r s step command n refusal ≡ command_gives t r s 0 command n refusal
+    go (Some refusal) = refl
+    go None = ap (λ (sends : List (List ℕ × List ℕ)). Ok (record { sends = sends; calls = []; spent = None })) (paid-so t r s step command n)

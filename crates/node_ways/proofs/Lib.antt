@@ -1,0 +1,4 @@
+pub mod Staying
+pub mod Following
+pub mod Kept
+pub mod Answering

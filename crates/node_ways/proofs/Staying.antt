@@ -1,0 +1,118 @@
+-- What no call of a node changes.
+use Rattle.std.proofs.Common.{◌≡◌, ℕ, Bool, true, false, cond, List, [], ◌∷◌, refl, ◌∙◌}
+use Rattle.std.specs.Prelude.{Option, Some, None, Result, Ok, Err, nat_lt}
+use Rattle.nitro_bytes.specs.Parts.{StateParts}
+use Rattle.nitro_bytes.specs.declared.fault.ByteFault.{ByteFault}
+use Rattle.channel_calls.specs.Reading.{message_of}
+use Rattle.channel_calls.specs.Spelling.{Message}
+use Rattle.channel_calls.specs.declared.call.Call.{Call}
+use Rattle.channel_calls.specs.declared.event.Deed.TheVariants as deeds
+use Rattle.channel_calls.specs.declared.event.NodeRefusal.{NodeRefusal}
+use Rattle.channel_model.specs.Rules.{Rules}
+use Rattle.net_party.specs.declared.command.Command.{Command}
+use Rattle.net_party.specs.declared.command.Command.TheVariants.{Open, OpenOn, OpenVirtual, Pay, Close, Exit}
+use Rattle.node_model.specs.Giving.{in_order, after_signing, after_challenging, tick_calls, after_tick}
+use Rattle.node_model.specs.Leaving.{OwnChallenge, challenge_in}
+use Rattle.node_model.specs.Minds.{Mind, noted_message, commanded, commanded_if, did}
+use Rattle.node_model.specs.Nodes.{NodeOf, handled, signed, signed_if, ticked, challenged, challenged_if, challenged_all, gave_one, gave, asked, paid_if, told_to}
+use Rattle.node_model.specs.Playing.{Signing}
+use Rattle.node_model.specs.Refusing.{message_refusal, command_refusal, signs_in}
+use Rattle.node_model.specs.Tables.{Tables}
+
+-- its signer, its view of the history, and whether it is lost
+pub record Stays (old new : NodeOf) : Type 0 where
+  pub signer : new.signer ≡ old.signer
+  pub view : new.mind.view ≡ old.mind.view
+  pub lost : new.is_lost ≡ old.is_lost
+
+and-stays : (a b c : NodeOf) → Stays a b → Stays b c → Stays a c
+and-stays a b c first second =
+    record { signer = second.signer ∙ first.signer; view = second.view ∙ first.view; lost = second.lost ∙ first.lost }
+
+same-stays : (n : NodeOf) → Stays n n
+same-stays n = record { signer = refl; view = refl; lost = refl }
+
+-- ---- what is known
+
+commanded-view : (r : Rules) (command : Command) (m : Mind) → (commanded r command m).view ≡ m.view
+commanded-view r (Open f outcome) m = refl
+commanded-view r (OpenOn ledger f asset amounts) m = refl
+commanded-view r (OpenVirtual ledgers guarantors joint channel asset amounts) m = refl
+commanded-view r (Pay channel asset amount) m = refl
+commanded-view r (Close channel) m = refl
+commanded-view r Exit m = refl
+
+commanded-if-view : (r : Rules) (command : Command) (refusal : Option NodeRefusal) (m : Mind) → (commanded_if r (Some command) refusal m).view ≡ m.view
+commanded-if-view r command None m = commanded-view r command m
+commanded-if-view r command (Some refusal) m = refl
+
+message-view : (r : Rules) (read : Result Message ByteFault) (m : Mind) → (noted_message r read m).view ≡ m.view
+message-view r (Ok message) m = refl
+message-view r (Err fault) m = refl
+
+handled-view : (r : Rules) (bytes : List ℕ) (refusal : Option NodeRefusal) (m : Mind) → (did r (deeds.Handled bytes refusal) None m).view ≡ m.view
+handled-view r bytes None m = message-view r (message_of bytes) m
+handled-view r bytes (Some refusal) m = refl
+
+-- ---- calls
+
+module _ (t : Tables) (r : Rules) where
+  pub handled-stays : (bytes : List ℕ) (n : NodeOf) → Stays n (handled t r bytes n)
+  handled-stays bytes n = record { signer = refl; view = handled-view r bytes (message_refusal t r n.mind (message_of bytes)) n.mind; lost = refl }
+
+  signed-stays : (s : Signing) (channel : List ℕ) (o : Option StateParts) (n : NodeOf) → Stays n (signed_if r s channel o n)
+  signed-stays s channel None n = same-stays n
+  signed-stays s channel (Some state) n = go (nat_lt n.used s.limit)
+    where
+      go : (b : Bool) → Stays n (cond b (signed r s channel state n) n)
+      go true = record { signer = refl; view = refl; lost = refl }
+      go false = same-stays n
+
+  ticked-stays : (s : Signing) (channels : List (List ℕ)) (n : NodeOf) → Stays n (ticked t r s channels n)
+  ticked-stays s [] n = same-stays n
+  ticked-stays s (channel ∷ channels) n =
+      let one : NodeOf = signed_if r s channel (signs_in t r None n.mind channel) n in
+      and-stays n one (ticked t r s channels one) (signed-stays s channel (signs_in t r None n.mind channel) n) (ticked-stays s channels one)
+
+  challenged-stays : (s : Signing) (channel : List ℕ) (o : Option OwnChallenge) (n : NodeOf) → Stays n (challenged_if r s channel o n)
+  challenged-stays s channel None n = same-stays n
+  challenged-stays s channel (Some c) n = go (nat_lt n.used s.limit)
+    where
+      go : (b : Bool) → Stays n (cond b (challenged r s channel c n) n)
+      go true = record { signer = refl; view = refl; lost = refl }
+      go false = same-stays n
+
+  all-challenged-stays : (s : Signing) (channels : List (List ℕ)) (n : NodeOf) → Stays n (challenged_all r s channels n)
+  all-challenged-stays s [] n = same-stays n
+  all-challenged-stays s (channel ∷ channels) n =
+      let one : NodeOf = challenged_if r s channel (challenge_in n.mind channel) n in
+      and-stays n one (challenged_all r s channels one) (challenged-stays s channel (challenge_in n.mind channel) n) (all-challenged-stays s channels one)
+
+  gave-stays : (calls : List Call) (n : NodeOf) → Stays n (gave calls n)
+  gave-stays [] n = same-stays n
+  gave-stays (call ∷ calls) n = and-stays n (gave_one n call) (gave calls (gave_one n call)) (record { signer = refl; view = refl; lost = refl }) (gave-stays calls (gave_one n call))
+
+  pub tick-stays : (s : Signing) (n : NodeOf) → Stays n (after_tick t r s n)
+  tick-stays s n =
+      let signed : NodeOf = after_signing t r s n in
+      let done : NodeOf = after_challenging t r s n in
+      and-stays n done (after_tick t r s n)
+      (and-stays n signed done (ticked-stays s (in_order n.mind.parts) n) (all-challenged-stays s (in_order n.mind.parts) signed)) (gave-stays (tick_calls t r s n) done)
+
+  asked-stays : (s : Signing) (step : ℕ) (command : Command) (refusal : Option NodeRefusal) (n : NodeOf) → Stays n (asked r s step command refusal n)
+  asked-stays s step command refusal n = record { signer = refl; view = commanded-if-view r command refusal n.mind; lost = refl }
+
+  paid-stays : (s : Signing) (refusal : Option NodeRefusal) (command : Command) (n : NodeOf) → Stays n (paid_if t r s refusal command n)
+  paid-stays s (Some refusal) command n = same-stays n
+  paid-stays s None (Open f outcome) n = same-stays n
+  paid-stays s None (OpenOn ledger f asset amounts) n = same-stays n
+  paid-stays s None (OpenVirtual ledgers guarantors joint channel asset amounts) n = same-stays n
+  paid-stays s None (Pay channel asset amount) n = signed-stays s channel (signs_in t r (Some (Pay channel asset amount)) n.mind channel) n
+  paid-stays s None (Close channel) n = same-stays n
+  paid-stays s None Exit n = same-stays n
+
+  pub told-stays : (s : Signing) (step : ℕ) (command : Command) (n : NodeOf) → Stays n (told_to t r s step command n)
+  told-stays s step command n =
+      let refusal : Option NodeRefusal = command_refusal t r s.limit n.used n.mind command in
+      let one : NodeOf = asked r s step command refusal n in
+      and-stays n one (paid_if t r s refusal command one) (asked-stays s step command refusal n) (paid-stays s refusal command one)
