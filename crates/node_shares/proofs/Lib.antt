@@ -1,0 +1,6 @@
+pub mod Ordering
+pub mod Apart
+pub mod Keeping
+pub mod Growing
+pub mod Placing
+pub mod Telling

@@ -1,0 +1,135 @@
+-- What is kept of a channel is found in the lists of a participant's facts, where each channel is kept once.
+use Rattle.std.proofs.Common.{◌≡◌, ℕ, suc, ◌+◌, Bool, true, false, cond, ◌&&◌, ◌||◌, not, List, [], ◌∷◌, ◌++◌, inl, inr, refl, sym, ◌∙◌, ap, subst, arith}
+use Rattle.std.specs.Prelude.{Option, Some, None, map}
+use Rattle.std.specs.List.{slice_get, position_or_len, flat_map}
+use Rattle.std.specs.Option.{option_or}
+use Rattle.std.specs.Str.{bytes_eq}
+use Rattle.channel_calls.specs.Flows.{is_among}
+use Rattle.channel_calls.specs.declared.held_chain.HeldChain.{HeldChain}
+use Rattle.channel_calls.proofs.Names.{same_bytes, bytes_eq_self}
+use Rattle.net_model.specs.Journals.{In}
+use Rattle.channel_store.specs.Keeping.{is_held, held_chain, place_in}
+use Rattle.channel_store.specs.Storing.{is_of, kept_of}
+use Rattle.channel_store.specs.declared.kept.Kept.{Kept}
+use Rattle.funding_value.specs.Known.{FactsOf}
+use Rattle.funding_value.specs.Parts.{joined_of, ledgers_of}
+use Rattle.funding_value.specs.declared.plan.Part.{Part}
+use Rattle.plan_stages.specs.Asked.{is_unfinished, unfinished_on, part_with, asked_in}
+use Rattle.stage_rules.specs.Gathered as gathered
+use Rattle.node_model.specs.Openings.{are_apart}
+use Rattle.chain_laws.proofs.Tests.{some-eq, none-eq, and-left, and-right, clash}
+
+-- ---- names
+
+pub flips : (a b : List ℕ) → bytes_eq a b ≡ false → bytes_eq b a ≡ false
+flips a b differ = go (bytes_eq b a) refl
+  where
+    go : (t : Bool) → bytes_eq b a ≡ t → t ≡ false
+    go true e = absurd (clash (bytes_eq a b) (subst (λ (x : List ℕ). bytes_eq a x ≡ true) (sym (same_bytes b a e)) (bytes_eq_self a)) differ)
+    go false e = refl
+
+pub not-true : (b : Bool) → not b ≡ true → b ≡ false
+not-true true e = absurd cc
+not-true false e = refl
+
+pub or-left : (a b : Bool) → (a || b) ≡ false → a ≡ false
+or-left true b e = e
+or-left false b e = refl
+
+pub or-rest : (a b : Bool) → (a || b) ≡ false → b ≡ false
+or-rest true b e = absurd cc
+or-rest false b e = e
+
+-- ---- what is kept
+
+-- past a channel that is another one
+pub passes : (channel : List ℕ) (x : Kept) (xs : List Kept) → bytes_eq x.channel channel ≡ false → kept_of channel xs ≡ kept_of channel (x ∷ xs)
+passes channel x xs differ =
+    let step : cond (not (bytes_eq x.channel channel)) (1 + position_or_len (is_of channel) xs) 0 ≡ suc (position_or_len (is_of channel) xs) =
+    ap (λ (b : Bool). cond (not b) (1 + position_or_len (is_of channel) xs) 0) differ ∙ up (position_or_len (is_of channel) xs) in
+    sym (ap (slice_get (x ∷ xs)) step)
+  where
+    up : (n : ℕ) → 1 + n ≡ suc n
+    up n = omega arith
+
+here : (channel : List ℕ) (x k : Kept) (xs : List Kept) → bytes_eq x.channel channel ≡ true → kept_of channel (x ∷ xs) ≡ Some k → x ≡ k
+here channel x k xs same e =
+    some-eq x k (sym (ap (λ (b : Bool). slice_get (x ∷ xs) (cond (not b) (1 + position_or_len (is_of channel) xs) 0)) same) ∙ e)
+
+pub place-found : (channel : List ℕ) (kept : List Kept) (k : Kept) → kept_of channel kept ≡ Some k → gathered.place_in channel (map place_in kept) ≡ Some (place_in k)
+place-found channel [] k e = absurd (none-eq k e)
+place-found channel (x ∷ xs) k e = go (bytes_eq x.channel channel) refl (place-found channel xs k)
+  where
+    go : (b : Bool) → bytes_eq x.channel channel ≡ b → (kept_of channel xs ≡ Some k → gathered.place_in channel (map place_in xs) ≡ Some (place_in k))
+        → cond b (Some (place_in x)) (gathered.place_in channel (map place_in xs)) ≡ Some (place_in k)
+    go true is ih = ap (λ (z : Kept). Some (place_in z)) (here channel x k xs is e)
+    go false is ih = ih (passes channel x xs is ∙ e)
+
+-- the chain that is held of it, if one is
+abbrev pub held_of : Kept → Option HeldChain
+held_of k = cond (is_held k) (Some (record { channel = k.channel; chain = k.chain })) None
+
+abbrev pub names : List Kept → List (List ℕ)
+names kept = map (λ k. k.channel) kept
+
+absent : (channel : List ℕ) (kept : List Kept) → is_among channel (names kept) ≡ false → gathered.chain_in channel (flat_map held_chain kept) ≡ None
+absent channel [] e = refl
+absent channel (x ∷ xs) e = go (is_held x) (absent channel xs (or-rest (bytes_eq channel x.channel) (is_among channel (names xs)) e))
+  where
+    differ : bytes_eq x.channel channel ≡ false
+    differ = flips channel x.channel (or-left (bytes_eq channel x.channel) (is_among channel (names xs)) e)
+
+    go : (h : Bool) → gathered.chain_in channel (flat_map held_chain xs) ≡ None
+        → gathered.chain_in channel (cond h (record { channel = x.channel; chain = x.chain } ∷ []) [] ++ flat_map held_chain xs) ≡ None
+    go true ih = ap (λ (b : Bool). cond b (Some (record { channel = x.channel; chain = x.chain })) (gathered.chain_in channel (flat_map held_chain xs))) differ ∙ ih
+    go false ih = ih
+
+pub chain-found : (channel : List ℕ) (kept : List Kept) (k : Kept) → are_apart (names kept) ≡ true → kept_of channel kept ≡ Some k → gathered.chain_in channel (flat_map held_chain kept) ≡ held_of k
+chain-found channel [] k apart e = absurd (none-eq k e)
+chain-found channel (x ∷ xs) k apart e =
+    go (bytes_eq x.channel channel) refl (chain-found channel xs k (and-right (not (is_among x.channel (names xs))) (are_apart (names xs)) apart))
+  where
+    no-other : bytes_eq x.channel channel ≡ true → gathered.chain_in channel (flat_map held_chain xs) ≡ None
+    no-other is =
+        absent channel xs
+        (subst (λ (z : List ℕ). is_among z (names xs) ≡ false) (same_bytes x.channel channel is)
+        (not-true (is_among x.channel (names xs)) (and-left (not (is_among x.channel (names xs))) (are_apart (names xs)) apart)))
+
+    one-held : (b h : Bool) → bytes_eq x.channel channel ≡ b → (b ≡ true → gathered.chain_in channel (flat_map held_chain xs) ≡ None)
+        → gathered.chain_in channel (cond h (record { channel = x.channel; chain = x.chain } ∷ []) [] ++ flat_map held_chain xs)
+        ≡ cond b (cond h (Some (record { channel = x.channel; chain = x.chain })) None) (gathered.chain_in channel (flat_map held_chain xs))
+    one-held true true is none = ap (λ (b : Bool). cond b (Some (record { channel = x.channel; chain = x.chain })) (gathered.chain_in channel (flat_map held_chain xs))) is
+    one-held false true is none = ap (λ (b : Bool). cond b (Some (record { channel = x.channel; chain = x.chain })) (gathered.chain_in channel (flat_map held_chain xs))) is
+    one-held true false is none = none refl
+    one-held false false is none = refl
+
+    go : (b : Bool) → bytes_eq x.channel channel ≡ b → (kept_of channel xs ≡ Some k → gathered.chain_in channel (flat_map held_chain xs) ≡ held_of k)
+        → gathered.chain_in channel (flat_map held_chain (x ∷ xs)) ≡ held_of k
+    go true is ih = one-held true (is_held x) is (λ t. no-other is) ∙ ap held_of (here channel x k xs is e)
+    go false is ih = one-held false (is_held x) is (λ t. absurd (clash false t refl)) ∙ ih (passes channel x xs is ∙ e)
+
+-- ---- the part that is asked
+
+one-of : {A : Type 0} (a b : Option A) (x : A) (P : Type 0) → (a ≡ Some x → P) → (b ≡ Some x → P) → option_or a b ≡ Some x → P
+one-of None b x P f g e = g e
+one-of (Some y) b x P f g e = f e
+
+on-in : (f : FactsOf) (name : List ℕ) (parts : List Part) (p : Part) → unfinished_on f name parts ≡ Some p → In p parts
+on-in f name [] p e = absurd (none-eq p e)
+on-in f name (q ∷ qs) p e = go (is_among name (ledgers_of q) && is_unfinished f q) (on-in f name qs p) e
+  where
+    go : (b : Bool) → (unfinished_on f name qs ≡ Some p → In p qs) → cond b (Some q) (unfinished_on f name qs) ≡ Some p → In p (q ∷ qs)
+    go true ih h = inl (sym (some-eq q p h))
+    go false ih h = inr (ih h)
+
+with-in : (name : List ℕ) (parts : List Part) (p : Part) → part_with name parts ≡ Some p → In p parts
+with-in name [] p e = absurd (none-eq p e)
+with-in name (q ∷ qs) p e = go (is_among name (joined_of q)) (with-in name qs p) e
+  where
+    go : (b : Bool) → (part_with name qs ≡ Some p → In p qs) → cond b (Some q) (part_with name qs) ≡ Some p → In p (q ∷ qs)
+    go true ih h = inl (sym (some-eq q p h))
+    go false ih h = inr (ih h)
+
+-- it is one of the plan
+pub asked-there : (f : FactsOf) (name : List ℕ) (p : Part) → asked_in f name ≡ Some p → In p f.plan.parts
+asked-there f name p e = one-of (unfinished_on f name f.plan.parts) (part_with name f.plan.parts) p (In p f.plan.parts) (on-in f name f.plan.parts p) (with-in name f.plan.parts p) e

@@ -1,0 +1,13 @@
+pub mod Finding
+pub mod Over
+pub mod Apart
+pub mod Planned
+pub mod Picking
+pub mod Carrying
+pub mod Guarding
+pub mod Roots
+pub mod Openings
+pub mod Forged
+pub mod Carried
+pub mod Closing
+pub mod Places

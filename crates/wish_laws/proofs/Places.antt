@@ -1,0 +1,85 @@
+-- What is kept at a place is what is held there, which sets up as it opened.
+use Rattle.std.proofs.Common.{◌≡◌, ℕ, ◌+◌, ◌*◌, ◌<◌, ◌≤◌, true, List, [], ◌∷◌, ◌++◌, inr, length, refl, sym, ◌∙◌, ap, subst, arith}
+use Rattle.std.specs.Prelude.{Option, Some, None}
+use Rattle.nitro_bytes.specs.Parts.{FixedParts, StateParts}
+use Rattle.channel_model.specs.Chains.{last_of}
+use Rattle.channel_model.specs.Rules.{people, newest}
+use Rattle.channel_calls.specs.History.{Legal}
+use Rattle.channel_calls.specs.Marked.{Marked, marked_of}
+use Rattle.channel_calls.specs.declared.entry.Entry.{Entry}
+use Rattle.net_model.specs.Held.{held, IsGood, IsGoodIfAny}
+use Rattle.net_model.specs.Journals.{In}
+use Rattle.net_model.specs.Premises.{Unforged, NoCollision, AreValid}
+use Rattle.support_chain.specs.Real.{real}
+use Rattle.channel_store.specs.Keeping.{next_of}
+use Rattle.channel_store.specs.declared.kept.Kept.{Kept}
+use Rattle.funding_value.specs.declared.plan.Goal.{Goal}
+use Rattle.node_model.specs.Places.{Told, lines_of, mind_at}
+use Rattle.node_model.specs.Playing.{Signing, SignsWell, Plays}
+use Rattle.node_tables.specs.Stages.{stages}
+use Rattle.chain_laws.proofs.Tests.{some-eq, none-eq}
+use Rattle.chain_laws.proofs.Chains.{newest-in}
+use Rattle.chain_laws.proofs.Lists.{get-within}
+use Rattle.history_laws.proofs.Opening.{held-good}
+use Rattle.history_laws.proofs.Rowing.{legal-suffix}
+use Rattle.node_laws.proofs.Agreeing.{IsOwn, Agree}
+use Rattle.node_laws.proofs.Bridging.{lines-append}
+use Rattle.node_laws.proofs.Once.{played_journals_are_honest}
+use Rattle.node_laws.proofs.Standing.{known}
+use Rattle.wish_laws.specs.Roots.{SetsUp}
+use Rattle.wish_laws.specs.Carried.{OpensWith, IsRepeatedIfAny}
+use Rattle.wish_laws.specs.Places.{RootPlace, RootsSignAtPlaces}
+use Rattle.wish_laws.proofs.Apart.{kept-apart}
+use Rattle.wish_laws.proofs.Carried.{set_ups_are_carried}
+use Rattle.wish_laws.proofs.Closing.{fixed-is, rest-plays, close_late}
+use Rattle.wish_laws.proofs.Roots.{roots_sign}
+
+newest-there : (states : List StateParts) (t : StateParts) → newest states ≡ Some t → In t states
+newest-there [] t e = absurd (none-eq t e)
+newest-there (s ∷ rest) t e = subst (λ (x : StateParts). In x (s ∷ rest)) (some-eq (last_of s rest) t e) (newest-in s rest)
+
+-- of a chain that is good, and whose latest state repeats the opening outcome while the set-up lasts
+sets-up-by : (f : FixedParts) (g : Goal) (k : Kept) (w : Marked) → k.chain.fixed ≡ f → marked_of k.chain ≡ w → IsGood real f w → IsRepeatedIfAny f g.opening (Some w)
+    → (g.closing ≡ true → 2 * people k.chain.fixed ≤ next_of k) → SetsUp g k
+sets-up-by f g k w fixed-is same good repeated closes = record {
+  good = subst (λ (x : FixedParts). IsGood real x (marked_of k.chain)) (sym fixed-is) (subst (IsGood real f) (sym same) good);
+  repeats = λ t is up. record {
+    state = t;
+    there = newest-there k.chain.states t is;
+    repeated = repeated t (ap (λ (x : Marked). newest x.states) (sym same) ∙ is) (less t.turn (2 * people f) (subst (λ (x : FixedParts). t.turn + 1 < 2 * people x) fixed-is up));
+  };
+  closes = closes;
+}
+  where
+    less : (a b : ℕ) → a + 1 < b → a < b
+    less a b h = omega arith
+
+sets-up : (s : Signing) (h : List Entry) (journal : List Told) → SignsWell real s → Legal real h → Plays stages real s h journal → Unforged real s.key h (lines_of s.key journal)
+    → NoCollision real h (lines_of s.key journal) → AreValid h (lines_of s.key journal) → (f : FixedParts) (g : Goal) (k : Kept) → RootPlace s h journal f g k → OpensWith f g.opening (lines_of s.key journal) → SetsUp g k
+sets-up s h journal signs legal plays unforged distinct valid f g k p first =
+    by (held real f p.past (lines_of s.key p.front)) refl
+    (subst (λ (o : Option Kept). Agree real s.key f (lines_of s.key p.front) o (held real f p.past (lines_of s.key p.front))) p.keeps
+    (known real s.key f p.past p.front (legal-suffix real p.later p.past (subst (Legal real) p.entries legal)) p.few).agree)
+  where
+    whole : lines_of s.key journal ≡ lines_of s.key p.newer ++ lines_of s.key p.front
+    whole = ap (lines_of s.key) p.events ∙ lines-append s.key p.newer p.front
+
+    one : 1 ≤ people f
+    one = let small : p.opened.me < people f = get-within f.keys p.opened.me s.key p.opened.mine in omega arith
+
+    same : IsOwn real s.key (real.named f) (lines_of s.key p.front) k → k.chain.fixed ≡ f
+    same = fixed-is s h journal distinct f (inr (p.opened.line, p.opened.there, p.opened.opens)) p.newer p.front p.events k
+
+    by : (o : Option Marked) → held real f p.past (lines_of s.key p.front) ≡ o → Agree real s.key f (lines_of s.key p.front) (Some k) o → SetsUp g k
+    by None is a = absurd a
+    by (Some w) is a =
+        sets-up-by f g k w (same a.0) (a.1 (same a.0)) (subst (IsGoodIfAny real f) is (held-good real f one p.past (lines_of s.key p.front)))
+        (subst (IsRepeatedIfAny f g.opening) is
+        (set_ups_are_carried s.key h (lines_of s.key journal) legal (played_journals_are_honest stages real s h journal signs legal plays) unforged distinct valid f g.opening
+        (length p.past) p.opened first p.later p.past (lines_of s.key p.newer) (lines_of s.key p.front) p.entries whole)) (close_late s h journal legal plays distinct f g k p)
+
+pub at_places : RootsSignAtPlaces
+at_places s h journal signs legal plays unforged distinct valid f g k state p first wanted =
+    roots_sign (mind_at real s.key p.past p.front) (real.named f) g k state
+    (kept-apart stages real s h p.front (rest-plays s h p.newer p.front (subst (Plays stages real s h) p.events plays)) p.later p.past p.entries p.before) p.asked p.goal p.keeps
+    (sets-up s h journal signs legal plays unforged distinct valid f g k p first) wanted

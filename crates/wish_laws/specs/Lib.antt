@@ -1,0 +1,4 @@
+pub mod Roots
+pub mod Forged
+pub mod Carried
+pub mod Places

@@ -1,0 +1,57 @@
+-- A node signs what a root wants at each place of its journal, where nothing is forged.
+use Rattle.std.specs.Prelude.{◌≡◌, ◌*◌, ◌≤◌, true, false, List, ◌++◌, length, Some, None}
+use Rattle.nitro_bytes.specs.Parts.{FixedParts, StateParts}
+use Rattle.channel_model.specs.Rules.{people}
+use Rattle.channel_calls.specs.History.{Legal}
+use Rattle.channel_calls.specs.declared.entry.Entry.{Entry}
+use Rattle.net_model.specs.Journals.{In, is_watched}
+use Rattle.net_model.specs.Premises.{Unforged, NoCollision, AreValid}
+use Rattle.net_model.specs.Safety.{IsChannelOf}
+use Rattle.support_chain.specs.Real.{real}
+use Rattle.channel_store.specs.Keeping.{next_of}
+use Rattle.channel_store.specs.Storing.{kept_of}
+use Rattle.channel_store.specs.declared.kept.Kept.{Kept}
+use Rattle.funding_value.specs.declared.plan.Goal.{Goal}
+use Rattle.funding_value.specs.declared.plan.Part.TheVariants.{Root}
+use Rattle.stage_rules.specs.Gathered.{goal_in}
+use Rattle.node_model.specs.Minds.{facts_of}
+use Rattle.node_model.specs.Places.{Told, lines_of, mind_at, AreFew}
+use Rattle.node_model.specs.Playing.{Signing, SignsWell, Plays}
+use Rattle.node_model.specs.Refusing.{wish, signs_in}
+use Rattle.node_tables.specs.Stages.{stages}
+use Rattle.wish_laws.specs.Carried.{OpensWith}
+
+-- A place of a history and a journal, and a root that the journal opened, with its goal and what is kept of it there. No
+-- event but a look had seen more.
+pub record RootPlace (s : Signing) (h : List Entry) (journal : List Told) (f : FixedParts) (g : Goal) (k : Kept)
+    : Type 0 where
+  pub later : List Entry
+  pub past : List Entry
+  pub newer : List Told
+  pub front : List Told
+  pub entries : h ≡ later ++ past
+  pub events : journal ≡ newer ++ front
+  pub few : AreFew past
+  pub opened : IsChannelOf s.key f (lines_of s.key journal) (length past)
+  pub before : (y : Told) → In y front → is_watched y.deed ≡ false → y.seen ≤ length past
+  pub asked : stages.asked (facts_of (mind_at real s.key past front)) (real.named f) ≡ Some (Root (real.named f))
+  pub goal : goal_in (facts_of (mind_at real s.key past front)) (real.named f) ≡ Some g
+  pub keeps : kept_of (real.named f) (mind_at real s.key past front).kept ≡ Some k
+
+-- where Close was commanded of the root, its set-up is over
+abbrev pub RootsCloseAfterSetUp : Type 0
+RootsCloseAfterSetUp =
+    (s : Signing) (h : List Entry) (journal : List Told) → Legal real h → Plays stages real s h journal
+    → NoCollision real h (lines_of s.key journal) → (f : FixedParts) (g : Goal) (k : Kept)
+    → RootPlace s h journal f g k → g.closing ≡ true → 2 * people k.chain.fixed ≤ next_of k
+
+-- if what was noted in the first round repeats the opening outcome
+abbrev pub RootsSignAtPlaces : Type 0
+RootsSignAtPlaces =
+    (s : Signing) (h : List Entry) (journal : List Told) → SignsWell real s → Legal real h
+    → Plays stages real s h journal → Unforged real s.key h (lines_of s.key journal)
+    → NoCollision real h (lines_of s.key journal) → AreValid h (lines_of s.key journal)
+    → (f : FixedParts) (g : Goal) (k : Kept) (state : StateParts) (p : RootPlace s h journal f g k)
+    → OpensWith f g.opening (lines_of s.key journal)
+    → wish stages None (mind_at real s.key p.past p.front) (real.named f) k ≡ Some state
+    → signs_in stages real None (mind_at real s.key p.past p.front) (real.named f) ≡ Some state
