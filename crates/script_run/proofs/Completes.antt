@@ -10,7 +10,8 @@ use Rattle.script_run.specs.declared.run.Status.{Status}
 use Rattle.script_run.specs.declared.run.Status.TheVariants.{Done, NoMemory, Usage, Script, ReadFault, WriteFault, TooLong}
 use Rattle.script_run.specs.declared.asking.Asked.{Asked}
 use Rattle.script_run.specs.declared.asking.Asked.TheVariants.{Run}
-use Rattle.script_run.specs.declared.report.Report.{Report}
+use Rattle.report_text.specs.declared.report.Report.{Report}
+use Rattle.told_party.specs.Telling.{Tale}
 
 -- what was taken to the end of a source that tells its bytes
 pub all_taken : (before after : Option (List ℕ)) (bytes taken : List ℕ) → before ≡ Some bytes → Consumes before after taken → IsAtEnd after → taken ≡ bytes
@@ -31,19 +32,19 @@ no_more_taken (Some xs) (Some ys) bytes taken e c =
 pub broken : (a : Asked) (step : ℕ) (rule : Rule) (bytes : List ℕ) → Breaks (is_race a) step rule bytes → Breaks false step rule bytes
 broken Run step rule bytes b = b
 
-pub completes : (g : Given) (status : Status) (report : Option Report) → EndsAs g status report → IsSound g → status ≡ Done
-completes g Done report e s = refl
-completes g NoMemory report e s = absurd e
-completes g Usage None e s = let words = s.words in absurd (cc)
-completes g Usage (Some r) e s = absurd e
-completes g (Script step rule) None e s =
+pub completes : {P : Type 0} (tale : Tale P) (g : Given) (status : Status) (report : Option Report) → EndsAs tale g status report → IsSound g → status ≡ Done
+completes tale g Done report e s = refl
+completes tale g NoMemory report e s = absurd e
+completes tale g Usage None e s = let words = s.words in absurd (cc)
+completes tale g Usage (Some r) e s = absurd e
+completes tale g (Script step rule) None e s =
     let taken = all_taken g.before g.after s.bytes e.2.0 s.told e.2.1 e.2.2 in
     absurd (script_breaks_none false step rule s.bytes s.steps s.script (broken e.0 step rule s.bytes (subst (Breaks (is_race e.0) step rule) taken e.2.4)))
-completes g (Script step rule) (Some r) e s = absurd e
-completes g ReadFault None e s = absurd (s.faultless e.2.1)
-completes g ReadFault (Some r) e s = absurd e
-completes g WriteFault report e s = absurd e
-completes g TooLong None e s =
+completes tale g (Script step rule) (Some r) e s = absurd e
+completes tale g ReadFault None e s = absurd (s.faultless e.2.1)
+completes tale g ReadFault (Some r) e s = absurd e
+completes tale g WriteFault report e s = absurd e
+completes tale g TooLong None e s =
     let most = no_more_taken g.before g.after s.bytes e.2.0 s.told e.2.1 in
     absurd (omega (arith, most, s.short, e.2.2))
-completes g TooLong (Some r) e s = absurd e
+completes tale g TooLong (Some r) e s = absurd e

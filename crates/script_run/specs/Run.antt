@@ -1,22 +1,23 @@
 -- What a run of the program comes to.
-use Rattle.std.specs.Prelude.{◌≡◌, ◌≤◌, ◌<◌, ℕ, List, [], ◌∷◌, length, Bool, false, Option, Some, None, codes, if◌then◌else◌}
+use Rattle.std.specs.Prelude.{◌≡◌, ◌≤◌, ◌<◌, ℕ, List, [], ◌∷◌, length, Bool, false, Option, Some, None, IfSome, codes, if◌then◌else◌}
 use Rattle.std.specs.Fmt.{decimal}
 use Rattle.std.specs.Str.{bytes_eq}
 use Rattle.std.specs.Io.KnownBytes.{Consumes, IsAtEnd}
-use Rattle.channel_calls.specs.History.{newest_first}
 use Rattle.script_reader.specs.Outside.{Rose}
 use Rattle.script_reader.specs.Script.{IsScript, Breaks}
 use Rattle.script_reader.specs.declared.step.Rule.{Rule}
 use Rattle.script_reader.specs.declared.step.Rule.TheVariants as rules
 use Rattle.script_reader.specs.declared.step.Step.{Step}
-use Rattle.script_play.specs.Play.{play}
-use Rattle.script_run.specs.Nobody.{no_ways}
-use Rattle.script_run.specs.Text.{text_of, ◌&◌, ended}
+use Rattle.play_report.specs.Reported.{IsPlayed, PlaysHonestly, PlaysSafely, PlaysShares}
+use Rattle.report_text.specs.Report.{text_of}
+use Rattle.report_text.specs.Text.{◌&◌, ended}
+use Rattle.report_text.specs.declared.report.Report.{Report}
+use Rattle.share_model.specs.Places.{Order}
+use Rattle.told_party.specs.Telling.{Tale}
 use Rattle.script_run.specs.declared.run.Status.{Status}
 use Rattle.script_run.specs.declared.run.Status.TheVariants.{Done, NoMemory, Usage, Script, ReadFault, WriteFault, TooLong}
 use Rattle.script_run.specs.declared.asking.Asked.{Asked}
 use Rattle.script_run.specs.declared.asking.Asked.TheVariants.{Run}
-use Rattle.script_run.specs.declared.report.Report.{Report}
 
 -- the words and the source that a run was handed: what was left of it and its count of faults, before and after
 pub record Given : Type 0 where
@@ -61,29 +62,46 @@ Takes g P = (bytes : List ℕ) × Consumes g.before g.after bytes × P bytes
 abbrev pub Reads : Given → (List ℕ → Type 0) → Type 0
 Reads g P = (bytes : List ℕ) × Consumes g.before g.after bytes × IsAtEnd g.after × (length bytes ≤ 4194304) × P bytes
 
--- the report tells the history of the play of these steps, in the order of time, and the declared names
-abbrev pub IsPlayed : Report → List Step → Type 0
-IsPlayed report steps = (newest_first report.history ≡ (play no_ways steps).world.history) × (report.labels ≡ (play no_ways steps).names.labels)
+module _ {P : Type 0} (tale : Tale P) where
+  -- what was asked for comes to this report, by steps of which this holds besides
+  abbrev pub ComesBy : (List Step → Type 0) → Asked → Given → Report → Type 0
+  ComesBy Q Run g report = Reads g (λ bytes. (steps : List Step) × IsScript false bytes steps × IsPlayed tale report steps × Q steps)
 
--- what was asked for comes to this report
-abbrev pub Comes : Asked → Given → Report → Type 0
-Comes Run g report = Reads g (λ bytes. (steps : List Step) × IsScript false bytes steps × IsPlayed report steps)
+  -- what was asked for comes to this report
+  abbrev pub Comes : Asked → Given → Report → Type 0
+  Comes Run g report = Reads g (λ bytes. (steps : List Step) × IsScript false bytes steps × IsPlayed tale report steps)
 
--- Why a run comes to each end, before its text is put.
-abbrev pub EndsAs : Given → Status → Option Report → Type 0
-EndsAs g Done (Some report) = Asks g (λ a. Comes a g report)
-EndsAs g Usage None = asked g.words ≡ None
-EndsAs g (Script step rule) None = Asks g (λ a. Reads g (Breaks (is_race a) step rule))
-EndsAs g ReadFault None = Asks g (λ a. Takes g (λ bytes. length bytes ≤ 4194304) × Rose g.faults_before g.faults_after)
-EndsAs g TooLong None = Asks g (λ a. Takes g (λ bytes. 4194304 < length bytes))
--- no other end, and no other report
-EndsAs g Done None = ⊥
-EndsAs g NoMemory report = ⊥
-EndsAs g Usage (Some report) = ⊥
-EndsAs g (Script step rule) (Some report) = ⊥
-EndsAs g ReadFault (Some report) = ⊥
-EndsAs g WriteFault report = ⊥
-EndsAs g TooLong (Some report) = ⊥
+  -- the report comes of what was asked for, by steps of which this holds
+  abbrev pub ComesOf : Given → Report → (List Step → Type 0) → Type 0
+  ComesOf g report Q = Asks g (λ a. ComesBy Q a g report)
+
+  -- Why a run comes to each end, before its text is put.
+  abbrev pub EndsAs : Given → Status → Option Report → Type 0
+  EndsAs g Done (Some report) = Asks g (λ a. Comes a g report)
+  EndsAs g Usage None = asked g.words ≡ None
+  EndsAs g (Script step rule) None = Asks g (λ a. Reads g (Breaks (is_race a) step rule))
+  EndsAs g ReadFault None = Asks g (λ a. Takes g (λ bytes. length bytes ≤ 4194304) × Rose g.faults_before g.faults_after)
+  EndsAs g TooLong None = Asks g (λ a. Takes g (λ bytes. 4194304 < length bytes))
+  -- no other end, and no other report
+  EndsAs g Done None = ⊥
+  EndsAs g NoMemory report = ⊥
+  EndsAs g Usage (Some report) = ⊥
+  EndsAs g (Script step rule) (Some report) = ⊥
+  EndsAs g ReadFault (Some report) = ⊥
+  EndsAs g WriteFault report = ⊥
+  EndsAs g TooLong (Some report) = ⊥
+
+  -- The end has its cause, and of a report people have honest journals and are safe, and their shares are those of the
+  -- definition, where `orders` says what their commands ask for.
+  pub record RunsTo (orders : P → ℕ → Order) (g : Given) (status : Status) (report : Option Report) : Type 0 where
+    pub ends : EndsAs g status report
+    pub honest : IfSome report (λ r. ComesOf g r (PlaysHonestly tale.ways r))
+    pub safe : IfSome report (λ r. ComesOf g r (PlaysSafely tale.ways r))
+    pub shares : IfSome report (λ r. ComesOf g r (PlaysShares tale.ways orders r))
+
+  -- calm runs over the same words and bytes come to the same end, with the same report
+  abbrev pub EndsAlike : Given → Given → Type 0
+  EndsAlike g h = (s t : Status) (p q : Option Report) → EndsAs g s p → EndsAs h t q → (s ≡ t) × (p ≡ q)
 
 -- the number and the name of a rule
 abbrev pub rule_text : Rule → List ℕ
@@ -97,7 +115,7 @@ rule_text rules.NotInRace = codes "6 NotInRace"
 -- the text of a report, where there is one
 abbrev pub printed : Option Report → List ℕ
 printed None = []
-printed (Some report) = text_of report.labels report.history
+printed (Some report) = text_of report
 
 -- the bytes that an end owes
 abbrev pub owed : Status → Option Report → List ℕ
@@ -124,7 +142,3 @@ pub record IsCalm (words : List (List ℕ)) (bytes : List ℕ) (g : Given) : Typ
   pub words_are : g.words ≡ words
   pub told : g.before ≡ Some bytes
   pub faultless : ¬ (Rose g.faults_before g.faults_after)
-
--- calm runs over the same words and bytes come to the same end, with the same report
-abbrev pub EndsAlike : Given → Given → Type 0
-EndsAlike g h = (s t : Status) (p q : Option Report) → EndsAs g s p → EndsAs h t q → (s ≡ t) × (p ≡ q)

@@ -9,17 +9,22 @@ ghost use Rattle.script_reader.specs.Outside.{Rose};
 ghost use Rattle.script_run.specs.Outside.{AppendsPart};
 ghost use Rattle.script_run.specs.declared.asking.Asked.{Asked};
 ghost use Rattle.script_run.specs.declared.run.Status.{Status};
-ghost use Rattle.script_run.specs.Run.{Given, IsSound, given, code_of, asked, EndsAs, rule_text, owed};
+ghost use Rattle.play_report.specs.Reported.{PlaysHonestly, PlaysSafely, PlaysShares};
+ghost use Rattle.told_party.specs.Telling.{tale_of};
+ghost use Rattle.node_ways.specs.Ways.{ways};
+ghost use Rattle.net_node.specs.Shares.{tale, orders};
+ghost use Rattle.script_run.specs.Run.{Given, IsSound, given, code_of, asked, EndsAs, ComesOf, RunsTo, rule_text, owed};
 
 use crate::asking::Asked;
-use crate::nobody::NoNode;
 use crate::records::Records;
-use crate::report::{Report, text_of};
 use crate::sink::{Sink, put_all};
-use nitro_bytes::{Label, Listed, NoMemory};
-use script_play::{Scene, play};
+use net_node::Node;
+use nitro_bytes::{Label, NoMemory};
+use play_report::report_play;
+use report_text::{Report, text_of};
 use script_reader::{ReadEnd, Rule, ScriptFault, Source, read_all, read_script_with_signers};
 use std::alloc::{AllocError, Global};
+use told_party::Told;
 
 /// How a run ended. A script that is refused has the step, counted from 1, and the rule that it breaks
 /// first; step 0 is the whole script.
@@ -78,10 +83,10 @@ fn without_report(status: Status) -> Ended
 }
 
 /// What a script comes to that was read whole.
-fn run_script(alloc: Global, bytes: &[u8]) -> Result<Ended, NoMemory>
+fn run_script<P: Told>(alloc: Global, bytes: &[u8]) -> Result<Ended, NoMemory>
     ensures ends { (given : Given) → asked given.words ≡ Some Asked.Run → Consumes given.before given.after bytes.now
         → IsAtEnd given.after → length bytes.now ≤ 4194304
-        → IfOk result (λ ended. EndsAs given ended.status ended.report) }
+        → IfOk result (λ ended. RunsTo (tale_of P.ways P.shares P.exits) P.orders given ended.status ended.report) }
     ensures legal { IfOk result (λ ended. IfSome ended.report (λ report. Legal real (newest_first report.history))) }
 {
     match read_script_with_signers(alloc, bytes, false) {
@@ -89,12 +94,7 @@ fn run_script(alloc: Global, bytes: &[u8]) -> Result<Ended, NoMemory>
         Err(ScriptFault::Broken { step, rule }) => Ok(without_report(Status::Script(step, rule))),
         Ok((script, signers)) => {
             let steps = script.steps.as_slice();
-            let scene: Scene<NoNode, Records> = play(alloc, steps, signers)?;
-            let (names, history) = scene.into_parts();
-            let report = Report {
-                history: Listed::make(history),
-                labels: names.labels,
-            };
+            let report = report_play::<P, Records>(alloc, steps, signers)?;
             Ok(Ended {
                 status: Status::Done,
                 report: Some(report),
@@ -103,16 +103,20 @@ fn run_script(alloc: Global, bytes: &[u8]) -> Result<Ended, NoMemory>
     }
 }
 
-/// What the words and the source come to.
-fn work<S: Source>(alloc: Global, words: &[Label], source: &mut S) -> Result<Ended, NoMemory>
-    ensures ends { IfOk result (λ ended. EndsAs (given S.left S.faults words.now source.old source.new) ended.status ended.report) }
+/// What the words and the source come to, with nodes of this type.
+fn work<P: Told, S: Source>(
+    alloc: Global,
+    words: &[Label],
+    source: &mut S,
+) -> Result<Ended, NoMemory>
+    ensures ends { IfOk result (λ ended. RunsTo (tale_of P.ways P.shares P.exits) P.orders (given S.left S.faults words.now source.old source.new) ended.status ended.report) }
     ensures legal { IfOk result (λ ended. IfSome ended.report (λ report. Legal real (newest_first report.history))) }
 {
     let Some(Asked::Run) = asked(words) else {
         return Ok(without_report(Status::Usage));
     };
     match read_all(alloc, source) {
-        Ok(bytes) => run_script(alloc, &bytes),
+        Ok(bytes) => run_script::<P>(alloc, &bytes),
         Err(ReadEnd::NoMemory) => Err(NoMemory),
         Err(ReadEnd::Failed) => Ok(without_report(Status::ReadFault)),
         Err(ReadEnd::TooLong) => Ok(without_report(Status::TooLong)),
@@ -163,7 +167,7 @@ fn owed(alloc: Global, ended: &Ended) -> Result<Vec<u8>, NoMemory>
 }
 
 /// Does all that the program does: reads the script, replays it and puts the text of the history.
-#[tactic(auto, using(crate::proofs::Numbers::conserved_in_time, crate::proofs::Completes::completes))]
+#[tactic(auto, using(report_text::proofs::Numbers::conserved_in_time, crate::proofs::Completes::completes))]
 pub fn run_words<S: Source, K: Sink>(
     alloc: Global,
     words: &[Label],
@@ -172,12 +176,12 @@ pub fn run_words<S: Source, K: Sink>(
 ) -> Ended
     // Every status but want of memory and a fault of the sink has its cause, and its text was put whole.
     ensures ended { result.status ≢ Status.NoMemory → result.status ≢ Status.WriteFault
-        → EndsAs (given S.left S.faults words.now source.old source.new) result.status result.report
+        → EndsAs tale (given S.left S.faults words.now source.old source.new) result.status result.report
         × Appends (K.held sink.old) (K.held sink.new) (owed result.status result.report) }
 
     // At a fault of the sink a part was put of what another end owes, and the report is that end's.
     ensures write_fault { result.status ≡ Status.WriteFault → Rose (K.faults sink.old) (K.faults sink.new)
-        × ((other : Status) × EndsAs (given S.left S.faults words.now source.old source.new) other result.report
+        × ((other : Status) × EndsAs tale (given S.left S.faults words.now source.old source.new) other result.report
         × AppendsPart (K.held sink.old) (K.held sink.new) (owed other result.report)) }
 
     // For want of memory nothing was put.
@@ -190,12 +194,26 @@ pub fn run_words<S: Source, K: Sink>(
     // Of each asset, the printed numbers agree: what was deposited is what the channels hold and what the persons were paid.
     ensures conserved { IfSome result.report (λ report. AreConserved (flows_of report.history)) }
 
+    // Each person with a node has an honest journal over the whole history.
+    ensures honest { IfSome result.report (λ report.
+        ComesOf tale (given S.left S.faults words.now source.old source.new) report (PlaysHonestly ways report)) }
+
+    // Each person with a node is safe where its premises are told to hold: no channel of it becomes final with an outcome
+    // older than its newest supported state.
+    ensures safe { IfSome result.report (λ report.
+        ComesOf tale (given S.left S.faults words.now source.old source.new) report (PlaysSafely ways report)) }
+
+    // Each printed share is what the person can get by the definition, over the whole history and its journal: what it was
+    // paid and the least that its parts are worth, whichever outcomes its channels end with.
+    ensures shares { IfSome result.report (λ report.
+        ComesOf tale (given S.left S.faults words.now source.old source.new) report (PlaysShares ways orders report)) }
+
     // A sound script runs to its end, unless memory runs out.
     ensures complete { IsSound (given S.left S.faults words.now source.old source.new)
         → ¬ (Rose (K.faults sink.old) (K.faults sink.new))
         → (result.status ≡ Status.Done) ⊎ (result.status ≡ Status.NoMemory) }
 {
-    let Ok(ended) = work(alloc, words, source) else {
+    let Ok(ended) = work::<Node, S>(alloc, words, source) else {
         return without_report(Status::NoMemory);
     };
     let Ok(text) = owed(alloc, &ended) else {

@@ -1,7 +1,5 @@
 //! What comes of words, sources and sinks. Whole scripts with their texts are files, in `examples`.
 
-mod names;
-
 use crate::{ListSink, Status, run_words};
 use nitro_bytes::Label;
 use script_reader::{CalmSource, ListSource, Rule, Source, Took};

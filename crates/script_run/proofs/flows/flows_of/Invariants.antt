@@ -1,6 +1,0 @@
-use Rattle.std.proofs.Common.{◌≡◌, take}
-use Rattle.channel_calls.specs.History.{flows_of}
-use Rattle.script_run.proofs.flows.flows_of.Given as goal
-
-abbrev pub invariant-loop-entry : goal.invariant-loop-entry
-invariant-loop-entry l = l.flows.items ≡ flows_of (take l.entry-index l.history)

@@ -1,6 +1,0 @@
-use Rattle.std.proofs.Common.{◌≡◌, take}
-use Rattle.channel_calls.specs.History.{now_of, newest_first}
-use Rattle.script_run.proofs.text.now_of.Given as goal
-
-abbrev pub invariant-loop-entry : goal.invariant-loop-entry
-invariant-loop-entry l = l.now ≡ now_of (newest_first (take l.entry-index l.history))
