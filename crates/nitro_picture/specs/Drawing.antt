@@ -1,0 +1,62 @@
+-- What a drawing comes to.
+use Rattle.std.specs.Prelude.{◌≡◌, ◌≤◌, ◌<◌, ℕ, List, [], ◌∷◌, length, Bool, true, false, Option, codes, ⊤}
+use Rattle.std.specs.Str.{bytes_eq}
+use Rattle.script_reader.specs.Outside.{Rose}
+use Rattle.std.specs.Io.KnownBytes.{Consumes, IsAtEnd}
+use Rattle.run_text.specs.Lines.{line_feeds, IsInLines}
+use Rattle.run_text.specs.declared.fault.Unread.TheVariants.{Line}
+use Rattle.nitro_picture.specs.declared.drawing.Status.{Status}
+use Rattle.nitro_picture.specs.declared.drawing.Status.TheVariants.{Done, NoMemory, Usage, Unread, ReadFault, WriteFault, TooLong}
+
+-- the number of a status
+abbrev pub code_of : Status → ℕ
+code_of Done = 0
+code_of NoMemory = 1
+code_of Usage = 2
+code_of (Unread fault) = 3
+code_of ReadFault = 4
+code_of WriteFault = 5
+code_of TooLong = 6
+
+-- whether the words ask for a picture
+abbrev pub asks : List (List ℕ) → Bool
+asks (word ∷ []) = bytes_eq word (codes "picture")
+asks _ = false
+
+-- what was left of a source and its count of faults, before and after
+pub record Told : Type 0 where
+  pub before : Option (List ℕ)
+  pub after : Option (List ℕ)
+  pub faults_before : ℕ
+  pub faults_after : ℕ
+
+abbrev pub told : {S : Type 0} → (S → Option (List ℕ)) → (S → ℕ) → S → S → Told
+told left faults old new = record { before = left old; after = left new; faults_before = faults old; faults_after = faults new }
+
+-- some bytes were taken
+abbrev pub Takes : Told → (List ℕ → Type 0) → Type 0
+Takes t P = (bytes : List ℕ) × Consumes t.before t.after bytes × P bytes
+
+-- the source was read to its end, within the limit
+abbrev pub Reads : Told → (List ℕ → Type 0) → Type 0
+Reads t P = (bytes : List ℕ) × Consumes t.before t.after bytes × IsAtEnd t.after × (length bytes ≤ 4194304) × P bytes
+
+-- Why a drawing comes to each end: of want of memory and of a fault of the writer nothing is said.
+abbrev pub EndsAs : List (List ℕ) → Told → Status → Type 0
+EndsAs words t Done = (asks words ≡ true) × Reads t (λ bytes. ⊤)
+EndsAs words t NoMemory = ⊤
+EndsAs words t Usage = asks words ≡ false
+EndsAs words t (Unread fault) = (asks words ≡ true) × Reads t (λ bytes. IsInLines (line_feeds bytes) (Line fault))
+EndsAs words t ReadFault = (asks words ≡ true) × Takes t (λ bytes. length bytes ≤ 4194304) × Rose t.faults_before t.faults_after
+EndsAs words t WriteFault = ⊤
+EndsAs words t TooLong = (asks words ≡ true) × Takes t (λ bytes. 4194304 < length bytes)
+
+-- the ends before which nothing was put
+abbrev pub puts_nothing : Status → Bool
+puts_nothing Done = false
+puts_nothing WriteFault = false
+puts_nothing NoMemory = true
+puts_nothing Usage = true
+puts_nothing (Unread fault) = true
+puts_nothing ReadFault = true
+puts_nothing TooLong = true

@@ -1,0 +1,113 @@
+//! From words and a source to a status and the picture that was put.
+
+ghost use Rattle.std.specs.Prelude.{◌≡◌, ℕ, List, true, IfOk, IfErr};
+ghost use Rattle.std.specs.Io.KnownBytes.{Keeps, Appends};
+ghost use Rattle.nitro_picture.specs.declared.drawing.Status.{Status};
+ghost use Rattle.run_text.specs.Lines.{line_feeds, IsInLines};
+ghost use Rattle.nitro_picture.specs.Drawing.{told, asks, code_of, EndsAs, puts_nothing};
+
+use nitro_bytes::Label;
+use run_picture::picture_of;
+use run_text::{LineFault, Unread, read_run};
+use script_reader::{ReadEnd, Source, read_all};
+use std::alloc::Global;
+use std::io::Write;
+
+/// How a drawing ended, numbered as the ends of runs are.
+#[derive(Clone, Copy, Debug, PartialEq, Eq)]
+pub enum Status {
+    Done,
+    NoMemory,
+    Usage,
+    /// The text is none of a run.
+    Unread(LineFault),
+    ReadFault,
+    WriteFault,
+    TooLong,
+}
+
+impl Status {
+    /// The status number that the program ends with.
+    pub fn code(self) -> u8
+        ensures { result ≡ code_of self }
+    {
+        match self {
+            Status::Done => 0,
+            Status::NoMemory => 1,
+            Status::Usage => 2,
+            Status::Unread(_) => 3,
+            Status::ReadFault => 4,
+            Status::WriteFault => 5,
+            Status::TooLong => 6,
+        }
+    }
+}
+
+/// Whether the words ask for a picture.
+fn asks(words: &[Label]) -> bool
+    ensures { result ≡ asks words.now }
+{
+    match words {
+        [word] => word.as_str() == "picture",
+        _ => false,
+    }
+}
+
+/// The picture of a text.
+fn picture_of_text(alloc: Global, text: &[u8]) -> Result<Vec<u8>, Unread>
+    ensures { IfErr result (IsInLines (line_feeds text.now)) }
+{
+    let run = read_run(alloc, text)?;
+    match picture_of(alloc, &run) {
+        Ok(svg) => Ok(svg),
+        Err(_) => Err(Unread::NoMemory),
+    }
+}
+
+/// The picture of what the source tells, or the end without one.
+fn work<S: Source>(alloc: Global, words: &[Label], source: &mut S) -> Result<Vec<u8>, Status>
+    ensures done { IfOk result (λ svg. EndsAs words.now (told S.left S.faults source.old source.new) Status.Done) }
+    ensures ends { IfErr result (EndsAs words.now (told S.left S.faults source.old source.new)) }
+    ensures nothing { IfErr result (λ status. puts_nothing status ≡ true) }
+{
+    if !asks(words) {
+        return Err(Status::Usage);
+    }
+    let bytes = match read_all(alloc, source) {
+        Ok(bytes) => bytes,
+        Err(ReadEnd::NoMemory) => return Err(Status::NoMemory),
+        Err(ReadEnd::Failed) => return Err(Status::ReadFault),
+        Err(ReadEnd::TooLong) => return Err(Status::TooLong),
+    };
+    match picture_of_text(alloc, &bytes) {
+        Ok(svg) => Ok(svg),
+        Err(Unread::NoMemory) => Err(Status::NoMemory),
+        Err(Unread::Line(fault)) => Err(Status::Unread(fault)),
+    }
+}
+
+/// Does all that the program does: reads the text of a run and writes its picture.
+pub fn draw<S: Source, W: Write>(
+    alloc: Global,
+    words: &[Label],
+    source: &mut S,
+    writer: &mut W,
+) -> Status
+    // Every status but want of memory and a fault of the writer has its cause.
+    ensures ends { EndsAs words.now (told S.left S.faults source.old source.new) result }
+
+    // A picture was put whole, or nothing, unless the writer failed.
+    ensures done { result ≡ Status.Done → (svg : List ℕ)
+        × Appends (W.Write.contents writer.old) (W.Write.contents writer.new) svg }
+    ensures nothing { puts_nothing result ≡ true
+        → Keeps (W.Write.contents writer.old) (W.Write.contents writer.new) }
+{
+    let svg = match work(alloc, words, source) {
+        Ok(svg) => svg,
+        Err(status) => return status,
+    };
+    match writer.write_all(&svg) {
+        Ok(()) => Status::Done,
+        Err(_) => Status::WriteFault,
+    }
+}

@@ -1,0 +1,333 @@
+//! Arrows from payers to those who are paid, and the areas of money.
+
+use crate::columns::{Columns, columns_of, end_of_column};
+use crate::flows::{Flow, Flows, Goes, flows_of};
+use crate::frame::{Frame, LEFT, RIGHT, Spaced};
+use crate::lanes::{Lanes, short};
+use crate::names::Names;
+use crate::px::{minus, plus, scaled};
+use crate::receivers::{Who, receivers_of_items};
+use crate::shapes::{Look, Run as Runs, Sketch, joined};
+use run_text::{AssetEnd, Run};
+use std::alloc::{AllocError, Global};
+
+/// At most so many assets have an area.
+pub(crate) const ASSETS: usize = 8;
+/// An area has at most so many columns.
+const COLUMNS: usize = 280;
+
+const HEIGHT: u64 = 150;
+
+/// What is known of the money of an asset.
+#[derive(Drop)]
+pub(crate) struct Money {
+    flows: Flows,
+    receivers: Vec<Option<Who>>,
+}
+
+pub(crate) fn money_of(
+    alloc: Global,
+    run: &Run,
+    names: &Names,
+    asset: u64,
+) -> Result<Money, AllocError> {
+    let flows = flows_of(alloc, run, names, asset)?;
+    let receivers = receivers_of_items(alloc, run, names, &flows, asset)?;
+    Ok(Money { flows, receivers })
+}
+
+/// Where the rows of persons stand, below the lanes.
+#[derive(Clone, Copy)]
+pub(crate) struct PersonRows {
+    pub(crate) top: u64,
+}
+
+impl PersonRows {
+    pub(crate) fn middle(self, person: usize) -> u64 {
+        let rows = (person as u64).saturating_mul(22);
+        plus(self.top, plus(rows, 16))
+    }
+}
+
+/// Where an arrow ends: at a lane's band, at a person's row, or so far below its beginning.
+fn tip_of(
+    lanes: &Lanes,
+    rows: PersonRows,
+    from: (u64, u64),
+    who: Option<Who>,
+    length: u64,
+) -> Option<(Look, u64)> {
+    match who {
+        None => Some((Look::ArrowUntold, plus(from.1, length))),
+        Some(Who::Person(person)) => Some((Look::Arrow, minus(rows.middle(person), 5))),
+        Some(Who::Channel(channel)) => {
+            let row = lanes.rows.get(channel).copied().flatten()?;
+            let lane = lanes.lanes.get(row)?;
+            let tip = if lane.band.0 < from.0 {
+                lane.band.1
+            } else {
+                lane.band.0
+            };
+            Some((Look::Arrow, tip))
+        }
+    }
+}
+
+/// The band of the lane of a channel, where it is drawn.
+fn band_of(lanes: &Lanes, channel: usize) -> Option<(u64, u64)> {
+    let row = lanes.rows.get(channel).copied().flatten()?;
+    let lane = lanes.lanes.get(row)?;
+    Some(lane.band)
+}
+
+fn draw_arrow(
+    sketch: &mut Sketch,
+    x: u64,
+    band: (u64, u64),
+    tip: (Look, u64),
+    told: (&[u8], u64),
+    has_words: bool,
+) -> Result<(), AllocError> {
+    let (look, end) = tip;
+    let (title, amount) = told;
+    let start = if end < band.0 { band.0 } else { band.1 };
+    sketch.line(look, (x, start), (x, end), title)?;
+    if has_words {
+        let number = sketch.number(amount)?;
+        let at = (plus(x, 4), plus(band.1, 12));
+        sketch.text(Look::Word, at, Runs::Right, &[number.as_bytes()])?;
+    }
+    Ok(())
+}
+
+fn who_of(money: &Money, flow: &Flow) -> Option<Who> {
+    match flow.goes {
+        Goes::Channel(channel) => Some(Who::Channel(channel)),
+        Goes::Item(item) => money.receivers.get(item).copied().flatten(),
+    }
+}
+
+/// The arrows of an asset, as far as they have room.
+pub(crate) fn draw_arrows(
+    sketch: &mut Sketch,
+    frame: Frame,
+    run: &Run,
+    money: &Money,
+    lanes: &Lanes,
+    rows: PersonRows,
+) -> Result<(), AllocError> {
+    let mut room = Spaced::by(5);
+    let length = if frame.has_words() { 24 } else { 14 };
+    for flow in &money.flows.flows {
+        let (Some(from), Some(entry)) = (flow.from, run.entries.get(flow.entry)) else {
+            continue;
+        };
+        let x = frame.middle(flow.entry);
+        let who = who_of(money, flow);
+        if let Some(band) = band_of(lanes, from) {
+            if let Some(tip) = tip_of(lanes, rows, band, who, length) {
+                if room.takes(x) {
+                    let told = (entry.line, flow.amount);
+                    draw_arrow(sketch, x, band, tip, told, frame.has_words())?;
+                }
+            }
+        }
+    }
+    Ok(())
+}
+
+/// Draws the rows of persons, which arrows end at: their end.
+pub(crate) fn draw_persons(
+    sketch: &mut Sketch,
+    rows: PersonRows,
+    persons: &[&[u8]],
+) -> Result<u64, AllocError> {
+    let mut end = plus(rows.top, 8);
+    for (place, name) in persons.iter().enumerate() {
+        let middle = rows.middle(place);
+        let at = (minus(LEFT, 10), plus(middle, 4));
+        sketch.text(Look::Strong, at, Runs::Left, &short(name))?;
+        sketch.line(Look::Rule, (LEFT, middle), (RIGHT, middle), b"")?;
+        end = plus(middle, 14);
+    }
+    Ok(end)
+}
+
+/// An area: where it begins, and how much fills it.
+#[derive(Clone, Copy)]
+struct Chart {
+    top: u64,
+    whole: u64,
+    entries: usize,
+    columns: usize,
+}
+
+impl Chart {
+    fn x(self, frame: Frame, column: usize) -> u64 {
+        match column.checked_sub(1) {
+            None => frame.middle(0),
+            Some(before) => frame.middle(end_of_column(before, self.columns, self.entries)),
+        }
+    }
+
+    fn y(self, amount: u64) -> u64 {
+        minus(plus(self.top, HEIGHT), scaled(amount, self.whole, HEIGHT))
+    }
+}
+
+fn edge_of(columns: &Columns, column: usize, edge: usize) -> u64 {
+    let edges = columns.edges.get(column);
+    edges
+        .and_then(|edges| edges.get(edge))
+        .copied()
+        .unwrap_or(0)
+}
+
+/// An edge of a layer, from left to right, with a step at each change.
+fn steps_of(
+    alloc: Global,
+    frame: Frame,
+    chart: Chart,
+    columns: &Columns,
+    edge: usize,
+) -> Result<Vec<(u64, u64)>, AllocError> {
+    let mut points = Vec::new(alloc);
+    let mut y = chart.y(0);
+    points.push((LEFT, y))?;
+    for column in 0..chart.columns {
+        let next = chart.y(edge_of(columns, column, edge));
+        if next != y {
+            let x = chart.x(frame, column);
+            points.push((x, y))?;
+            points.push((x, next))?;
+            y = next;
+        }
+    }
+    points.push((RIGHT, y))?;
+    Ok(points)
+}
+
+/// Round a layer: along its upper edge, and back along the lower.
+fn round(
+    alloc: Global,
+    frame: Frame,
+    chart: Chart,
+    columns: &Columns,
+    layer: usize,
+) -> Result<Vec<(u64, u64)>, AllocError> {
+    let mut points = steps_of(alloc, frame, chart, columns, layer.saturating_add(1))?;
+    let lower = steps_of(alloc, frame, chart, columns, layer)?;
+    for point in lower.iter().rev() {
+        points.push(*point)?;
+    }
+    Ok(points)
+}
+
+fn thickness(columns: &Columns, column: usize, layer: usize) -> u64 {
+    let upper = edge_of(columns, column, layer.saturating_add(1));
+    minus(upper, edge_of(columns, column, layer))
+}
+
+/// The last column where a layer is thickest, and how thick it is.
+fn thickest(columns: &Columns, count: usize, layer: usize) -> (usize, u64) {
+    let mut best = (0, 0);
+    for column in 0..count {
+        let here = thickness(columns, column, layer);
+        if here > 0 && here >= best.1 {
+            best = (column, here);
+        }
+    }
+    best
+}
+
+/// What a layer is, and what is told of it.
+fn look_of_layer<'a>(names: &Names<'a>, layer: usize) -> (Look, &'a [u8], &'a [u8]) {
+    if let Some(name) = names.channels.get(layer) {
+        return (Look::Held(layer), b"held by ", name);
+    }
+    let person = layer.saturating_sub(names.channels.len());
+    match names.persons.get(person) {
+        Some(name) => (Look::Paid(person), b"paid to ", name),
+        None => (Look::Untold, b"paid, ", b"not told to whom"),
+    }
+}
+
+fn draw_layer(
+    sketch: &mut Sketch,
+    frame: Frame,
+    chart: Chart,
+    names: &Names,
+    columns: &Columns,
+    layer: usize,
+) -> Result<(), AllocError> {
+    let (column, thick) = thickest(columns, chart.columns, layer);
+    if thick == 0 {
+        return Ok(());
+    }
+    let alloc = sketch.alloc();
+    let (look, word, name) = look_of_layer(names, layer);
+    let points = round(alloc, frame, chart, columns, layer)?;
+    let title = joined(alloc, &[word, name])?;
+    sketch.area(look, points, &title)?;
+    let upper = chart.y(edge_of(columns, column, layer.saturating_add(1)));
+    let lower = chart.y(edge_of(columns, column, layer));
+    if minus(lower, upper) >= 12 {
+        let next = chart.x(frame, column.saturating_add(1));
+        let middle = plus(upper, plus(minus(lower, upper) / 2, 4));
+        let text = short(name);
+        let at = (minus(next, 4), middle);
+        sketch.text(Look::Plain, at, Runs::Left, &text)?;
+    }
+    Ok(())
+}
+
+fn draw_heading(sketch: &mut Sketch, end: &AssetEnd, top: u64) -> Result<(), AllocError> {
+    let AssetEnd {
+        asset,
+        deposited,
+        held,
+        paid,
+    } = *end;
+    let text = format!(in sketch.alloc();
+        "Asset {asset}: {deposited} deposited, {held} held and {paid} paid at the end"
+    )?;
+    let at = (LEFT, plus(top, 24));
+    sketch.text(Look::Strong, at, Runs::Right, &[text.as_bytes()])
+}
+
+/// Draws the area of an asset, and tells where it ends.
+pub(crate) fn draw_area(
+    sketch: &mut Sketch,
+    frame: Frame,
+    run: &Run,
+    names: &Names,
+    money: &Money,
+    end: &AssetEnd,
+    top: u64,
+) -> Result<u64, AllocError> {
+    draw_heading(sketch, end, top)?;
+    let entries = run.entries.len();
+    if entries == 0 {
+        return Ok(plus(top, 26));
+    }
+    let chart = Chart {
+        top: plus(top, 34),
+        whole: end.deposited,
+        entries,
+        columns: entries.min(COLUMNS),
+    };
+    let columns = columns_of(
+        sketch.alloc(),
+        names,
+        &money.flows,
+        &money.receivers,
+        entries,
+        chart.columns,
+    )?;
+    for layer in 0..columns.layers {
+        draw_layer(sketch, frame, chart, names, &columns, layer)?;
+    }
+    let bottom = plus(chart.top, HEIGHT);
+    sketch.line(Look::Rule, (LEFT, bottom), (RIGHT, bottom), b"")?;
+    Ok(plus(bottom, 12))
+}

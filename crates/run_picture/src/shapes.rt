@@ -1,0 +1,243 @@
+//! What a picture is made of, as plain numbers.
+
+ghost use Rattle.std.specs.Prelude.{◌≡◌};
+ghost use Rattle.run_picture.specs.Look.{is_refused};
+
+use crate::px::{minus, plus};
+use run_text::Reply;
+use std::alloc::{AllocError, Global};
+
+/// How a shape looks.
+#[derive(Clone, Copy)]
+pub enum Look {
+    Plain,
+    Heading,
+    Word,
+    Small,
+    Strong,
+    Warning,
+    Rule,
+    TimeLine,
+    Open,
+    Challenged,
+    Final,
+    Arrow,
+    ArrowUntold,
+    /// What a call was, by its caller: hollow where it was refused.
+    Mark { by: u64, is_hollow: bool },
+    /// The number in a mark.
+    InMark { is_hollow: bool },
+    /// What a channel holds.
+    Held(usize),
+    /// What a person was paid.
+    Paid(usize),
+    Untold,
+}
+
+/// Which way a text runs.
+#[derive(Clone, Copy)]
+pub enum Run {
+    Right,
+    /// It ends at its place.
+    Left,
+    /// It has its middle at its place.
+    Both,
+    Rising,
+    Falling,
+}
+
+/// Where a shape is. Places count from the upper left corner.
+#[derive(Drop)]
+pub enum Form {
+    Line {
+        x: u64,
+        y: u64,
+        to_x: u64,
+        to_y: u64,
+    },
+    Bar {
+        x: u64,
+        y: u64,
+        width: u64,
+        height: u64,
+    },
+    Dot {
+        x: u64,
+        y: u64,
+        radius: u64,
+    },
+    Area(Vec<(u64, u64)>),
+    Text {
+        x: u64,
+        y: u64,
+        run: Run,
+        text: Vec<u8>,
+    },
+}
+
+#[derive(Drop)]
+pub struct Shape {
+    pub form: Form,
+    pub look: Look,
+    /// What is told of it; nothing where it is empty.
+    pub title: Vec<u8>,
+}
+
+/// The look of a mark, by the caller and the reply.
+pub fn look_of_mark(by: u64, reply: &Reply) -> Look
+    ensures { result ≡ Look.Mark by (is_refused reply.now) }
+{
+    match reply {
+        Reply::No(_) => Look::Mark {
+            by,
+            is_hollow: true,
+        },
+        Reply::Held(_)
+        | Reply::Now(_)
+        | Reply::Until(_)
+        | Reply::Open(_)
+        | Reply::Final(_)
+        | Reply::Paid(_) => Look::Mark {
+            by,
+            is_hollow: false,
+        },
+    }
+}
+
+/// A picture while it is made.
+#[derive(Drop)]
+pub struct Sketch {
+    alloc: Global,
+    pub shapes: Vec<Shape>,
+}
+
+/// Bytes after one another.
+pub fn joined(alloc: Global, pieces: &[&[u8]]) -> Result<Vec<u8>, AllocError> {
+    let mut all = Vec::new(alloc);
+    for piece in pieces {
+        all.extend_from_slice(piece)?;
+    }
+    Ok(all)
+}
+
+impl Sketch {
+    pub fn new(alloc: Global) -> Sketch {
+        Sketch {
+            alloc,
+            shapes: Vec::new(alloc),
+        }
+    }
+
+    pub fn alloc(&self) -> Global {
+        self.alloc
+    }
+
+    fn add(&mut self, form: Form, look: Look, title: &[u8]) -> Result<(), AllocError> {
+        let title = joined(self.alloc, &[title])?;
+        self.shapes.push(Shape { form, look, title })?;
+        Ok(())
+    }
+
+    pub fn line(
+        &mut self,
+        look: Look,
+        from: (u64, u64),
+        to: (u64, u64),
+        title: &[u8],
+    ) -> Result<(), AllocError> {
+        let form = Form::Line {
+            x: from.0,
+            y: from.1,
+            to_x: to.0,
+            to_y: to.1,
+        };
+        self.add(form, look, title)
+    }
+
+    /// A bar from one corner to the other.
+    pub fn bar(
+        &mut self,
+        look: Look,
+        from: (u64, u64),
+        to: (u64, u64),
+        title: &[u8],
+    ) -> Result<(), AllocError> {
+        let form = Form::Bar {
+            x: from.0,
+            y: from.1,
+            width: minus(to.0, from.0),
+            height: minus(to.1, from.1),
+        };
+        self.add(form, look, title)
+    }
+
+    pub fn dot(
+        &mut self,
+        look: Look,
+        at: (u64, u64),
+        radius: u64,
+        title: &[u8],
+    ) -> Result<(), AllocError> {
+        let form = Form::Dot {
+            x: at.0,
+            y: at.1,
+            radius,
+        };
+        self.add(form, look, title)
+    }
+
+    pub fn area(
+        &mut self,
+        look: Look,
+        points: Vec<(u64, u64)>,
+        title: &[u8],
+    ) -> Result<(), AllocError> {
+        self.add(Form::Area(points), look, title)
+    }
+
+    pub fn text(
+        &mut self,
+        look: Look,
+        at: (u64, u64),
+        run: Run,
+        pieces: &[&[u8]],
+    ) -> Result<(), AllocError> {
+        let text = joined(self.alloc, pieces)?;
+        let form = Form::Text {
+            x: at.0,
+            y: at.1,
+            run,
+            text,
+        };
+        self.add(form, look, b"")
+    }
+
+    /// A number in text.
+    pub fn number(&self, number: u64) -> Result<String, AllocError> {
+        format!(in self.alloc; "{number}")
+    }
+
+    /// A mark with the number of its caller, if it is large enough.
+    pub fn mark(
+        &mut self,
+        by: u64,
+        reply: &Reply,
+        at: (u64, u64),
+        radius: u64,
+        title: &[u8],
+    ) -> Result<(), AllocError> {
+        self.dot(look_of_mark(by, reply), at, radius, title)?;
+        if radius < 6 || by > 99 {
+            return Ok(());
+        }
+        let is_hollow = matches!(reply, Reply::No(_));
+        let number = self.number(by)?;
+        let below = (at.0, plus(at.1, 3));
+        self.text(
+            Look::InMark { is_hollow },
+            below,
+            Run::Both,
+            &[number.as_bytes()],
+        )
+    }
+}
