@@ -1,5 +1,5 @@
 -- One more element, as at a step of a loop that adds what each gives.
-use Rattle.std.proofs.Common.{◌≡◌, ℕ, ◌+◌, ◌<◌, List, [], ◌∷◌, ◌++◌, map, flat_map, take, get_or, length, refl, sym, ◌∙◌, ap, add-one, take-suc}
+use Rattle.std.proofs.Common.{◌≡◌, ℕ, ◌+◌, ◌<◌, List, [], ◌∷◌, ◌++◌, flat_map, take, get_or, length, refl, sym, ◌∙◌, ap, add-one, take-suc}
 use Rattle.std.proofs.lemmas.List.{append_assoc, append-nil}
 
 joined-append : {A B : Type 0} (f : A → List B) (xs ys : List A) → flat_map f (xs ++ ys) ≡ flat_map f xs ++ flat_map f ys

@@ -1,27 +1,31 @@
 -- What a call makes of a node is placed, whatever it answered.
-use Rattle.std.proofs.Common.{◌≡◌, Bool, true, false, cond, List, sym, ◌∙◌, ap, subst}
+use Rattle.std.proofs.Common.{◌≡◌, Bool, true, false, cond, List, refl, sym, ◌∙◌, ap, subst}
 use Rattle.std.specs.List.{flat_map}
-use Rattle.std.specs.Prelude.{ℕ, Option, Result, Ok, Err, OnOk, OnErr}
+use Rattle.std.specs.Prelude.{ℕ, Option, Some, None, Result, Ok, Err, OnOk, OnErr}
 use Rattle.channel_calls.specs.History.{Legal}
 use Rattle.channel_calls.specs.declared.entry.Entry.{Entry}
 use Rattle.channel_calls.specs.declared.call.Call.{Call}
+use Rattle.channel_calls.specs.declared.event.NodeRefusal.{NodeRefusal}
 use Rattle.channel_calls.specs.declared.held_chain.HeldChain.{HeldChain}
 use Rattle.channel_store.specs.Keeping.{held_chain}
 use Rattle.net_party.specs.Ways.{followed, looked, ComeNext, HasLooked}
 use Rattle.net_party.specs.declared.command.Command.{Command}
+use Rattle.net_party.specs.declared.command.Command.TheVariants.{Open, OpenOn, OpenVirtual, Pay, Close, Exit}
 use Rattle.net_party.specs.declared.lookout.Lookout.{Lookout}
 use Rattle.net_party.specs.declared.outs.NodeFault.{NodeFault}
 use Rattle.net_party.specs.declared.outs.NodeFault.TheVariants.{Refused, NoMemory}
-use Rattle.net_party.specs.declared.outs.Outs.{Outs}
 use Rattle.node_laws.proofs.Calling.{lost_nodes_stand}
-use Rattle.node_model.specs.Giving.{after_tick}
-use Rattle.node_model.specs.Nodes.{NodeOf, Stands, told_to, saw_all, watched}
-use Rattle.node_model.specs.Playing.{signing_of}
-use Rattle.node_objective.specs.Answers.{SameJournal, CommandAnswers}
+use Rattle.node_model.specs.Giving.{after_tick, command_answers}
+use Rattle.node_model.specs.Nodes.{NodeOf, Stands, handled, told_to, saw_all, watched}
+use Rattle.node_model.specs.Playing.{Signing, signing_of}
+use Rattle.node_objective.specs.Answers.{SameJournal, HandleAnswers, CommandAnswers}
 use Rattle.node_tables.specs.Stages.{stages}
-use Rattle.node_ways.proofs.Kept.{nodes_are_kept, lost-placed, told-placed, exits-placed}
-use Rattle.node_ways.specs.Ways.{Numbered, unless_lost, IsPlaced, seen_of}
+use Rattle.node_ways.proofs.Answering.{answers-so}
+use Rattle.node_ways.proofs.Kept.{nodes_are_kept, lost-placed, told-placed}
+use Rattle.node_ways.specs.Gains.{leaves, shares_known}
+use Rattle.node_ways.specs.Ways.{Numbered, unless_lost, noting_if, ways, IsPlaced, seen_of}
 use Rattle.support_chain.specs.Real.{real}
+use Rattle.net_node.specs.Notes.{note_if}
 
 -- what is done by a node that isn't lost
 pub awake : (p : Numbered) (change : NodeOf → NodeOf) (new : NodeOf) → p.node.is_lost ≡ false → new ≡ change p.node → unless_lost change p ≡ record p { node = new }
@@ -60,16 +64,67 @@ watch_keeps p entries l after place chains calls given new after-is chains-are c
     (awake p (watched (followed entries l).seen place (looked (flat_map held_chain p.node.mind.kept) (followed entries l))) new kept new-is)
     (nodes_are_kept.watched h entries l place p legal looks placed)
 
--- after a command, whatever is noted of its exit
-pub command_keeps : (p : Numbered) (step : ℕ) (command : Command) (new : NodeOf) (exits : Option (List (ℕ × ℕ))) (result : Result Outs NodeFault)
-    → CommandAnswers stages real (signing_of p.node.signer) step command p.node new result
+-- ---- a command
+
+-- what is known just after a command to exit is what was known before
+exit-gains : (step : ℕ) (command : Command) (n : NodeOf) → leaves command ≡ true → shares_known (told_to stages real (signing_of n.signer) step command n).mind ≡ shares_known n.mind
+exit-gains step (Open f outcome) n e = absurd cc
+exit-gains step (OpenOn ledger f asset amounts) n e = absurd cc
+exit-gains step (OpenVirtual ledgers guarantors joint channel asset amounts) n e = absurd cc
+exit-gains step (Pay channel asset amount) n e = absurd cc
+exit-gains step (Close channel) n e = absurd cc
+exit-gains step Exit n e = refl
+
+-- an exit is never refused
+no-exit : (s : Signing) (command : Command) (n : NodeOf) (refusal : NodeRefusal) → Err (Refused refusal) ≡ command_answers stages real s 0 command n → leaves command ≡ false
+no-exit s (Open f outcome) n refusal e = refl
+no-exit s (OpenOn ledger f asset amounts) n refusal e = refl
+no-exit s (OpenVirtual ledgers guarantors joint channel asset amounts) n refusal e = refl
+no-exit s (Pay channel asset amount) n refusal e = refl
+no-exit s (Close channel) n refusal e = refl
+no-exit s Exit n refusal e = absurd cc
+
+-- what is noted, where there is something to note
+abbrev pub taken : Option (List (ℕ × ℕ)) → Option (List (ℕ × ℕ)) → Option (List (ℕ × ℕ))
+taken None before = before
+taken (Some now) before = Some now
+
+-- the node after a command that memory didn't fail
+pub commanded_is : (p : Numbered) (step : ℕ) (command : Command) (new : NodeOf) (noted : Option (List (ℕ × ℕ))) → p.node.is_lost ≡ false
+    → new ≡ told_to stages real (signing_of p.node.signer) step command p.node → noted ≡ note_if (leaves command) p.exits (shares_known p.node.mind)
+    → record p { node = new; exits = taken noted p.exits } ≡ ways.commanded step command p
+commanded_is p step command new noted kept new-is noted-is =
+    ap (λ (n : NodeOf). record p { node = n; exits = taken noted p.exits }) new-is
+    ∙ (ap (λ (o : Option (List (ℕ × ℕ))). record p { node = after; exits = taken o p.exits }) noted-is
+    ∙ (go (leaves command) refl p.exits refl
+    ∙ ap (noting_if (leaves command)) (sym (awake p (λ n. told_to stages real (signing_of n.signer) step command n) after kept refl))))
+  where
+    after : NodeOf
+    after = told_to stages real (signing_of p.node.signer) step command p.node
+
+    go : (b : Bool) → leaves command ≡ b → (o : Option (List (ℕ × ℕ))) → p.exits ≡ o
+        → record p { node = after; exits = taken (note_if b o (shares_known p.node.mind)) o } ≡ noting_if b (record p { node = after; exits = o })
+    go true leaving None is = ap (λ (now : List (ℕ × ℕ)). record p { node = after; exits = Some now }) (sym (exit-gains step command p.node leaving))
+    go true leaving (Some noted) is = refl
+    go false leaving o is = refl
+
+-- one that is refused, or that memory failed
+pub failed_keeps : (p : Numbered) (step : ℕ) (command : Command) (new : NodeOf) (fault : NodeFault)
+    → CommandAnswers stages real (signing_of p.node.signer) step command p.node new (Err fault)
     → ((h : List Entry) → Legal real h → Keeps h p new) → new.signer ≡ p.node.signer
-    → (h : List Entry) → Legal real h → IsPlaced h p → IsPlaced h (record p { node = new; exits = exits })
-command_keeps p step command new exits (Ok outs) answer keeps signer h legal is =
-    exits-placed h (record p { node = new }) exits
-    (subst (λ (n : NodeOf). IsPlaced h (record p { node = n })) (sym answer.2) (told-placed h step command p legal answer.0 is))
-command_keeps p step command new exits (Err (Refused refusal)) answer keeps signer h legal is =
-    exits-placed h (record p { node = new }) exits
-    (subst (λ (n : NodeOf). IsPlaced h (record p { node = n })) (sym answer.2) (told-placed h step command p legal answer.0 is))
-command_keeps p step command new exits (Err NoMemory) answer keeps signer h legal is =
-    exits-placed h (record p { node = new }) exits (lost-placed h p new answer signer (keeps h legal) is)
+    → (h : List Entry) → Legal real h → IsPlaced h p → IsPlaced h (record p { node = new })
+failed_keeps p step command new (Refused refusal) answer keeps signer h legal is =
+    subst (λ (n : NodeOf). IsPlaced h (record p { node = n })) (sym answer.2)
+    (told-placed h step command p (no-exit (signing_of p.node.signer) command p.node refusal (answer.1 ∙ answers-so stages real (signing_of p.node.signer) step command p.node)) legal answer.0 is)
+failed_keeps p step command new NoMemory answer keeps signer h legal is = lost-placed h p new answer signer (keeps h legal) is
+
+-- ---- a message
+
+pub handle_keeps : {A : Type 0} (p : Numbered) (bytes : List ℕ) (new : NodeOf) (result : Result A NodeFault) → HandleAnswers stages real bytes p.node new result
+    → ((h : List Entry) → Legal real h → Keeps h p new) → new.signer ≡ p.node.signer
+    → (h : List Entry) → Legal real h → IsPlaced h p → IsPlaced h (record p { node = new })
+handle_keeps p bytes new (Ok done) answer keeps signer h legal is =
+    subst (IsPlaced h) (awake p (handled stages real bytes) new answer.0 answer.2) (nodes_are_kept.handled h bytes p legal is)
+handle_keeps p bytes new (Err (Refused refusal)) answer keeps signer h legal is =
+    subst (IsPlaced h) (awake p (handled stages real bytes) new answer.0 answer.2) (nodes_are_kept.handled h bytes p legal is)
+handle_keeps p bytes new (Err NoMemory) answer keeps signer h legal is = lost-placed h p new answer.0 signer (keeps h legal) is

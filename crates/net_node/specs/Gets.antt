@@ -1,14 +1,10 @@
 -- The shares of a node that lost nothing and followed the whole history are those of the definition.
-use Rattle.std.proofs.Common.{◌≡◌, ℕ, Bool, false, cond, List, length, sym, ◌∙◌, ap}
-use Rattle.std.specs.List.{AllByRecursion}
-use Rattle.channel_calls.specs.History.{Legal}
-use Rattle.channel_calls.specs.declared.entry.Entry.{Entry}
-use Rattle.net_model.specs.Valid.{IsValidEntry}
+use Rattle.std.proofs.Common.{Bool, cond, sym, ◌∙◌, ap}
 use Rattle.node_model.specs.Playing.{signing_of}
 use Rattle.node_shares.proofs.Telling.{nodes_tell_shares}
 use Rattle.node_tables.specs.Stages.{stages}
 use Rattle.node_ways.proofs.Kept.{few-values}
-use Rattle.node_ways.specs.Ways.{Numbered, ways, IsPlaced}
+use Rattle.node_ways.specs.Ways.{ways, IsPlaced}
 use Rattle.support_chain.specs.Real.{real}
 use Rattle.told_party.specs.Telling.{SharesAreReal}
 use Rattle.net_node.specs.Shares.{is_lost, shares, orders}

@@ -2,3 +2,5 @@ pub mod Minds
 pub mod Openings
 pub mod Shares
 pub mod Gets
+pub mod Got
+pub mod Notes

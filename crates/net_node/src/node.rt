@@ -5,8 +5,9 @@ ghost use Rattle.support_chain.specs.Real.{real};
 ghost use Rattle.node_model.specs.Nodes.{NodeOf, new_node, saw_all};
 ghost use Rattle.node_objective.specs.Answers.{SameJournal};
 ghost use Rattle.node_ways.proofs.Kept.{nodes_are_kept};
-ghost use Rattle.node_ways.specs.Gains.{leaves};
-ghost use Rattle.node_ways.specs.Ways.{ways, noting_exit, IsPlaced};
+ghost use Rattle.node_ways.specs.Gains.{leaves, shares_known};
+ghost use Rattle.node_ways.specs.Ways.{ways, IsPlaced};
+ghost use Rattle.net_node.specs.Notes.{note_if};
 ghost use Rattle.std.specs.Option.{option_map};
 
 use crate::mind::Mind;
@@ -117,16 +118,18 @@ impl Node {
         }
     }
 
-    /// Notes what its person can get, where that wasn't noted before.
-    fn note_exit(&mut self) -> Result<(), NoMemory>
-        ensures noted { OnOk result (self.new ≡ noting_exit self.old) }
-        ensures node { self.new.node ≡ self.old.node }
+    /// What is to be noted of a command to exit, where that wasn't noted before: what its person can get. The command itself
+    /// doesn't change that, and after it memory can't fail the note.
+    fn noted_for(&self, command: &Command) -> Result<Option<Listed<(u32, u128)>>, NoMemory>
+        ensures { IfOk result (λ noted. noted ≡ note_if (leaves command.now) self.now.exits (shares_known self.now.node.mind)) }
     {
-        if self.exits.is_none() {
-            let amounts = shares_known(self.alloc, self.node.mind().known())?;
-            self.exits = Some(amounts);
+        if is_exit(command) {
+            if self.exits.is_none() {
+                let amounts = shares_known(self.alloc, self.node.mind().known())?;
+                return Ok(Some(amounts));
+            }
         }
-        Ok(())
+        Ok(None)
     }
 }
 
@@ -182,10 +185,10 @@ impl Party for Node {
     }
 
     fn command(&mut self, step: u32, command: Command) -> Result<Outs, NodeFault> {
-        let leaves = is_exit(&command);
+        let noted = self.noted_for(&command)?;
         let outs = self.node.command(step, command)?;
-        if leaves {
-            self.note_exit()?;
+        if noted.is_some() {
+            self.exits = noted;
         }
         Ok(outs)
     }

@@ -5,8 +5,9 @@ ghost use Rattle.nitro_bytes.specs.Parts.{IsFixed};
 ghost use Rattle.node_model.specs.Openings.{opened_by};
 ghost use Rattle.node_ways.proofs.Kept.{nodes_are_kept};
 ghost use Rattle.net_node.specs.Gets.{nodes_get};
+ghost use Rattle.net_node.specs.Got.{nodes_got};
 ghost use Rattle.net_node.specs.Openings.{lines_are_told};
-ghost use Rattle.net_node.specs.Shares.{shares, exits, orders, is_lost};
+ghost use Rattle.net_node.specs.Shares.{shares, exits, left, orders, is_lost};
 
 use crate::node::Node;
 use crate::sharing::share_known;
@@ -55,6 +56,8 @@ impl Told for Node {
 
     ghost exits = { exits };
 
+    ghost left = { left };
+
     ghost orders = { orders };
 
     ghost lost = { is_lost };
@@ -81,4 +84,6 @@ impl Told for Node {
     ghost tells = { lines_are_told };
 
     ghost gets = { nodes_get };
+
+    ghost got = { nodes_got };
 }

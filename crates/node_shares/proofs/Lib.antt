@@ -4,3 +4,5 @@ pub mod Keeping
 pub mod Growing
 pub mod Placing
 pub mod Telling
+pub mod Nothing
+pub mod Unheld

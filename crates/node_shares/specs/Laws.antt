@@ -1,9 +1,11 @@
 -- What a node knows tells the share of its person at its place.
-use Rattle.std.specs.Prelude.{◌≡◌, ℕ, ◌≤◌, false, List, ◌++◌, length}
+use Rattle.std.specs.Prelude.{◌≡◌, ◌==◌, ℕ, ◌≤◌, false, List, ◌++◌, length}
+use Rattle.std.specs.List.{AllByRecursion}
 use Rattle.channel_name.specs.Digests.{name_of_person}
 use Rattle.channel_model.specs.Rules.{Rules}
 use Rattle.channel_calls.specs.History.{Legal}
 use Rattle.channel_calls.specs.declared.entry.Entry.{Entry}
+use Rattle.channel_calls.specs.declared.view.ChannelView.{ChannelView}
 use Rattle.net_model.specs.Journals.{In, is_watched}
 use Rattle.history_view.specs.Standing.{StandsFor}
 use Rattle.share_model.specs.Places.{plan, share}
@@ -48,3 +50,17 @@ abbrev pub NodesTellShares : Type 0
 NodesTellShares =
     (t : Tables) (r : Rules) (s : Signing) (h : List Entry) (n : NodeOf) → Legal r h → n.is_lost ≡ false → Stands t r s h n
     → n.mind.view.count ≡ length h → KnowsShare r s.key (told_of n) h (told_of n) n.mind
+
+abbrev pub LacksAsset : ℕ → ℕ × ℕ → Type 0
+LacksAsset asset balance = (balance.0 == asset) ≡ false
+
+-- no channel of a view holds or held the asset
+abbrev pub IsUnheld : ℕ → List ChannelView → Type 0
+IsUnheld asset views = AllByRecursion (λ v. AllByRecursion (LacksAsset asset) v.held) views
+
+-- of an asset that no channel of its view holds or held the share of its person at a place is 0
+abbrev pub UnheldIsNothing : Type 0
+UnheldIsNothing =
+    (t : Tables) (r : Rules) (s : Signing) (h : List Entry) (journal : List Told) (past : List Entry) (front : List Told) → Legal r h
+    → Plays t r s h journal → IsFront h journal past front → (asset : ℕ) → IsUnheld asset (mind_at r s.key past front).view.channels
+    → share r (name_of_person s.key) (orders_of r s.key journal) past (lines_of s.key front) asset ≡ 0

@@ -1,34 +1,41 @@
 -- Whatever a node with these ways is told, handed or shown, it stands for the history.
 use Rattle.std.proofs.Common.{◌≡◌, ℕ, ◌≤◌, Bool, true, false, cond, List, [], ◌∷◌, length, refl, sym, ◌∙◌, ap, subst, arith}
 use Rattle.std.specs.List.{AllByRecursion, flat_map}
-use Rattle.std.specs.Prelude.{Option}
+use Rattle.std.specs.Prelude.{Option, Some, None}
+use Rattle.std.specs.Option.{option_or}
 use Rattle.channel_calls.specs.History.{Legal}
 use Rattle.channel_calls.specs.Rows.{fixed_of}
 use Rattle.channel_calls.specs.declared.call.Call.TheVariants.{Deposit, Challenge, Respond, Refute, Checkpoint, Conclude, Transfer, Claim}
 use Rattle.channel_calls.specs.declared.call.Op.{Op}
 use Rattle.channel_calls.specs.declared.call.Op.TheVariants as ops
 use Rattle.channel_calls.specs.declared.entry.Entry.{Entry}
+use Rattle.channel_calls.specs.declared.event.Deed.TheVariants as deeds
+use Rattle.channel_calls.specs.declared.event.Event.{Event}
 use Rattle.channel_calls.specs.declared.view.WorldView.{WorldView}
+use Rattle.chain_laws.proofs.Tests.{clash}
 use Rattle.channel_store.specs.Keeping.{held_chain}
 use Rattle.history_view.specs.Standing.{OfFew}
 use Rattle.net_model.specs.Valid.{IsValidOp, IsValidEntry}
 use Rattle.net_party.specs.Ways.{followed, looked, ComeNext, HasLooked}
 use Rattle.net_party.specs.declared.command.Command.{Command}
+use Rattle.net_party.specs.declared.command.Command.TheVariants.{Open, OpenOn, OpenVirtual, Pay, Close, Exit}
 use Rattle.net_party.specs.declared.lookout.Lookout.{Lookout}
 use Rattle.node_keys.proofs.Made.{made_nodes_are_honest}
 use Rattle.node_keys.specs.Keys.{IsSound}
 use Rattle.node_laws.proofs.Calling.{calls_keep_standing, fresh_nodes_stand, standing_grows}
+use Rattle.node_laws.proofs.Keepers.{count-is}
+use Rattle.node_laws.proofs.Places.{told-command}
 use Rattle.node_model.specs.Giving.{after_tick}
-use Rattle.node_model.specs.Nodes.{NodeOf, Stands, handled, told_to, saw_one, saw_all, watched}
-use Rattle.node_model.specs.Places.{AreFew}
+use Rattle.node_model.specs.Nodes.{NodeOf, told_of, Knows, Stands, handled, told_to, saw_one, saw_all, watched}
+use Rattle.node_model.specs.Places.{Told, tell, AreFew, mind_at}
 use Rattle.node_model.specs.Playing.{SignerOf, signing_of}
 use Rattle.node_tables.specs.Stages.{stages}
 use Rattle.support_chain.specs.Real.{real}
 use Rattle.node_ways.specs.Laws.{NodesAreKept}
-use Rattle.node_ways.specs.Gains.{leaves, shares_known, or_now}
-use Rattle.node_ways.specs.Ways.{Numbered, made_of, seen_of, unless_lost, noting_if, IsPlaced}
+use Rattle.node_ways.specs.Gains.{leaves, shares_known, or_now, until_exit}
+use Rattle.node_ways.specs.Ways.{Numbered, made_of, key_of, seen_of, unless_lost, noting_exit, ways, IsKnownAt, IsNoted, IsPlaced}
 use Rattle.node_ways.proofs.Following.{sees-within, sees-all, looks-so}
-use Rattle.node_ways.proofs.Staying.{Stays, handled-stays, tick-stays, told-stays}
+use Rattle.node_ways.proofs.Staying.{Stays, wrote-event, handled-stays, tick-stays, told-stays}
 
 -- ---- values are of few people
 
@@ -49,6 +56,13 @@ few-values (e ∷ h) valid = (few-op e.op valid.0, few-values h valid.1)
 
 -- ---- one call
 
+-- what was noted, as long as the signer stays and no first command to exit comes
+still-noted : (h : List Entry) (p : Numbered) (new : NodeOf) → new.signer ≡ p.node.signer → until_exit (told_of new) ≡ until_exit (told_of p.node)
+    → IsNoted h (key_of p.node.signer) p.exits (until_exit (told_of p.node)) → IsNoted h (key_of new.signer) p.exits (until_exit (told_of new))
+still-noted h p new signer exit was =
+    subst (λ (s : SignerOf). IsNoted h (key_of s) p.exits (until_exit (told_of new))) (sym signer)
+    (subst (IsNoted h (key_of p.node.signer) p.exits) (sym exit) was)
+
 -- what a call makes of a node that isn't lost
 placed : (h : List Entry) (p : Numbered) (new : NodeOf) → Stays p.node new
     → (Stands stages real (signing_of p.node.signer) h p.node → Stands stages real (signing_of p.node.signer) h new) → IsPlaced h p → IsPlaced h (record p { node = new })
@@ -59,6 +73,7 @@ placed h p new same keeps is =
           subst (λ (k : ℕ). k ≤ length h)
           (sym (ap (λ (b : Bool). cond b 0 new.mind.view.count) same.lost ∙ ap (λ (v : WorldView). cond p.node.is_lost 0 v.count) same.view)) is.within;
       stands = λ few. subst (λ (s : SignerOf). Stands stages real (signing_of s) h new) (sym same.signer) (keeps (is.stands few));
+      noted = λ few kept. still-noted h p new same.signer same.exit (is.noted few (sym same.lost ∙ kept));
     }
 
 unless : (h : List Entry) (p : Numbered) (change : NodeOf → NodeOf) → IsPlaced h p → (p.node.is_lost ≡ false → IsPlaced h (record p { node = change p.node }))
@@ -69,19 +84,89 @@ unless h p change is keeps = go p.node.is_lost refl
     go true lost = is
     go false kept = keeps kept
 
-pub told-placed : (h : List Entry) (step : ℕ) (command : Command) (p : Numbered) → Legal real h → p.node.is_lost ≡ false → IsPlaced h p
+pub told-placed : (h : List Entry) (step : ℕ) (command : Command) (p : Numbered) → leaves command ≡ false → Legal real h → p.node.is_lost ≡ false → IsPlaced h p
     → IsPlaced h (record p { node = told_to stages real (signing_of p.node.signer) step command p.node })
-told-placed h step command p legal kept is =
-    placed h p (told_to stages real (signing_of p.node.signer) step command p.node) (told-stays stages real (signing_of p.node.signer) step command p.node)
+told-placed h step command p stays legal kept is =
+    placed h p (told_to stages real (signing_of p.node.signer) step command p.node) (told-stays stages real (signing_of p.node.signer) step command p.node stays)
     (λ st. (calls_keep_standing stages real (signing_of p.node.signer) h p.node legal kept st).tells step command) is
 
--- what is noted at an exit tells nothing of its place
-pub exits-placed : (h : List Entry) (p : Numbered) (exits : Option (List (ℕ × ℕ))) → IsPlaced h p → IsPlaced h (record p { exits = exits })
-exits-placed h p exits is = record { sound = is.sound; within = is.within; stands = is.stands }
+-- ---- a command to exit
 
-noting-placed : (h : List Entry) (left : Bool) (p : Numbered) → IsPlaced h p → IsPlaced h (noting_if left p)
-noting-placed h true p is = exits-placed h p (or_now p.exits (shares_known p.node.mind)) is
-noting-placed h false p is = is
+-- the node just after it
+exited : ℕ → Numbered → NodeOf
+exited step p = told_to stages real (signing_of p.node.signer) step Exit p.node
+
+-- what is noted is what is known then, unless it was noted before
+exit-noted : (h : List Entry) (step : ℕ) (p : Numbered) → Legal real h → p.node.is_lost ≡ false → Stands stages real (signing_of p.node.signer) h (exited step p)
+    → IsNoted h (key_of p.node.signer) p.exits (until_exit (told_of p.node))
+    → IsNoted h (key_of p.node.signer) (or_now p.exits (shares_known (exited step p).mind)) (until_exit (told_of (exited step p)))
+unfolding signing_of exited
+exit-noted h step p legal kept stands was =
+    subst (λ (events : List Told). IsNoted h (key_of p.node.signer) (or_now p.exits (shares_known (exited step p).mind)) (until_exit events)) (sym told-is)
+    (go p.exits (until_exit (told_of p.node)) was)
+  where
+    event : Event
+    event = record { seen = p.node.mind.view.count; deed = deeds.Commanded step None }
+
+    x : Told
+    x = tell event (Some Exit)
+
+    told-is : told_of (exited step p) ≡ x ∷ told_of p.node
+    told-is = told-command p.node.journal event p.node.commands Exit refl
+
+    knows : Knows real (signing_of p.node.signer) h (exited step p)
+    knows = stands.knows kept
+
+    here : IsKnownAt h (key_of p.node.signer) (shares_known (exited step p).mind) (x ∷ told_of p.node)
+    here = record {
+      later = knows.later;
+      past = knows.past;
+      split = knows.split;
+      seen = sym (count-is stages real (signing_of p.node.signer) h legal (exited step p) knows);
+      shares = ap shares_known (knows.mind ∙ ap (mind_at real (key_of p.node.signer) knows.past) told-is);
+    }
+
+    go : (o : Option (List (ℕ × ℕ))) (events : Option (List Told)) → IsNoted h (key_of p.node.signer) o events
+        → IsNoted h (key_of p.node.signer) (or_now o (shares_known (exited step p).mind)) (option_or events (Some (x ∷ told_of p.node)))
+    go None None was = here
+    go (Some amounts) (Some front) was = was
+    go None (Some front) was = absurd was
+    go (Some amounts) None was = absurd was
+
+exit-placed : (h : List Entry) (step : ℕ) (p : Numbered) → Legal real h → IsPlaced h p → IsPlaced h (ways.commanded step Exit p)
+unfolding exited
+exit-placed h step p legal is = go p.node.is_lost refl
+  where
+    go : (b : Bool) → p.node.is_lost ≡ b → IsPlaced h (noting_exit (cond b p (record p { node = exited step p })))
+    go true lost = record { sound = is.sound; within = is.within; stands = is.stands; noted = λ few kept. absurd (clash p.node.is_lost lost kept) }
+    go false kept =
+        let stands : AreFew h → Stands stages real (signing_of p.node.signer) h (exited step p) =
+        λ few. (calls_keep_standing stages real (signing_of p.node.signer) h p.node legal kept (is.stands few)).tells step Exit
+        in
+        record {
+          sound = is.sound;
+          within = is.within;
+          stands = stands;
+          noted = λ few still. exit-noted h step p legal kept (stands few) (is.noted few kept);
+        }
+
+-- ---- commands
+
+command-placed : (h : List Entry) (step : ℕ) (command : Command) (p : Numbered) → leaves command ≡ false → Legal real h → IsPlaced h p
+    → IsPlaced h (unless_lost (λ n. told_to stages real (signing_of n.signer) step command n) p)
+command-placed h step command p stays legal is =
+    unless h p (λ n. told_to stages real (signing_of n.signer) step command n) is (λ kept. told-placed h step command p stays legal kept is)
+
+commanded-placed : (h : List Entry) (step : ℕ) (command : Command) (p : Numbered) → Legal real h → IsPlaced h p → IsPlaced h (ways.commanded step command p)
+commanded-placed h step (Open f outcome) p legal is = command-placed h step (Open f outcome) p refl legal is
+commanded-placed h step (OpenOn ledger f asset amounts) p legal is = command-placed h step (OpenOn ledger f asset amounts) p refl legal is
+commanded-placed h step (OpenVirtual ledgers guarantors joint channel asset amounts) p legal is =
+    command-placed h step (OpenVirtual ledgers guarantors joint channel asset amounts) p refl legal is
+commanded-placed h step (Pay channel asset amount) p legal is = command-placed h step (Pay channel asset amount) p refl legal is
+commanded-placed h step (Close channel) p legal is = command-placed h step (Close channel) p refl legal is
+commanded-placed h step Exit p legal is = exit-placed h step p legal is
+
+-- ---- a tick, entries and looks
 
 -- a tick: the states, the challenges, and then the calls
 tick-placed : (h : List Entry) (p : Numbered) → Legal real h → p.node.is_lost ≡ false → IsPlaced h p
@@ -103,6 +188,7 @@ saw-placed h entries p legal next kept is =
       stands = λ few.
           subst (λ (s : SignerOf). Stands stages real (signing_of s) h (saw_all real entries p.node)) (sym (signer-stays entries p.node))
           (sees-all stages real h legal (signing_of p.node.signer) entries p.node few kept here (is.stands few));
+      noted = λ few still. still-noted h p (saw_all real entries p.node) (signer-stays entries p.node) (ap until_exit (events-stay entries p.node)) (is.noted few kept);
     }
   where
     here : ComeNext h entries p.node.mind.view.count
@@ -111,6 +197,10 @@ saw-placed h entries p legal next kept is =
     signer-stays : (entries : List Entry) (n : NodeOf) → (saw_all real entries n).signer ≡ n.signer
     signer-stays [] n = refl
     signer-stays (e ∷ entries) n = signer-stays entries (saw_one real n e)
+
+    events-stay : (entries : List Entry) (n : NodeOf) → told_of (saw_all real entries n) ≡ told_of n
+    events-stay [] n = refl
+    events-stay (e ∷ entries) n = events-stay entries (saw_one real n e)
 
     lost-stays : (entries : List Entry) (n : NodeOf) → (saw_all real entries n).is_lost ≡ n.is_lost
     lost-stays [] n = refl
@@ -126,7 +216,19 @@ watched-placed h entries l place p legal looks kept is =
           (calls_keep_standing stages real (signing_of p.node.signer) h p.node legal kept (is.stands few)).watches (followed entries l).seen place
           (looked (flat_map held_chain p.node.mind.kept) (followed entries l))
           (looks-so stages real h legal entries l p.node (λ f. refl) few (subst (λ (k : ℕ). HasLooked real h k l entries) (seen-kept p.node kept) looks));
+      noted = λ few still.
+          still-noted h p (watched (followed entries l).seen place (looked (flat_map held_chain p.node.mind.kept) (followed entries l)) p.node) refl
+          (wrote-event p.node (record { seen = (followed entries l).seen; deed = deeds.Watched place (looked (flat_map held_chain p.node.mind.kept) (followed entries l)) }) refl refl)
+          (is.noted few kept);
     }
+
+-- what was noted stands in a longer history
+noted-grows : (h : List Entry) (e : Entry) (key : List ℕ) (o : Option (List (ℕ × ℕ))) (events : Option (List Told)) → IsNoted h key o events → IsNoted (e ∷ h) key o events
+noted-grows h e key None None was = tt
+noted-grows h e key (Some amounts) (Some front) was =
+    record { later = e ∷ was.later; past = was.past; split = ap (λ (es : List Entry). e ∷ es) was.split; seen = was.seen; shares = was.shares }
+noted-grows h e key None (Some front) was = absurd was
+noted-grows h e key (Some amounts) None was = absurd was
 
 pub nodes_are_kept : NodesAreKept
 nodes_are_kept =
@@ -135,11 +237,10 @@ nodes_are_kept =
         sound = record { sixteen = fresh.id; height = fresh.height };
         within = omega arith;
         stands = λ few. fresh_nodes_stand stages real (made_of signer) h;
+        noted = λ few kept. tt;
       };
       saw = λ h entries p legal next is. unless h p (saw_all real entries) is (λ kept. saw-placed h entries p legal next kept is);
-      commanded = λ h step command p legal is.
-          noting-placed h (leaves command) (unless_lost (λ n. told_to stages real (signing_of n.signer) step command n) p)
-          (unless h p (λ n. told_to stages real (signing_of n.signer) step command n) is (λ kept. told-placed h step command p legal kept is));
+      commanded = commanded-placed;
       handled = λ h bytes p legal is.
           unless h p (handled stages real bytes) is
           (λ kept. placed h p (handled stages real bytes p.node) (handled-stays stages real bytes p.node) (λ st. (calls_keep_standing stages real (signing_of p.node.signer) h p.node legal kept st).handles bytes) is);
@@ -150,6 +251,7 @@ nodes_are_kept =
         sound = is.sound;
         within = (let a : seen_of p.node ≤ length h = is.within in omega arith);
         stands = λ few. standing_grows stages real (signing_of p.node.signer) h e p.node (is.stands few.1);
+        noted = λ few kept. noted-grows h e (key_of p.node.signer) p.exits (until_exit (told_of p.node)) (is.noted few.1 kept);
       };
       within = λ h p is. is.within;
       honest = λ h p legal valid is. made_nodes_are_honest stages h p.node is.sound legal (is.stands (few-values h valid));
@@ -165,4 +267,5 @@ lost-placed h p new lost signer keeps is =
       sound = subst IsSound (sym signer) is.sound;
       within = subst (λ (k : ℕ). k ≤ length h) (sym (ap (λ (b : Bool). cond b 0 new.mind.view.count) lost)) (omega arith);
       stands = λ few. subst (λ (s : SignerOf). Stands stages real (signing_of s) h new) (sym signer) (keeps (is.stands few));
+      noted = λ few kept. absurd (clash new.is_lost lost kept);
     }

@@ -1,36 +1,71 @@
 -- What no call of a node changes.
-use Rattle.std.proofs.Common.{◌≡◌, ℕ, Bool, true, false, cond, List, [], ◌∷◌, refl, ◌∙◌}
+use Rattle.std.proofs.Common.{◌≡◌, ℕ, Bool, true, false, cond, ◌&&◌, List, [], ◌∷◌, ◌++◌, reverse, refl, ◌∙◌, ap}
 use Rattle.std.specs.Prelude.{Option, Some, None, Result, Ok, Err, nat_lt}
+use Rattle.std.specs.Option.{option_or}
 use Rattle.nitro_bytes.specs.Parts.{StateParts}
+use Rattle.channel_name.specs.Messages.{message_of_state, message_of_challenge}
 use Rattle.nitro_bytes.specs.declared.fault.ByteFault.{ByteFault}
 use Rattle.channel_calls.specs.Reading.{message_of}
 use Rattle.channel_calls.specs.Spelling.{Message}
 use Rattle.channel_calls.specs.declared.call.Call.{Call}
 use Rattle.channel_calls.specs.declared.event.Deed.TheVariants as deeds
+use Rattle.channel_calls.specs.declared.event.Event.{Event}
 use Rattle.channel_calls.specs.declared.event.NodeRefusal.{NodeRefusal}
 use Rattle.channel_model.specs.Rules.{Rules}
+use Rattle.chain_laws.proofs.Tests.{cond-false}
+use Rattle.net_model.specs.Journals.{is_followed}
 use Rattle.net_party.specs.declared.command.Command.{Command}
 use Rattle.net_party.specs.declared.command.Command.TheVariants.{Open, OpenOn, OpenVirtual, Pay, Close, Exit}
 use Rattle.node_model.specs.Giving.{in_order, after_signing, after_challenging, tick_calls, after_tick}
 use Rattle.node_model.specs.Leaving.{OwnChallenge, challenge_in}
 use Rattle.node_model.specs.Minds.{Mind, noted_message, commanded, commanded_if, did}
-use Rattle.node_model.specs.Nodes.{NodeOf, handled, signed, signed_if, ticked, challenged, challenged_if, challenged_all, gave_one, gave, asked, paid_if, told_to}
+use Rattle.node_model.specs.Nodes.{NodeOf, told_of, handled, signed, signed_if, ticked, challenged, challenged_if, challenged_all, gave_one, gave, asked, paid_if, told_to}
+use Rattle.node_model.specs.Places.{Told, tell, told, is_commanded}
 use Rattle.node_model.specs.Playing.{Signing}
 use Rattle.node_model.specs.Refusing.{message_refusal, command_refusal, signs_in}
 use Rattle.node_model.specs.Tables.{Tables}
+use Rattle.node_laws.proofs.Places.{told-event, told-command}
+use Rattle.node_ways.specs.Gains.{leaves, is_exit, until_exit}
 
--- its signer, its view of the history, and whether it is lost
+-- its signer, its view of the history, whether it is lost, and its events up to the first command to exit
 pub record Stays (old new : NodeOf) : Type 0 where
   pub signer : new.signer ≡ old.signer
   pub view : new.mind.view ≡ old.mind.view
   pub lost : new.is_lost ≡ old.is_lost
+  pub exit : until_exit (told_of new) ≡ until_exit (told_of old)
 
 and-stays : (a b c : NodeOf) → Stays a b → Stays b c → Stays a c
 and-stays a b c first second =
-    record { signer = second.signer ∙ first.signer; view = second.view ∙ first.view; lost = second.lost ∙ first.lost }
+    record { signer = second.signer ∙ first.signer; view = second.view ∙ first.view; lost = second.lost ∙ first.lost; exit = second.exit ∙ first.exit }
 
 same-stays : (n : NodeOf) → Stays n n
-same-stays n = record { signer = refl; view = refl; lost = refl }
+same-stays n = record { signer = refl; view = refl; lost = refl; exit = refl }
+
+-- ---- what is written
+
+or-none : {A : Type 0} (o : Option A) → option_or o None ≡ o
+or-none None = refl
+or-none (Some x) = refl
+
+and-false : (a b : Bool) → b ≡ false → (a && b) ≡ false
+and-false true b e = e
+and-false false b e = refl
+
+-- an event that is no command to exit
+until-after : (x : Told) (front : List Told) → is_exit x ≡ false → until_exit (x ∷ front) ≡ until_exit front
+until-after x front e =
+    ap (λ (o : Option (List Told)). option_or (until_exit front) o) (cond-false (is_exit x) (Some (x ∷ front)) None e) ∙ or-none (until_exit front)
+
+pub wrote-event : (n : NodeOf) (x : Event) → is_commanded x.deed ≡ false → is_followed x.deed ≡ false
+    → until_exit (told (reverse (n.journal ++ x ∷ [])) (reverse n.commands)) ≡ until_exit (told_of n)
+wrote-event n x plain quiet =
+    ap until_exit (told-event n.journal x n.commands plain) ∙ until-after (tell x None) (told_of n) (ap (λ (b : Bool). b && false) quiet)
+
+wrote-command : (n : NodeOf) (x : Event) (command : Command) → is_commanded x.deed ≡ true → leaves command ≡ false
+    → until_exit (told (reverse (n.journal ++ x ∷ [])) (reverse (n.commands ++ command ∷ []))) ≡ until_exit (told_of n)
+wrote-command n x command is stays =
+    ap until_exit (told-command n.journal x n.commands command is)
+    ∙ until-after (tell x (Some command)) (told_of n) (and-false (is_followed x.deed) (leaves command) stays)
 
 -- ---- what is known
 
@@ -58,14 +93,26 @@ handled-view r bytes (Some refusal) m = refl
 
 module _ (t : Tables) (r : Rules) where
   pub handled-stays : (bytes : List ℕ) (n : NodeOf) → Stays n (handled t r bytes n)
-  handled-stays bytes n = record { signer = refl; view = handled-view r bytes (message_refusal t r n.mind (message_of bytes)) n.mind; lost = refl }
+  handled-stays bytes n =
+      record {
+        signer = refl;
+        view = handled-view r bytes (message_refusal t r n.mind (message_of bytes)) n.mind;
+        lost = refl;
+        exit = wrote-event n (record { seen = n.mind.view.count; deed = deeds.Handled bytes (message_refusal t r n.mind (message_of bytes)) }) refl refl;
+      }
 
   signed-stays : (s : Signing) (channel : List ℕ) (o : Option StateParts) (n : NodeOf) → Stays n (signed_if r s channel o n)
   signed-stays s channel None n = same-stays n
   signed-stays s channel (Some state) n = go (nat_lt n.used s.limit)
     where
       go : (b : Bool) → Stays n (cond b (signed r s channel state n) n)
-      go true = record { signer = refl; view = refl; lost = refl }
+      go true =
+          record {
+            signer = refl;
+            view = refl;
+            lost = refl;
+            exit = wrote-event n (record { seen = n.mind.view.count; deed = deeds.Signed channel state (s.made n.used (message_of_state (r.digest channel state))) }) refl refl;
+          }
       go false = same-stays n
 
   ticked-stays : (s : Signing) (channels : List (List ℕ)) (n : NodeOf) → Stays n (ticked t r s channels n)
@@ -79,7 +126,13 @@ module _ (t : Tables) (r : Rules) where
   challenged-stays s channel (Some c) n = go (nat_lt n.used s.limit)
     where
       go : (b : Bool) → Stays n (cond b (challenged r s channel c n) n)
-      go true = record { signer = refl; view = refl; lost = refl }
+      go true =
+          record {
+            signer = refl;
+            view = refl;
+            lost = refl;
+            exit = wrote-event n (record { seen = n.mind.view.count; deed = deeds.SignedChallenge channel c.state c.who (s.made n.used (message_of_challenge (r.digest channel c.state) c.who)) }) refl refl;
+          }
       go false = same-stays n
 
   all-challenged-stays : (s : Signing) (channels : List (List ℕ)) (n : NodeOf) → Stays n (challenged_all r s channels n)
@@ -90,7 +143,10 @@ module _ (t : Tables) (r : Rules) where
 
   gave-stays : (calls : List Call) (n : NodeOf) → Stays n (gave calls n)
   gave-stays [] n = same-stays n
-  gave-stays (call ∷ calls) n = and-stays n (gave_one n call) (gave calls (gave_one n call)) (record { signer = refl; view = refl; lost = refl }) (gave-stays calls (gave_one n call))
+  gave-stays (call ∷ calls) n =
+      and-stays n (gave_one n call) (gave calls (gave_one n call))
+      (record { signer = refl; view = refl; lost = refl; exit = wrote-event n (record { seen = n.mind.view.count; deed = deeds.Called call }) refl refl })
+      (gave-stays calls (gave_one n call))
 
   pub tick-stays : (s : Signing) (n : NodeOf) → Stays n (after_tick t r s n)
   tick-stays s n =
@@ -99,8 +155,14 @@ module _ (t : Tables) (r : Rules) where
       and-stays n done (after_tick t r s n)
       (and-stays n signed done (ticked-stays s (in_order n.mind.parts) n) (all-challenged-stays s (in_order n.mind.parts) signed)) (gave-stays (tick_calls t r s n) done)
 
-  asked-stays : (s : Signing) (step : ℕ) (command : Command) (refusal : Option NodeRefusal) (n : NodeOf) → Stays n (asked r s step command refusal n)
-  asked-stays s step command refusal n = record { signer = refl; view = commanded-if-view r command refusal n.mind; lost = refl }
+  asked-stays : (s : Signing) (step : ℕ) (command : Command) (refusal : Option NodeRefusal) (n : NodeOf) → leaves command ≡ false → Stays n (asked r s step command refusal n)
+  asked-stays s step command refusal n stays =
+      record {
+        signer = refl;
+        view = commanded-if-view r command refusal n.mind;
+        lost = refl;
+        exit = wrote-command n (record { seen = n.mind.view.count; deed = deeds.Commanded step refusal }) command refl stays;
+      }
 
   paid-stays : (s : Signing) (refusal : Option NodeRefusal) (command : Command) (n : NodeOf) → Stays n (paid_if t r s refusal command n)
   paid-stays s (Some refusal) command n = same-stays n
@@ -111,8 +173,8 @@ module _ (t : Tables) (r : Rules) where
   paid-stays s None (Close channel) n = same-stays n
   paid-stays s None Exit n = same-stays n
 
-  pub told-stays : (s : Signing) (step : ℕ) (command : Command) (n : NodeOf) → Stays n (told_to t r s step command n)
-  told-stays s step command n =
+  pub told-stays : (s : Signing) (step : ℕ) (command : Command) (n : NodeOf) → leaves command ≡ false → Stays n (told_to t r s step command n)
+  told-stays s step command n stays =
       let refusal : Option NodeRefusal = command_refusal t r s.limit n.used n.mind command in
       let one : NodeOf = asked r s step command refusal n in
-      and-stays n one (paid_if t r s refusal command one) (asked-stays s step command refusal n) (paid-stays s refusal command one)
+      and-stays n one (paid_if t r s refusal command one) (asked-stays s step command refusal n stays) (paid-stays s refusal command one)

@@ -3,3 +3,4 @@ pub mod Safe
 pub mod Honest
 pub mod Once
 pub mod Shared
+pub mod Left

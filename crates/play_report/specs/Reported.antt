@@ -1,5 +1,5 @@
 -- What a report tells of a play, and what it says of the people with nodes.
-use Rattle.std.specs.Prelude.{◌≡◌, ℕ, true, List, map, flat_map, IsTrue, ◌↔◌}
+use Rattle.std.specs.Prelude.{◌≡◌, ℕ, true, List, map, flat_map, Option, IsTrue, ◌↔◌}
 use Rattle.std.specs.List.{AllByRecursion}
 use Rattle.nitro_bytes.specs.Parts.{FixedParts}
 use Rattle.channel_name.specs.Digests.{name_of_person}
@@ -7,7 +7,7 @@ use Rattle.channel_calls.specs.History.{flows_of, newest_first}
 use Rattle.channel_calls.specs.declared.entry.Entry.{Entry}
 use Rattle.flow_balances.specs.Receipts.{assets_of}
 use Rattle.net_model.specs.Honest.{Honest}
-use Rattle.net_model.specs.Journals.{In}
+use Rattle.net_model.specs.Journals.{In, Line}
 use Rattle.net_model.specs.Safety.{IsSafe}
 use Rattle.net_party.specs.Ways.{Ways}
 use Rattle.net_world.specs.Members.{MemberOf}
@@ -22,7 +22,7 @@ use Rattle.script_reader.specs.declared.step.Step.{Step}
 use Rattle.share_model.specs.Places.{Order}
 use Rattle.support_chain.specs.Real.{real}
 use Rattle.told_party.specs.Telling.{Pairwise, HaveFixed, Tale}
-use Rattle.play_report.specs.Shares.{shares_of, exits_of, real_shares}
+use Rattle.play_report.specs.Shares.{shares_of, exits_of, real_shares, real_exits}
 
 -- What is told of the person with this journal: each premise holds exactly where its definition does, whatever the
 -- commands of the journal add to the plan.
@@ -66,6 +66,12 @@ module _ {P : Type 0} (ways : Ways P) where
   AllShared orders r members =
       r.shares ≡ flat_map (λ m. shares_of ways (real_shares ways orders (newest_first r.history)) (assets_of (flows_of r.history)) m.node) members
 
+  -- What is told of each person's exit are its shares of these assets just after its first accepted command to exit: after the
+  -- entries that its node had followed then, and the lines of its journal up to that command, which are `left`.
+  abbrev pub AllLeft : (P → Option (List Line)) → (P → ℕ → Order) → Report → List (MemberOf P) → Type 0
+  AllLeft left orders r members =
+      r.exits ≡ flat_map (λ m. real_exits ways left orders (newest_first r.history) (assets_of (flows_of r.history)) m.node) members
+
   -- so where the report is that of these steps
   abbrev pub PlaysHonestly : Report → List Step → Type 0
   PlaysHonestly r steps = AllHonest r (play ways steps).world.members
@@ -75,6 +81,9 @@ module _ {P : Type 0} (ways : Ways P) where
 
   abbrev pub PlaysShares : (P → ℕ → Order) → Report → List Step → Type 0
   PlaysShares orders r steps = AllShared orders r (play ways steps).world.members
+
+  abbrev pub PlaysExits : (P → Option (List Line)) → (P → ℕ → Order) → Report → List Step → Type 0
+  PlaysExits left orders r steps = AllLeft left orders r (play ways steps).world.members
 
 -- ---- what is told
 

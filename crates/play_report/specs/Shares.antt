@@ -1,18 +1,15 @@
 -- What a report tells of the shares of people with nodes.
-use Rattle.std.specs.Prelude.{◌≡◌, ◌==◌, ℕ, Bool, false, List, [], ◌∷◌, map, Option, Some, None, if◌then◌else◌}
+use Rattle.std.specs.Prelude.{◌≡◌, ℕ, Bool, false, List, [], map, Option, Some, None}
 use Rattle.channel_name.specs.Digests.{name_of_person}
 use Rattle.channel_calls.specs.declared.entry.Entry.{Entry}
+use Rattle.net_model.specs.Journals.{Line}
 use Rattle.net_party.specs.Ways.{Ways}
 use Rattle.report_text.specs.declared.report.Share.{Share}
 use Rattle.share_model.specs.Places.{Order, share}
 use Rattle.support_chain.specs.Real.{real}
+use Rattle.told_party.specs.Telling.{amount_then, share_then}
 
--- the amount of an asset, 0 where there is none
-abbrev pub amount_then : List (ℕ × ℕ) → ℕ → ℕ
-amount_then [] asset = 0
-amount_then (x ∷ xs) asset = if x.0 == asset then x.1 else amount_then xs asset
-
--- so of each of these assets
+-- the amount of each of these assets, 0 where there is none
 abbrev pub exits_for : (person : List ℕ) → (assets : List ℕ) → List (ℕ × ℕ) → List Share
 exits_for person assets amounts = map (λ asset. record { person = person; asset = asset; amount = amount_then amounts asset }) assets
 
@@ -37,3 +34,12 @@ module _ {P : Type 0} (ways : Ways P) where
   -- what it can get by the definition, over a history and the node's journal
   abbrev pub real_shares : (P → ℕ → Order) → List Entry → P → ℕ → ℕ
   real_shares orders h p asset = share real (name_of_person (ways.key p)) (orders p) h (ways.lines p) asset
+
+  -- what it could get by the definition just after these lines, if there are any
+  abbrev pub exits_at : (P → ℕ → Order) → List Entry → (assets : List ℕ) → P → Option (List Line) → List Share
+  exits_at orders h assets p None = []
+  exits_at orders h assets p (Some front) = shares_of (λ q. share_then ways orders h q front) assets p
+
+  -- `left` says of a node which lines come up to the first accepted command to exit, and with it
+  abbrev pub real_exits : (P → Option (List Line)) → (P → ℕ → Order) → List Entry → (assets : List ℕ) → P → List Share
+  real_exits left orders h assets p = exits_at orders h assets p (left p)

@@ -7,7 +7,7 @@ ghost use Rattle.net_model.specs.Valid.{IsValidEntry, IsValidEvent};
 ghost use Rattle.net_world.specs.Entered.{oldest_first};
 ghost use Rattle.support_chain.specs.Real.{real};
 ghost use Rattle.script_reader.specs.Bounds.{Fits, persons_of, rounds_of, signers_of};
-ghost use Rattle.play_report.specs.Reported.{Tells, IsPlayed, journal_of, told_shares, told_exits, AllFixed, AllHonest, AllSafe, PlaysHonestly, PlaysSafely, PlaysShares};
+ghost use Rattle.play_report.specs.Reported.{Tells, IsPlayed, journal_of, told_shares, told_exits, AllFixed, AllHonest, AllSafe, PlaysHonestly, PlaysSafely, PlaysShares, PlaysExits};
 ghost use Rattle.play_report.specs.Shares.{HasFollowed};
 ghost use Rattle.told_party.specs.Telling.{tale_of};
 
@@ -106,6 +106,9 @@ pub fn report_play<P: Told, D: Docket>(
 
     // What is told of each share is the definition's, over the whole history and the person's journal.
     ensures shares { IfOk result (λ report. PlaysShares P.ways P.orders report steps.now) }
+
+    // And of each exit it is the definition's just after the command.
+    ensures exits { IfOk result (λ report. PlaysExits P.ways P.left P.orders report steps.now) }
 {
     let scene: Scene<P, D> = play(alloc, steps, signers)?;
     report_of(alloc, scene)

@@ -2,7 +2,8 @@
 
 ghost use Rattle.std.specs.Prelude.{◌≡◌, ◌++◌, flat_map, IfOk, OnOk, IsTrue};
 ghost use Rattle.std.specs.List.{AllByRecursion};
-ghost use Rattle.play_report.specs.Shares.{HasFollowed, shares_of, amount_then, exits_for, exits_of};
+ghost use Rattle.play_report.specs.Shares.{HasFollowed, shares_of, exits_for, exits_of};
+ghost use Rattle.told_party.specs.Telling.{amount_then};
 
 use channel_name::person_name;
 use net_party::Party;

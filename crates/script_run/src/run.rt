@@ -9,10 +9,10 @@ ghost use Rattle.script_reader.specs.Outside.{Rose};
 ghost use Rattle.script_run.specs.Outside.{AppendsPart};
 ghost use Rattle.script_run.specs.declared.asking.Asked.{Asked};
 ghost use Rattle.script_run.specs.declared.run.Status.{Status};
-ghost use Rattle.play_report.specs.Reported.{PlaysHonestly, PlaysSafely, PlaysShares};
+ghost use Rattle.play_report.specs.Reported.{PlaysHonestly, PlaysSafely, PlaysShares, PlaysExits};
 ghost use Rattle.told_party.specs.Telling.{tale_of};
 ghost use Rattle.node_ways.specs.Ways.{ways};
-ghost use Rattle.net_node.specs.Shares.{tale, orders};
+ghost use Rattle.net_node.specs.Shares.{tale, left, orders};
 ghost use Rattle.script_run.specs.Run.{Given, IsSound, given, code_of, asked, EndsAs, ComesOf, RunsTo, rule_text, owed};
 
 use crate::asking::Asked;
@@ -86,7 +86,7 @@ fn without_report(status: Status) -> Ended
 fn run_script<P: Told>(alloc: Global, bytes: &[u8]) -> Result<Ended, NoMemory>
     ensures ends { (given : Given) → asked given.words ≡ Some Asked.Run → Consumes given.before given.after bytes.now
         → IsAtEnd given.after → length bytes.now ≤ 4194304
-        → IfOk result (λ ended. RunsTo (tale_of P.ways P.shares P.exits) P.orders given ended.status ended.report) }
+        → IfOk result (λ ended. RunsTo (tale_of P.ways P.shares P.exits) P.left P.orders given ended.status ended.report) }
     ensures legal { IfOk result (λ ended. IfSome ended.report (λ report. Legal real (newest_first report.history))) }
 {
     match read_script_with_signers(alloc, bytes, false) {
@@ -109,7 +109,7 @@ fn work<P: Told, S: Source>(
     words: &[Label],
     source: &mut S,
 ) -> Result<Ended, NoMemory>
-    ensures ends { IfOk result (λ ended. RunsTo (tale_of P.ways P.shares P.exits) P.orders (given S.left S.faults words.now source.old source.new) ended.status ended.report) }
+    ensures ends { IfOk result (λ ended. RunsTo (tale_of P.ways P.shares P.exits) P.left P.orders (given S.left S.faults words.now source.old source.new) ended.status ended.report) }
     ensures legal { IfOk result (λ ended. IfSome ended.report (λ report. Legal real (newest_first report.history))) }
 {
     let Some(Asked::Run) = asked(words) else {
@@ -207,6 +207,11 @@ pub fn run_words<S: Source, K: Sink>(
     // paid and the least that its parts are worth, whichever outcomes its channels end with.
     ensures shares { IfSome result.report (λ report.
         ComesOf tale (given S.left S.faults words.now source.old source.new) report (PlaysShares ways orders report)) }
+
+    // Each share that is printed of an exit is what the person could get by the definition just after its node's first
+    // accepted command to exit: after the entries that the node had followed then, and its journal up to that command.
+    ensures exits { IfSome result.report (λ report.
+        ComesOf tale (given S.left S.faults words.now source.old source.new) report (PlaysExits ways left orders report)) }
 
     // A sound script runs to its end, unless memory runs out.
     ensures complete { IsSound (given S.left S.faults words.now source.old source.new)

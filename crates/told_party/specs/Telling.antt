@@ -1,5 +1,5 @@
 -- Lines and the events of which they are, and what nodes tell of shares.
-use Rattle.std.specs.Prelude.{◌≡◌, ℕ, Bool, false, List, [], ◌∷◌, length, Option}
+use Rattle.std.specs.Prelude.{◌≡◌, ◌==◌, ◌-◌, ℕ, Bool, false, List, [], ◌∷◌, length, drop, Option, Some, None, if◌then◌else◌}
 use Rattle.std.specs.List.{AllByRecursion}
 use Rattle.nitro_bytes.specs.Parts.{IsFixed}
 use Rattle.channel_name.specs.Digests.{name_of_person}
@@ -46,3 +46,33 @@ abbrev pub SharesAreReal : {P : Type 0} → Ways P → (stands : List Entry → 
 SharesAreReal {P} ways stands lost shares orders =
     (h : List Entry) (p : P) → Legal real h → AllByRecursion IsValidEntry h → stands h p → lost p ≡ false → ways.seen p ≡ length h
     → (asset : ℕ) → shares p asset ≡ share real (name_of_person (ways.key p)) (orders p) h (ways.lines p) asset
+
+-- ---- exits
+
+-- the amount of an asset, 0 where there is none
+abbrev pub amount_then : List (ℕ × ℕ) → ℕ → ℕ
+amount_then [] asset = 0
+amount_then (x ∷ xs) asset = if x.0 == asset then x.1 else amount_then xs asset
+
+-- the entries of a history that had been followed at the newest of these lines; the newest stand first
+abbrev pub past_at : List Entry → List Line → List Entry
+past_at h [] = []
+past_at h (x ∷ front) = drop (length h - x.seen) h
+
+-- what the person of a node can get by the definition just after these lines of its journal
+abbrev pub share_then : {P : Type 0} → Ways P → (orders : P → ℕ → Order) → List Entry → P → List Line → ℕ → ℕ
+share_then ways orders h p front asset = share real (name_of_person (ways.key p)) (orders p) (past_at h front) front asset
+
+-- there are amounts where there are lines, and there alone, and those of each asset are these after the lines
+abbrev pub AreThose : (List Line → ℕ → ℕ) → Option (List (ℕ × ℕ)) → Option (List Line) → Type 0
+AreThose shares None None = Unit {0}
+AreThose shares (Some amounts) (Some front) = (asset : ℕ) → amount_then amounts asset ≡ shares front asset
+AreThose shares _ _ = ⊥
+
+-- What a node tells of its exit, where memory didn't fail it, are the shares of the definition at the place just after its
+-- first accepted command to exit: `left` are its lines up to that command and with it.
+abbrev pub ExitsAreReal : {P : Type 0} → Ways P → (stands : List Entry → P → Type 0) → (lost : P → Bool) → (exits : P → Option (List (ℕ × ℕ)))
+    → (left : P → Option (List Line)) → (orders : P → ℕ → Order) → Type 0
+ExitsAreReal {P} ways stands lost exits left orders =
+    (h : List Entry) (p : P) → Legal real h → AllByRecursion IsValidEntry h → stands h p → lost p ≡ false
+    → AreThose (share_then ways orders h p) (exits p) (left p)

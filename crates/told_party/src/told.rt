@@ -2,9 +2,10 @@
 
 ghost use Rattle.std.specs.Prelude.{◌≡◌, ℕ, List, Bool, Option, IfOk, reverse};
 ghost use Rattle.std.specs.Option.{option_map};
+ghost use Rattle.net_model.specs.Journals.{Line};
 ghost use Rattle.share_model.specs.Places.{Order};
 ghost use Rattle.world_laws.specs.Standing.{AreKept};
-ghost use Rattle.told_party.specs.Telling.{AreTold, HaveFixed, SharesAreReal};
+ghost use Rattle.told_party.specs.Telling.{AreTold, HaveFixed, SharesAreReal, ExitsAreReal};
 
 use net_party::Party;
 use nitro_bytes::NoMemory;
@@ -17,6 +18,9 @@ pub trait Told: Party {
     // Where the person was commanded to exit, what it could get just after the first such command that was accepted, of
     // each asset that the node knew then.
     ghost exits: { Self → Option (List (ℕ × ℕ)) };
+
+    // The lines of its journal up to that command and with it.
+    ghost left: { Self → Option (List Line) };
 
     // What each of its commands asks for, by the number of lines before it.
     ghost orders: { Self → ℕ → Order };
@@ -47,4 +51,7 @@ pub trait Told: Party {
 
     // Where it followed the whole history, its shares are those of the definition.
     ghost gets: { SharesAreReal Self.ways Self.stands lost shares orders };
+
+    // What it tells of its exit are those of the definition just after the command.
+    ghost got: { ExitsAreReal Self.ways Self.stands lost exits left orders };
 }

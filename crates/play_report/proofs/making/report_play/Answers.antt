@@ -1,4 +1,5 @@
 use Rattle.play_report.proofs.Honest.{plays_honestly, plays_safely}
+use Rattle.play_report.proofs.Left.{plays_exits}
 use Rattle.play_report.proofs.Shared.{plays_shares}
 use Rattle.told_party.specs.Telling.{tale_of}
 use Rattle.play_report.proofs.making.report_play.Goals as goal
@@ -16,5 +17,11 @@ returns-clause-safe g c =
 pub returns-clause-shares : goal.returns-clause-shares
 returns-clause-shares g c =
     plays_shares (tale_of g.P.Party.ways g.P.Told.shares g.P.Told.exits) g.P.Party.stands g.met.P.Told.keeps g.P.Told.lost g.P.Told.orders g.met.P.Told.gets
+    c.args.steps.now c.requires.fit c.in_ok-scene.scene c.in_ok-scene.ensures
+    c.report_of.result c.report_of.ensures.valid c.report_of.ensures.tells c.report_of.ensures.followed
+
+pub returns-clause-exits : goal.returns-clause-exits
+returns-clause-exits g c =
+    plays_exits (tale_of g.P.Party.ways g.P.Told.shares g.P.Told.exits) g.P.Party.stands g.met.P.Told.keeps g.P.Told.lost g.P.Told.left g.P.Told.orders g.met.P.Told.got
     c.args.steps.now c.requires.fit c.in_ok-scene.scene c.in_ok-scene.ensures
     c.report_of.result c.report_of.ensures.valid c.report_of.ensures.tells c.report_of.ensures.followed

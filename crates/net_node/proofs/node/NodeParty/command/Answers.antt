@@ -1,0 +1,17 @@
+-- What a command makes of a node is placed, whatever it answered.
+use Rattle.std.proofs.Common.{◌≡◌, rules, sym, subst}
+use Rattle.node_ways.proofs.Kept.{nodes_are_kept}
+use Rattle.node_ways.specs.Ways.{ways, IsPlaced}
+use Rattle.net_node.proofs.Kept.{failed_keeps}
+use Rattle.net_node.proofs.node.NodeParty.command.Goals as goal
+
+pub returns-in_err-outs-clause-keeps : goal.returns-in_err-outs-clause-keeps
+returns-in_err-outs-clause-keeps c =
+    rw (← c.self.view_is)
+    (failed_keeps (record { number = c.self.inside.number; node = c.self.inside.node; exits = c.self.inside.exits }) c.args.step c.args.command c.command.new.self
+    c.in_err-outs.field-0.0 c.in_err-outs.ensures.answer c.command.ensures.keeps c.command.ensures.signer)
+
+pub returns-clause-keeps : goal.returns-clause-keeps
+returns-clause-keeps c h legal is =
+    let same : c.if-is_some.self ≡ ways.commanded c.args.step c.args.command c.args.self.now = search rules in
+    subst (IsPlaced h) (sym same) (nodes_are_kept.commanded h c.args.step c.args.command c.args.self.now legal is)
