@@ -66,7 +66,7 @@ module _ (r : Rules) (key : List ℕ) (past : List Entry) (front : List Told) (l
     kept-at fs ks (λ y i. found y (inr i)) all.1,
   )
 
-  all-kept : Grows r key front m → AreKeptAt r past (lines_of key front) (channels_told key front) m.kept
+  pub all-kept : Grows r key front m → AreKeptAt r past (lines_of key front) (channels_told key front) m.kept
   all-kept grown =
       kept-at (channels_told key front) m.kept
       (found-again m.kept (subst Apart (sym (all-names r (lines_of key front) (channels_told key front) m.kept grown.all)) grown.apart)) grown.all

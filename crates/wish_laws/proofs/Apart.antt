@@ -149,13 +149,15 @@ opens-apart r m command new apart =
     (some-apart r (takes_part m.key) (opened_by command) (and-left (are_apart (map r.named (opened_by command))) (list_all (λ name. not (is_planned m name)) (map r.named (opened_by command))) new))
     (new-some m r (takes_part m.key) (opened_by command) (and-right (are_apart (map r.named (opened_by command))) (list_all (λ name. not (is_planned m name)) (map r.named (opened_by command))) new)))
 
--- a command that opens and isn't refused opens new channels
-pub accepted-new : (t : Tables) (r : Rules) (m : Mind) (command : Command) → None ≡ open_refusal t r m command → are_new m (map r.named (opened_by command)) ≡ true
-accepted-new t r m command e =
+-- a command that opens and isn't refused fits, and opens new channels
+pub accepted-can : (t : Tables) (r : Rules) (m : Mind) (command : Command) → None ≡ open_refusal t r m command → can_open t r m command ≡ true
+accepted-can t r m command e =
     let after-planned = rest_none (cond (not (are_planned m (ledgers_for m.key command))) (Some UnknownChannel) None) _ (sym e) in
     let after-open = rest_none (not_open t (facts_of m)) _ after-planned in
-    let can = not-false (can_open t r m command) (holds_not (not (can_open t r m command)) NotAStep (first_none (cond (not (can_open t r m command)) (Some NotAStep) None) _ after-open)) in
-    and-right (t.fits (facts_of m) command) (are_new m (map r.named (opened_by command))) can
+    not-false (can_open t r m command) (holds_not (not (can_open t r m command)) NotAStep (first_none (cond (not (can_open t r m command)) (Some NotAStep) None) _ after-open))
+
+pub accepted-new : (t : Tables) (r : Rules) (m : Mind) (command : Command) → None ≡ open_refusal t r m command → are_new m (map r.named (opened_by command)) ≡ true
+accepted-new t r m command e = and-right (t.fits (facts_of m) command) (are_new m (map r.named (opened_by command))) (accepted-can t r m command e)
 
 command-apart : (t : Tables) (r : Rules) (s : Signing) (used : ℕ) (m : Mind) (command : Command) → None ≡ command_refusal t r s.limit used m command → are_apart (names m.kept) ≡ true
     → are_apart (names (commanded_if r (Some command) None m).kept) ≡ true

@@ -10,6 +10,7 @@ use Rattle.channel_calls.specs.Flows.{is_among}
 use Rattle.channel_calls.specs.History.{Legal}
 use Rattle.channel_calls.specs.Marked.{Marked, marked_of, next_after}
 use Rattle.channel_calls.specs.declared.entry.Entry.{Entry}
+use Rattle.channel_calls.specs.declared.event.Deed.{Deed}
 use Rattle.channel_calls.specs.declared.event.NodeRefusal.TheVariants.{NotWanted}
 use Rattle.channel_calls.specs.declared.held_chain.HeldChain.{HeldChain}
 use Rattle.channel_calls.specs.declared.held_chain.Place.{Place}
@@ -17,7 +18,7 @@ use Rattle.channel_calls.proofs.Names.{same_bytes}
 use Rattle.channel_store.specs.Keeping.{is_held, place_in, next_of}
 use Rattle.channel_store.specs.Storing.{is_of, kept_of}
 use Rattle.channel_store.specs.declared.kept.Kept.{Kept}
-use Rattle.funding_value.specs.Parts.{own_channel, channels_of}
+use Rattle.funding_value.specs.Parts.{own_channel, channels_of, running}
 use Rattle.funding_value.specs.declared.plan.Goal.{Goal}
 use Rattle.funding_value.specs.declared.plan.Part.{Part}
 use Rattle.funding_value.specs.declared.plan.Part.TheVariants.{Root}
@@ -33,9 +34,10 @@ use Rattle.net_model.specs.Held.{held, IsGoodIfAny}
 use Rattle.net_model.specs.Journals.{In, Line, is_watched}
 use Rattle.net_model.specs.Premises.{NoCollision, OccursFixed}
 use Rattle.net_model.proofs.Members.{In-append_right, In-append_cases, mapped}
+use Rattle.net_party.specs.declared.command.Command.{Command}
 use Rattle.node_model.specs.Minds.{Mind, facts_of, place_with, close_if, did}
 use Rattle.node_model.specs.Openings.{parts_of, goals_of, are_apart}
-use Rattle.node_model.specs.Places.{Told, line_of, lines_of, mind_at}
+use Rattle.node_model.specs.Places.{Told, line_of, lines_of, mind_at, AreFew}
 use Rattle.node_model.specs.Playing.{Signing, signings, pending, Plays}
 use Rattle.node_model.specs.Refusing.{not_open, unfinished, has_left, not_running, part_with, close_part}
 use Rattle.node_tables.specs.Stages.{stages}
@@ -80,12 +82,12 @@ posts d e =
     or-right d.closing (holds (2 * direct.people d - 1) d.channel) t.posted t.runs
 
 -- the latest state that is kept has this turn or more
-record Topped (k : Kept) (turn : ℕ) : Type 0 where
-  top : StateParts
-  ends : newest k.chain.states ≡ Some top
-  up : turn ≤ top.turn
+pub record Topped (k : Kept) (turn : ℕ) : Type 0 where
+  pub top : StateParts
+  pub ends : newest k.chain.states ≡ Some top
+  pub up : turn ≤ top.turn
 
-held-top : (k : Kept) (turn : ℕ) (full : Bool) → state_is (λ s. nat_le turn s.turn) (gathered.top_of (cond full (Some (record { channel = k.channel; chain = k.chain })) None)) ≡ true → Topped k turn
+pub held-top : (k : Kept) (turn : ℕ) (full : Bool) → state_is (λ s. nat_le turn s.turn) (gathered.top_of (cond full (Some (record { channel = k.channel; chain = k.chain })) None)) ≡ true → Topped k turn
 held-top k turn false e = absurd cc
 held-top k turn true e = go (newest k.chain.states) refl e
   where
@@ -93,7 +95,7 @@ held-top k turn true e = go (newest k.chain.states) refl e
     go None is e = absurd cc
     go (Some t) is e = record { top = t; ends = is; up = le-true turn t.turn e }
 
-place-none : (channel : List ℕ) (kept : List Kept) → kept_of channel kept ≡ None → gathered.place_in channel (map place_in kept) ≡ None
+pub place-none : (channel : List ℕ) (kept : List Kept) → kept_of channel kept ≡ None → gathered.place_in channel (map place_in kept) ≡ None
 place-none channel [] e = refl
 place-none channel (x ∷ xs) e = go (bytes_eq x.channel channel) refl (place-none channel xs)
   where
@@ -139,20 +141,35 @@ module _ (m : Mind) (c : List ℕ) (apart : are_apart (names m.kept) ≡ true) (
   runs : Runs m c
   runs = by-goal (gathered.goal_in (facts_of m) c) refl
 
+-- something is kept of this channel, and ends with this turn or more
+pub record RunsAt (m : Mind) (f : FixedParts) (turn : ℕ) : Type 0 where
+  pub k : Kept
+  pub keeps : kept_of (real.named f) m.kept ≡ Some k
+  pub topped : k.chain.fixed ≡ f → Topped k turn
+
+-- so it is wherever the part runs
+abbrev pub RunsTo : Part → FixedParts → ℕ → Type 0
+RunsTo p f turn = (m : Mind) → are_apart (names m.kept) ≡ true → (stages.stage (facts_of m) p == running p) ≡ true → RunsAt m f turn
+
+pub root-runs : (f : FixedParts) → RunsTo (Root (real.named f)) f (2 * people f - 1)
+root-runs f m apart third =
+    let r = runs m (real.named f) apart third in
+    record { k = r.k; keeps = r.keeps; topped = λ same. subst (λ (x : FixedParts). Topped r.k (2 * people x - 1)) same r.topped }
+
 -- ---- an accepted Close
 
-closing-runs : (m : Mind) (channel c : List ℕ) → None ≡ close_part stages m channel (Some (Root c)) → (stage_of_root (direct_in (facts_of m) c) == 3) ≡ true
-closing-runs m channel c e =
+closing-runs : (m : Mind) (channel : List ℕ) (p : Part) → None ≡ close_part stages m channel (Some p) → (stages.stage (facts_of m) p == running p) ≡ true
+closing-runs m channel p e =
     let after-open = rest_none (not_open stages (facts_of m)) _ (sym e) in
     let after-left = rest_none (has_left m) _ after-open in
     let after-unfinished = rest_none (unfinished stages (facts_of m)) _ after-left in
-    not-false (stage_of_root (direct_in (facts_of m) c) == 3)
-    (holds_not (not (stage_of_root (direct_in (facts_of m) c) == 3)) (NotWanted (stage_of_root (direct_in (facts_of m) c)))
-    (first_none (not_running stages (facts_of m) (Some (Root c))) _ after-unfinished))
+    not-false (stages.stage (facts_of m) p == running p)
+    (holds_not (not (stages.stage (facts_of m) p == running p)) (NotWanted (stages.stage (facts_of m) p))
+    (first_none (not_running stages (facts_of m) (Some p)) _ after-unfinished))
 
 -- ---- the goal of a channel
 
-find-in : {A : Type 0} (test : A → Bool) (xs : List A) (x : A) → find test xs ≡ Some x → In x xs
+pub find-in : {A : Type 0} (test : A → Bool) (xs : List A) (x : A) → find test xs ≡ Some x → In x xs
 find-in test [] x e = absurd (none-eq x e)
 find-in {A} test (y ∷ ys) x e = go (test y) (find-in test ys x) e
   where
@@ -160,13 +177,13 @@ find-in {A} test (y ∷ ys) x e = go (test y) (find-in test ys x) e
     go true rest e = inl (sym (some-eq y x e))
     go false rest e = inr (rest e)
 
-record FoundGoal (parts : List Part) (goals : List Goal) (c : List ℕ) (g : Goal) : Type 0 where
-  there : In g goals
-  q : Part
-  at : slice_get parts g.part ≡ Some q
-  about : bytes_eq (own_channel q) c ≡ true
+pub record FoundGoal (parts : List Part) (goals : List Goal) (c : List ℕ) (g : Goal) : Type 0 where
+  pub there : In g goals
+  pub q : Part
+  pub at : slice_get parts g.part ≡ Some q
+  pub about : bytes_eq (own_channel q) c ≡ true
 
-goal-found : (parts : List Part) (goals : List Goal) (c : List ℕ) (g : Goal) → gathered.goal_at (position (λ p. bytes_eq (own_channel p) c) parts) goals ≡ Some g → FoundGoal parts goals c g
+pub goal-found : (parts : List Part) (goals : List Goal) (c : List ℕ) (g : Goal) → gathered.goal_at (position (λ p. bytes_eq (own_channel p) c) parts) goals ≡ Some g → FoundGoal parts goals c g
 goal-found parts goals c g e = go (nat_lt n (length parts)) refl e
   where
     n : ℕ
@@ -186,43 +203,66 @@ goal-found parts goals c g e = go (nat_lt n (length parts)) refl e
 
 -- ---- what is held where Close was commanded
 
--- of the root with this name, where a goal of it is closing
-abbrev IsLate : FixedParts → Mind → Option Marked → Type 0
-IsLate f m st = (g : Goal) → In g m.goals → g.closing ≡ true → slice_get m.parts g.part ≡ Some (Root (real.named f)) → Reaches real f (2 * people f - 1) st
+-- of a channel of the part, where a goal of that is closing
+abbrev pub IsLate : Part → FixedParts → ℕ → Mind → Option Marked → Type 0
+IsLate p f turn m st = (g : Goal) → In g m.goals → g.closing ≡ true → slice_get m.parts g.part ≡ Some p → Reaches real f turn st
 
-module _ (f : FixedParts) (m new : Mind) (st after : Option Marked) (p : Planned m) (up : Reaches real f (2 * people f - 1) st → Reaches real f (2 * people f - 1) after)
-    (accepted : (channel : List ℕ) → None ≡ close_part stages m channel (Some (Root (real.named f))) → Reaches real f (2 * people f - 1) st) (was : IsLate f m st) where
-  opens-late : (news : List Part) (fresh : List Goal) → new.parts ≡ m.parts ++ news → new.goals ≡ m.goals ++ fresh → ((g : Goal) → In g fresh → g.closing ≡ false) → IsLate f new after
+module _ (p : Part) (f : FixedParts) (turn : ℕ) (m new : Mind) (st after : Option Marked) (plan : Planned m) (up : Reaches real f turn st → Reaches real f turn after)
+    (accepted : (channel : List ℕ) → None ≡ close_part stages m channel (Some p) → Reaches real f turn st) (was : IsLate p f turn m st) where
+  opens-late : (news : List Part) (fresh : List Goal) → new.parts ≡ m.parts ++ news → new.goals ≡ m.goals ++ fresh → ((g : Goal) → In g fresh → g.closing ≡ false) → IsLate p f turn new after
   opens-late news fresh parts goals open-yet g i closing at = go (In-append_cases g m.goals fresh (subst (In g) goals i))
     where
-      go : In g m.goals ⊎ In g fresh → Reaches real f (2 * people f - 1) after
+      go : In g m.goals ⊎ In g fresh → Reaches real f turn after
       go (inl i) =
-          up (was g i closing (sym (get-append m.parts news g.part (p.within g i)) ∙ subst (λ (x : List Part). slice_get x g.part ≡ Some (Root (real.named f))) parts at))
+          up (was g i closing (sym (get-append m.parts news g.part (plan.within g i)) ∙ subst (λ (x : List Part). slice_get x g.part ≡ Some p) parts at))
       go (inr i) = absurd (clash g.closing closing (open-yet g i))
 
   closes-late : (channel : List ℕ) → None ≡ close_part stages m channel (part_with channel m.parts) → new.parts ≡ m.parts
-      → new.goals ≡ map (λ goal. close_if (goal.part == place_with channel m.parts) goal) m.goals → IsLate f new after
+      → new.goals ≡ map (λ goal. close_if (goal.part == place_with channel m.parts) goal) m.goals → IsLate p f turn new after
   closes-late channel taken parts goals g i closing at =
       let old = mapped (λ (goal : Goal). close_if (goal.part == place_with channel m.parts) goal) g m.goals (subst (In g) goals i) in
       go old.from old.there (old.from.part == place_with channel m.parts) refl old.is
     where
-      here : slice_get m.parts g.part ≡ Some (Root (real.named f))
-      here = subst (λ (x : List Part). slice_get x g.part ≡ Some (Root (real.named f))) parts at
+      here : slice_get m.parts g.part ≡ Some p
+      here = subst (λ (x : List Part). slice_get x g.part ≡ Some p) parts at
 
-      go : (from : Goal) → In from m.goals → (b : Bool) → (from.part == place_with channel m.parts) ≡ b → g ≡ close_if b from → Reaches real f (2 * people f - 1) after
+      go : (from : Goal) → In from m.goals → (b : Bool) → (from.part == place_with channel m.parts) ≡ b → g ≡ close_if b from → Reaches real f turn after
       go from there false is same = up (was g (subst (λ (x : Goal). In x m.goals) (sym same) there) closing here)
       go from there true is same =
           let place : g.part ≡ place_with channel m.parts = ap (λ (x : Goal). x.part) same ∙ eqb-true from.part (place_with channel m.parts) is in
-          let found : part_with channel m.parts ≡ Some (Root (real.named f)) =
+          let found : part_with channel m.parts ≡ Some p =
           sym (found_at_place (λ (part : Part). is_among channel (channels_of part)) m.parts) ∙ (sym (ap (slice_get m.parts) place) ∙ here) in
           up (accepted channel (taken ∙ ap (close_part stages m channel) found))
 
-  change-late : Change stages real m new → IsLate f new after
-  change-late (stays parts goals) =
-      λ g i closing at. up (was g (subst (In g) goals i) closing (subst (λ (x : List Part). slice_get x g.part ≡ Some (Root (real.named f))) parts at))
-  change-late (opens command fresh parts goals) =
+  change-late : (deed : Deed) (of : Option Command) → Change stages real deed of m new → IsLate p f turn new after
+  change-late deed of (stays parts goals) =
+      λ g i closing at. up (was g (subst (In g) goals i) closing (subst (λ (x : List Part). slice_get x g.part ≡ Some p) parts at))
+  change-late deed of (opens command followed is taken parts goals) =
       opens-late (parts_of real m.key command) (goals_of (length m.parts) command) parts goals (λ g i. (new-goal real m.key (length m.parts) command g i).fresh)
-  change-late (closes channel taken parts goals) = closes-late channel taken parts goals
+  change-late deed of (closes channel taken parts goals) = closes-late channel taken parts goals
+
+-- ---- what is held so stays
+
+module _ (s : Signing) (f : FixedParts) (turn : ℕ) (past : List Entry) (front : List Told) where
+  abbrev pub Held : Type 0
+  Held = Reaches real f turn (held real f past (lines_of s.key front))
+
+  pub event-reaches : (x : Told) → length past ≡ x.seen → Held → Reaches real f turn (held real f past (lines_of s.key (x ∷ front)))
+  event-reaches x len = reaches-later real f turn (line_of s.key x ∷ []) [] past (lines_of s.key front) rising
+    where
+      rising : (y : Line) → In y (line_of s.key x ∷ []) → is_watched y.deed ≡ false → length past ≤ y.seen
+      rising y (inl same) w = subst (λ (z : Line). length past ≤ z.seen) (sym same) (omega arith)
+      rising y (inr i) w = absurd i
+
+  pub look-reaches : (x : Told) → is_watched x.deed ≡ true → Held → Reaches real f turn (held real f past (lines_of s.key (x ∷ front)))
+  look-reaches x w = reaches-later real f turn (line_of s.key x ∷ []) [] past (lines_of s.key front) rising
+    where
+      rising : (y : Line) → In y (line_of s.key x ∷ []) → is_watched y.deed ≡ false → length past ≤ y.seen
+      rising y (inl same) v = absurd (clash (is_watched x.deed) w (sym (ap (λ (z : Line). is_watched z.deed) same) ∙ v))
+      rising y (inr i) v = absurd i
+
+  pub entry-reaches : (e : Entry) → Held → Reaches real f turn (held real f (e ∷ past) (lines_of s.key front))
+  entry-reaches e = reaches-later real f turn [] (e ∷ []) past (lines_of s.key front) (λ y i w. absurd i)
 
 -- ---- over the places
 
@@ -237,17 +277,18 @@ fixed-is s h journal distinct f occurs newer front events k own =
       own.opens,
     )) occurs (same_bytes (real.named k.chain.fixed) (real.named f) own.named)
 
-module _ (s : Signing) (h : List Entry) (journal : List Told) (legal : Legal real h) (distinct : NoCollision real h (lines_of s.key journal)) (f : FixedParts) (several : 1 ≤ people f)
-    (occurs : OccursFixed h (lines_of s.key journal) f) where
-  abbrev turn : ℕ
-  turn = 2 * people f - 1
+-- what is kept of a channel at any place is of this fixed part
+abbrev pub IsOneFixed : Signing → List Told → FixedParts → Type 0
+IsOneFixed s journal f = (newer front : List Told) → journal ≡ newer ++ front → (k : Kept) → IsOwn real s.key (real.named f) (lines_of s.key front) k → k.chain.fixed ≡ f
 
+module _ (s : Signing) (h : List Entry) (journal : List Told) (legal : Legal real h) (f : FixedParts) (several : 1 ≤ people f) (fixed : IsOneFixed s journal f) (p : Part) (turn : ℕ)
+    (runs-to : RunsTo p f turn) where
   abbrev Late : List Entry → List Told → Type 0
-  Late past front = IsLate f (mind_at real s.key past front) (held real f past (lines_of s.key front))
+  Late past front = IsLate p f turn (mind_at real s.key past front) (held real f past (lines_of s.key front))
 
-  -- what is kept with a second round is held so
+  -- what is kept so is held so
   reaches : (past : List Entry) (front : List Told) (k : Kept) → Agree real s.key f (lines_of s.key front) (Some k) (held real f past (lines_of s.key front)) → k.chain.fixed ≡ f
-      → Topped k (2 * people k.chain.fixed - 1) → Reaches real f turn (held real f past (lines_of s.key front))
+      → Topped k turn → Reaches real f turn (held real f past (lines_of s.key front))
   reaches past front k agree same t = go (held real f past (lines_of s.key front)) refl agree
     where
       go : (o : Option Marked) → held real f past (lines_of s.key front) ≡ o → Agree real s.key f (lines_of s.key front) (Some k) o → Reaches real f turn (held real f past (lines_of s.key front))
@@ -257,9 +298,24 @@ module _ (s : Signing) (h : List Entry) (journal : List Told) (legal : Legal rea
         is = is;
         top = t.top;
         ends = sym (ap (λ (x : Marked). newest x.states) (a.1 same)) ∙ t.ends;
-        up = subst (λ (x : FixedParts). 2 * people x - 1 ≤ t.top.turn) same t.up;
+        up = t.up;
         good = subst (IsGoodIfAny real f) is (held-good real f several past (lines_of s.key front));
       }
+
+  -- where the part runs
+  pub running-reaches : (past : List Entry) (front newer : List Told) → journal ≡ newer ++ front → Plays stages real s h front → (later : List Entry) → h ≡ later ++ past → Seen past front → AreFew past
+      → (stages.stage (facts_of (mind_at real s.key past front)) p == running p) ≡ true → Reaches real f turn (held real f past (lines_of s.key front))
+  running-reaches past front newer events plays later entries before few run =
+      let r = runs-to (mind_at real s.key past front) (kept-apart stages real s h front plays later past entries before) run in
+      let agree : Agree real s.key f (lines_of s.key front) (Some r.k) (held real f past (lines_of s.key front)) =
+      subst (λ (o : Option Kept). Agree real s.key f (lines_of s.key front) o (held real f past (lines_of s.key front))) r.keeps
+      (known real s.key f past front (legal-suffix real later past (subst (Legal real) entries legal)) few).agree in
+      let same = own-fixed r.k (held real f past (lines_of s.key front)) agree in
+      reaches past front r.k agree same (r.topped same)
+    where
+      own-fixed : (k : Kept) (o : Option Marked) → Agree real s.key f (lines_of s.key front) (Some k) o → k.chain.fixed ≡ f
+      own-fixed k None a = absurd a
+      own-fixed k (Some w) a = fixed newer front events k a.0
 
   nothing-late : (past : List Entry) → Late past []
   nothing-late past g i closing at = absurd (subst (In g) (no-goals past) i)
@@ -270,47 +326,32 @@ module _ (s : Signing) (h : List Entry) (journal : List Told) (legal : Legal rea
 
   at-event : (past : List Entry) (x : Told) (front : List Told) → AtEvent stages real s h journal past x front → Late past front → Late past (x ∷ front)
   at-event past x front at was =
-      subst (λ (m : Mind). IsLate f m (held real f past (lines_of s.key (x ∷ front)))) (sym (mind-event real s.key past x front at.len))
-      (change-late f m (did real x.deed x.command m) (held real f past (lines_of s.key front)) (held real f past (lines_of s.key (x ∷ front)))
+      subst (λ (m : Mind). IsLate p f turn m (held real f past (lines_of s.key (x ∷ front)))) (sym (mind-event real s.key past x front at.len))
+      (change-late p f turn m (did real x.deed x.command m) (held real f past (lines_of s.key front)) (held real f past (lines_of s.key (x ∷ front)))
       (is-planned stages real s h front at.plays at.later past at.entries at.before)
-      (reaches-later real f turn (line_of s.key x ∷ []) [] past (lines_of s.key front) rising)
-      accepted was
+      (event-reaches s f turn past front x at.len)
+      accepted was x.deed x.command
       (event-changes stages real s past (signings front) (pending front) x.deed x.command m (at.event.place at.later past at.entries at.len).1))
     where
       m : Mind
       m = mind_at real s.key past front
 
-      rising : (y : Line) → In y (line_of s.key x ∷ []) → is_watched y.deed ≡ false → length past ≤ y.seen
-      rising y (inl same) w = subst (λ (z : Line). length past ≤ z.seen) (sym same) (let l : length past ≡ x.seen = at.len in omega arith)
-      rising y (inr i) w = absurd i
-
-      accepted : (channel : List ℕ) → None ≡ close_part stages m channel (Some (Root (real.named f))) → Reaches real f turn (held real f past (lines_of s.key front))
+      accepted : (channel : List ℕ) → None ≡ close_part stages m channel (Some p) → Reaches real f turn (held real f past (lines_of s.key front))
       accepted channel e =
-          let r = runs m (real.named f) (kept-apart stages real s h front at.plays at.later past at.entries at.before) (closing-runs m channel (real.named f) e) in
-          let agree : Agree real s.key f (lines_of s.key front) (Some r.k) (held real f past (lines_of s.key front)) =
-          subst (λ (o : Option Kept). Agree real s.key f (lines_of s.key front) o (held real f past (lines_of s.key front))) r.keeps
-          (known real s.key f past front (legal-suffix real at.later past (subst (Legal real) at.entries legal)) (at.event.place at.later past at.entries at.len).0).agree in
-          reaches past front r.k agree (own-fixed r.k (held real f past (lines_of s.key front)) agree) r.topped
-        where
-          own-fixed : (k : Kept) (o : Option Marked) → Agree real s.key f (lines_of s.key front) (Some k) o → k.chain.fixed ≡ f
-          own-fixed k None a = absurd a
-          own-fixed k (Some w) a = fixed-is s h journal distinct f occurs (at.newer ++ x ∷ []) front (at.events ∙ append_assoc' at.newer (x ∷ []) front) k a.0
+          running-reaches past front (at.newer ++ x ∷ []) (at.events ∙ append_assoc' at.newer (x ∷ []) front) at.plays at.later at.entries at.before
+          (at.event.place at.later past at.entries at.len).0 (closing-runs m channel p e)
 
   at-look : (past : List Entry) (x : Told) (front : List Told) → is_watched x.deed ≡ true → Late past front → Late past (x ∷ front)
   at-look past x front w was =
-      subst (λ (m : Mind). IsLate f m (held real f past (lines_of s.key (x ∷ front)))) (sym (mind-watched real s.key past x front (looked real x.deed x.command w)))
-      (λ g i closing at. reaches-later real f turn (line_of s.key x ∷ []) [] past (lines_of s.key front) rising (was g i closing at))
-    where
-      rising : (y : Line) → In y (line_of s.key x ∷ []) → is_watched y.deed ≡ false → length past ≤ y.seen
-      rising y (inl same) v = absurd (clash (is_watched x.deed) w (sym (ap (λ (z : Line). is_watched z.deed) same) ∙ v))
-      rising y (inr i) v = absurd i
+      subst (λ (m : Mind). IsLate p f turn m (held real f past (lines_of s.key (x ∷ front)))) (sym (mind-watched real s.key past x front (looked real x.deed x.command w)))
+      (λ g i closing at. look-reaches s f turn past front x w (was g i closing at))
 
   at-entry : (past : List Entry) (e : Entry) (front : List Told) → Seen past front → Late past front → Late (e ∷ past) front
   at-entry past e front seen was =
-      subst (λ (m : Mind). IsLate f m (held real f (e ∷ past) (lines_of s.key front))) (sym (mind-entry real s.key past e front seen))
-      (λ g i closing at. reaches-later real f turn [] (e ∷ []) past (lines_of s.key front) (λ y i w. absurd i) (was g i closing at))
+      subst (λ (m : Mind). IsLate p f turn m (held real f (e ∷ past) (lines_of s.key front))) (sym (mind-entry real s.key past e front seen))
+      (λ g i closing at. entry-reaches s f turn past front e (was g i closing at))
 
-  late : (newer front : List Told) → journal ≡ newer ++ front → Plays stages real s h front → (later past : List Entry) → h ≡ later ++ past → Seen past front → Late past front
+  pub late : (newer front : List Told) → journal ≡ newer ++ front → Plays stages real s h front → (later past : List Entry) → h ≡ later ++ past → Seen past front → Late past front
   late newer front = over stages real s h journal Late (record { first = nothing-late; event = at-event; look = at-look; entry = at-entry }) newer front
 
 -- ---- the law
@@ -353,7 +394,7 @@ close_late s h journal legal plays distinct f g k p closing = by (known real s.k
 
     there : Reaches real f (2 * people f - 1) (held real f p.past (lines_of s.key p.front))
     there =
-        late s h journal legal distinct f some occurs p.newer p.front p.events front-plays p.later p.past p.entries p.before g found.there closing
+        late s h journal legal f some (fixed-is s h journal distinct f occurs) (Root (real.named f)) (2 * people f - 1) (root-runs f) p.newer p.front p.events front-plays p.later p.past p.entries p.before g found.there closing
         (found.at ∙ ap (λ (q : Part). Some q) root)
 
     by : Agree real s.key f (lines_of s.key p.front) (kept_of (real.named f) m.kept) (held real f p.past (lines_of s.key p.front)) → 2 * people k.chain.fixed ≤ next_of k

@@ -114,22 +114,25 @@ one-of : {A : Type 0} (a b : Option A) (x : A) (P : Type 0) → (a ≡ Some x �
 one-of None b x P f g e = g e
 one-of (Some y) b x P f g e = f e
 
-on-in : (f : FactsOf) (name : List ℕ) (parts : List Part) (p : Part) → unfinished_on f name parts ≡ Some p → In p parts
+-- the part that is found on a ledger, and the one that has a channel
+pub on-in : (f : FactsOf) (name : List ℕ) (parts : List Part) (p : Part) → unfinished_on f name parts ≡ Some p → In p parts × (is_among name (ledgers_of p) ≡ true)
 on-in f name [] p e = absurd (none-eq p e)
-on-in f name (q ∷ qs) p e = go (is_among name (ledgers_of q) && is_unfinished f q) (on-in f name qs p) e
+on-in f name (q ∷ qs) p e = go (is_among name (ledgers_of q) && is_unfinished f q) refl (on-in f name qs p) e
   where
-    go : (b : Bool) → (unfinished_on f name qs ≡ Some p → In p qs) → cond b (Some q) (unfinished_on f name qs) ≡ Some p → In p (q ∷ qs)
-    go true ih h = inl (sym (some-eq q p h))
-    go false ih h = inr (ih h)
+    go : (b : Bool) → (is_among name (ledgers_of q) && is_unfinished f q) ≡ b → (unfinished_on f name qs ≡ Some p → In p qs × (is_among name (ledgers_of p) ≡ true))
+        → cond b (Some q) (unfinished_on f name qs) ≡ Some p → In p (q ∷ qs) × (is_among name (ledgers_of p) ≡ true)
+    go true is ih h = (inl (sym (some-eq q p h)), subst (λ (x : Part). is_among name (ledgers_of x) ≡ true) (some-eq q p h) (and-left (is_among name (ledgers_of q)) (is_unfinished f q) is))
+    go false is ih h = let found = ih h in (inr found.0, found.1)
 
-with-in : (name : List ℕ) (parts : List Part) (p : Part) → part_with name parts ≡ Some p → In p parts
+pub with-in : (name : List ℕ) (parts : List Part) (p : Part) → part_with name parts ≡ Some p → In p parts × (is_among name (joined_of p) ≡ true)
 with-in name [] p e = absurd (none-eq p e)
-with-in name (q ∷ qs) p e = go (is_among name (joined_of q)) (with-in name qs p) e
+with-in name (q ∷ qs) p e = go (is_among name (joined_of q)) refl (with-in name qs p) e
   where
-    go : (b : Bool) → (part_with name qs ≡ Some p → In p qs) → cond b (Some q) (part_with name qs) ≡ Some p → In p (q ∷ qs)
-    go true ih h = inl (sym (some-eq q p h))
-    go false ih h = inr (ih h)
+    go : (b : Bool) → is_among name (joined_of q) ≡ b → (part_with name qs ≡ Some p → In p qs × (is_among name (joined_of p) ≡ true)) → cond b (Some q) (part_with name qs) ≡ Some p
+        → In p (q ∷ qs) × (is_among name (joined_of p) ≡ true)
+    go true is ih h = (inl (sym (some-eq q p h)), subst (λ (x : Part). is_among name (joined_of x) ≡ true) (some-eq q p h) is)
+    go false is ih h = let found = ih h in (inr found.0, found.1)
 
 -- it is one of the plan
 pub asked-there : (f : FactsOf) (name : List ℕ) (p : Part) → asked_in f name ≡ Some p → In p f.plan.parts
-asked-there f name p e = one-of (unfinished_on f name f.plan.parts) (part_with name f.plan.parts) p (In p f.plan.parts) (on-in f name f.plan.parts p) (with-in name f.plan.parts p) e
+asked-there f name p e = one-of (unfinished_on f name f.plan.parts) (part_with name f.plan.parts) p (In p f.plan.parts) (λ h. (on-in f name f.plan.parts p h).0) (λ h. (with-in name f.plan.parts p h).0) e

@@ -10,4 +10,8 @@ pub mod Openings
 pub mod Forged
 pub mod Carried
 pub mod Closing
+pub mod Noting
+pub mod Commanded
+pub mod Firsts
+pub mod Opening
 pub mod Places

@@ -27,11 +27,12 @@ use Rattle.node_laws.proofs.Bridging.{lines-append}
 use Rattle.node_laws.proofs.Once.{played_journals_are_honest}
 use Rattle.node_laws.proofs.Standing.{known}
 use Rattle.wish_laws.specs.Roots.{SetsUp}
-use Rattle.wish_laws.specs.Carried.{OpensWith, IsRepeatedIfAny}
+use Rattle.wish_laws.specs.Carried.{IsRepeatedIfAny}
 use Rattle.wish_laws.specs.Places.{RootPlace, RootsSignAtPlaces}
 use Rattle.wish_laws.proofs.Apart.{kept-apart}
 use Rattle.wish_laws.proofs.Carried.{set_ups_are_carried}
 use Rattle.wish_laws.proofs.Closing.{fixed-is, rest-plays, close_late}
+use Rattle.wish_laws.proofs.Opening.{root-opens}
 use Rattle.wish_laws.proofs.Roots.{roots_sign}
 
 newest-there : (states : List StateParts) (t : StateParts) → newest states ≡ Some t → In t states
@@ -55,8 +56,8 @@ sets-up-by f g k w fixed-is same good repeated closes = record {
     less a b h = omega arith
 
 sets-up : (s : Signing) (h : List Entry) (journal : List Told) → SignsWell real s → Legal real h → Plays stages real s h journal → Unforged real s.key h (lines_of s.key journal)
-    → NoCollision real h (lines_of s.key journal) → AreValid h (lines_of s.key journal) → (f : FixedParts) (g : Goal) (k : Kept) → RootPlace s h journal f g k → OpensWith f g.opening (lines_of s.key journal) → SetsUp g k
-sets-up s h journal signs legal plays unforged distinct valid f g k p first =
+    → NoCollision real h (lines_of s.key journal) → AreValid h (lines_of s.key journal) → (f : FixedParts) (g : Goal) (k : Kept) → RootPlace s h journal f g k → SetsUp g k
+sets-up s h journal signs legal plays unforged distinct valid f g k p =
     by (held real f p.past (lines_of s.key p.front)) refl
     (subst (λ (o : Option Kept). Agree real s.key f (lines_of s.key p.front) o (held real f p.past (lines_of s.key p.front))) p.keeps
     (known real s.key f p.past p.front (legal-suffix real p.later p.past (subst (Legal real) p.entries legal)) p.few).agree)
@@ -76,10 +77,10 @@ sets-up s h journal signs legal plays unforged distinct valid f g k p first =
         sets-up-by f g k w (same a.0) (a.1 (same a.0)) (subst (IsGoodIfAny real f) is (held-good real f one p.past (lines_of s.key p.front)))
         (subst (IsRepeatedIfAny f g.opening) is
         (set_ups_are_carried s.key h (lines_of s.key journal) legal (played_journals_are_honest stages real s h journal signs legal plays) unforged distinct valid f g.opening
-        (length p.past) p.opened first p.later p.past (lines_of s.key p.newer) (lines_of s.key p.front) p.entries whole)) (close_late s h journal legal plays distinct f g k p)
+        (length p.past) p.opened (root-opens s h journal legal plays f g k p) p.later p.past (lines_of s.key p.newer) (lines_of s.key p.front) p.entries whole)) (close_late s h journal legal plays distinct f g k p)
 
 pub at_places : RootsSignAtPlaces
-at_places s h journal signs legal plays unforged distinct valid f g k state p first wanted =
+at_places s h journal signs legal plays unforged distinct valid f g k state p wanted =
     roots_sign (mind_at real s.key p.past p.front) (real.named f) g k state
     (kept-apart stages real s h p.front (rest-plays s h p.newer p.front (subst (Plays stages real s h) p.events plays)) p.later p.past p.entries p.before) p.asked p.goal p.keeps
-    (sets-up s h journal signs legal plays unforged distinct valid f g k p first) wanted
+    (sets-up s h journal signs legal plays unforged distinct valid f g k p) wanted

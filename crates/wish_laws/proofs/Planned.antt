@@ -17,7 +17,7 @@ use Rattle.funding_value.specs.Parts.{own_channel, channels_of, channels}
 use Rattle.funding_value.specs.declared.plan.Goal.{Goal}
 use Rattle.funding_value.specs.declared.plan.Part.{Part}
 use Rattle.funding_value.specs.declared.plan.Part.TheVariants.{Root, OnLedger, End, Middle}
-use Rattle.net_model.specs.Journals.{In}
+use Rattle.net_model.specs.Journals.{In, is_followed}
 use Rattle.net_model.proofs.Members.{In-append_cases, mapped}
 use Rattle.net_party.specs.declared.command.Command.{Command}
 use Rattle.net_party.specs.declared.command.Command.TheVariants as commands
@@ -25,7 +25,7 @@ use Rattle.node_model.specs.Minds.{Mind, saw, noted_message, place_with, close_i
 use Rattle.node_model.specs.Openings.{opened_by, takes_part, virtual, parts_of, goals_of, are_apart}
 use Rattle.node_model.specs.Places.{Told, mind_at}
 use Rattle.node_model.specs.Playing.{Signing, signings, pending, Allowed, Plays}
-use Rattle.node_model.specs.Refusing.{part_with, is_planned, are_new, close_part}
+use Rattle.node_model.specs.Refusing.{part_with, is_planned, are_new, open_refusal, close_part}
 use Rattle.node_model.specs.Tables.{Tables}
 use Rattle.chain_laws.proofs.Tests.{and-left, and-right, and-both, clash}
 use Rattle.node_laws.proofs.Places.{mind-event, mind-watched, mind-entry}
@@ -35,31 +35,31 @@ use Rattle.wish_laws.proofs.Over.{Seen, IsKept, over, looked}
 
 -- ---- what an event makes of the plan
 
--- nothing; or it opens new channels; or it closes a part
-pub data Change (t : Tables) (r : Rules) (m new : Mind) : Type 0 where
-  stays : new.parts ≡ m.parts → new.goals ≡ m.goals → Change t r m new
-  opens : (command : Command) → are_new m (map r.named (opened_by command)) ≡ true → new.parts ≡ m.parts ++ parts_of r m.key command
-      → new.goals ≡ m.goals ++ goals_of (length m.parts) command → Change t r m new
+-- nothing; or its command opens new channels; or it closes a part
+pub data Change (t : Tables) (r : Rules) (deed : Deed) (of : Option Command) (m new : Mind) : Type 0 where
+  stays : new.parts ≡ m.parts → new.goals ≡ m.goals → Change t r deed of m new
+  opens : (command : Command) → is_followed deed ≡ true → of ≡ Some command → None ≡ open_refusal t r m command → new.parts ≡ m.parts ++ parts_of r m.key command
+      → new.goals ≡ m.goals ++ goals_of (length m.parts) command → Change t r deed of m new
   closes : (channel : List ℕ) → None ≡ close_part t m channel (part_with channel m.parts) → new.parts ≡ m.parts
-      → new.goals ≡ map (λ goal. close_if (goal.part == place_with channel m.parts) goal) m.goals → Change t r m new
+      → new.goals ≡ map (λ goal. close_if (goal.part == place_with channel m.parts) goal) m.goals → Change t r deed of m new
 
 pub event-changes : (t : Tables) (r : Rules) (s : Signing) (past : List Entry) (used : ℕ) (waits : Option Command) (deed : Deed) (command : Option Command) (m : Mind)
-    → Allowed t r s past m used waits deed command → Change t r m (did r deed command m)
+    → Allowed t r s past m used waits deed command → Change t r deed command m (did r deed command m)
 event-changes t r s past used waits (deeds.Commanded step (Some refusal)) None m allowed = stays refl refl
 event-changes t r s past used waits (deeds.Commanded step (Some refusal)) (Some command) m allowed = stays refl refl
 event-changes t r s past used waits (deeds.Commanded step None) None m allowed = stays refl refl
 event-changes t r s past used waits (deeds.Commanded step None) (Some (commands.Open f outcome)) m allowed =
-    opens (commands.Open f outcome) (accepted-new t r m (commands.Open f outcome) allowed.1) refl refl
+    opens (commands.Open f outcome) refl refl allowed.1 refl refl
 event-changes t r s past used waits (deeds.Commanded step None) (Some (commands.OpenOn ledger f asset amounts)) m allowed =
-    opens (commands.OpenOn ledger f asset amounts) (accepted-new t r m (commands.OpenOn ledger f asset amounts) allowed.1) refl refl
+    opens (commands.OpenOn ledger f asset amounts) refl refl allowed.1 refl refl
 event-changes t r s past used waits (deeds.Commanded step None) (Some (commands.OpenVirtual ledgers guarantors joint channel asset amounts)) m allowed =
-    opens (commands.OpenVirtual ledgers guarantors joint channel asset amounts) (accepted-new t r m (commands.OpenVirtual ledgers guarantors joint channel asset amounts) allowed.1) refl refl
+    opens (commands.OpenVirtual ledgers guarantors joint channel asset amounts) refl refl allowed.1 refl refl
 event-changes t r s past used waits (deeds.Commanded step None) (Some (commands.Pay channel asset amount)) m allowed = stays refl refl
 event-changes t r s past used waits (deeds.Commanded step None) (Some (commands.Close channel)) m allowed = closes channel allowed.1 refl refl
 event-changes t r s past used waits (deeds.Commanded step None) (Some commands.Exit) m allowed = stays refl refl
 event-changes t r s past used waits (deeds.Handled bytes None) command m allowed = at (message_of bytes)
   where
-    at : (o : Result Message ByteFault) → Change t r m (noted_message r o m)
+    at : (o : Result Message ByteFault) → Change t r (deeds.Handled bytes None) command m (noted_message r o m)
     at (Ok message) = stays refl refl
     at (Err fault) = stays refl refl
 event-changes t r s past used waits (deeds.Handled bytes (Some refusal)) command m allowed = stays refl refl
@@ -81,7 +81,7 @@ same-plan m new parts goals p = record {
 }
 
 -- the channels of the part of a command that opens
-opened-channels : (r : Rules) (key : List ℕ) (command : Command) → channels (parts_of r key command) ≡ map r.named (opened_by command)
+pub opened-channels : (r : Rules) (key : List ℕ) (command : Command) → channels (parts_of r key command) ≡ map r.named (opened_by command)
 opened-channels r key (commands.Open f outcome) = refl
 opened-channels r key (commands.OpenOn ledger f asset amounts) = refl
 opened-channels r key (commands.OpenVirtual ledgers guarantors joint channel asset amounts) = go (takes_part key channel)
@@ -100,7 +100,7 @@ append-nothing-yet : (xs ys zs : List (List ℕ)) → xs ++ (ys ++ zs) ≡ (xs +
 append-nothing-yet [] ys zs = refl
 append-nothing-yet (x ∷ xs) ys zs = ap (λ (n : List (List ℕ)). x ∷ n) (append-nothing-yet xs ys zs)
 
-channels-append : (xs ys : List Part) → channels (xs ++ ys) ≡ channels xs ++ channels ys
+pub channels-append : (xs ys : List Part) → channels (xs ++ ys) ≡ channels xs ++ channels ys
 channels-append [] ys = refl
 channels-append (x ∷ xs) ys = ap (λ (n : List (List ℕ)). channels_of x ++ n) (channels-append xs ys) ∙ append-nothing-yet (channels_of x) (channels xs) (channels ys)
 
@@ -177,10 +177,10 @@ closes-planned m new channel parts goals p = record {
         let same : g.part ≡ was.from.part = ap (λ (x : Goal). x.part) was.is ∙ close-part (was.from.part == place_with channel m.parts) was.from in
         subst (λ (n : ℕ). n < length new.parts) (sym same) (subst (λ (x : List Part). was.from.part < length x) (sym parts) (p.within was.from was.there))
 
-change-planned : (t : Tables) (r : Rules) (m new : Mind) → Change t r m new → Planned m → Planned new
-change-planned t r m new (stays parts goals) p = same-plan m new parts goals p
-change-planned t r m new (opens command fresh parts goals) p = opens-planned r m new command fresh parts goals p
-change-planned t r m new (closes channel accepted parts goals) p = closes-planned m new channel parts goals p
+change-planned : (t : Tables) (r : Rules) (deed : Deed) (of : Option Command) (m new : Mind) → Change t r deed of m new → Planned m → Planned new
+change-planned t r deed of m new (stays parts goals) p = same-plan m new parts goals p
+change-planned t r deed of m new (opens command followed is accepted parts goals) p = opens-planned r m new command (accepted-new t r m command accepted) parts goals p
+change-planned t r deed of m new (closes channel accepted parts goals) p = closes-planned m new channel parts goals p
 
 -- ---- over the places
 
@@ -196,7 +196,7 @@ module _ (t : Tables) (r : Rules) (s : Signing) (h : List Entry) where
   plan-is-kept journal = record {
     first = no-plan;
     event = λ past x front at was. subst Planned (sym (mind-event r s.key past x front at.len))
-        (change-planned t r (mind_at r s.key past front) (did r x.deed x.command (mind_at r s.key past front))
+        (change-planned t r x.deed x.command (mind_at r s.key past front) (did r x.deed x.command (mind_at r s.key past front))
         (event-changes t r s past (signings front) (pending front) x.deed x.command (mind_at r s.key past front) (at.event.place at.later past at.entries at.len).1) was);
     look = λ past x front w was. subst Planned (sym (mind-watched r s.key past x front (looked r x.deed x.command w))) was;
     entry = λ past e front seen was. subst Planned (sym (mind-entry r s.key past e front seen)) (same-plan (mind_at r s.key past front) (saw r e (mind_at r s.key past front)) refl refl was);
@@ -207,11 +207,11 @@ module _ (t : Tables) (r : Rules) (s : Signing) (h : List Entry) where
 
 -- ---- a channel is of one part
 
-or-true : (a b : Bool) → b ≡ true → (a || b) ≡ true
+pub or-true : (a b : Bool) → b ≡ true → (a || b) ≡ true
 or-true true b e = refl
 or-true false b e = e
 
-own-among : (p : Part) → is_among (own_channel p) (channels_of p) ≡ true
+pub own-among : (p : Part) → is_among (own_channel p) (channels_of p) ≡ true
 own-among (Root channel) = ap (λ (b : Bool). b || false) (bytes_eq_self channel)
 own-among (OnLedger ledger channel) = ap (λ (b : Bool). b || false) (bytes_eq_self channel)
 own-among (End v) =
@@ -219,7 +219,7 @@ own-among (End v) =
 own-among (Middle v) =
     or-true (bytes_eq v.channel v.guarantor_a) _ (or-true (bytes_eq v.channel v.guarantor_b) _ (or-true (bytes_eq v.channel v.joint) _ (ap (λ (b : Bool). b || false) (bytes_eq_self v.channel))))
 
-in-left : (c : List ℕ) (xs ys : List (List ℕ)) → is_among c xs ≡ true → is_among c (xs ++ ys) ≡ true
+pub in-left : (c : List ℕ) (xs ys : List (List ℕ)) → is_among c xs ≡ true → is_among c (xs ++ ys) ≡ true
 in-left c [] ys e = absurd cc
 in-left c (x ∷ xs) ys e = go (bytes_eq c x) (in-left c xs ys) e
   where
@@ -231,7 +231,7 @@ in-right : (c : List ℕ) (xs ys : List (List ℕ)) → is_among c ys ≡ true �
 in-right c [] ys e = e
 in-right c (x ∷ xs) ys e = or-true (bytes_eq c x) (is_among c (xs ++ ys)) (in-right c xs ys e)
 
-among-channels : (c : List ℕ) (parts : List Part) (p : Part) → In p parts → is_among c (channels_of p) ≡ true → is_among c (channels parts) ≡ true
+pub among-channels : (c : List ℕ) (parts : List Part) (p : Part) → In p parts → is_among c (channels_of p) ≡ true → is_among c (channels parts) ≡ true
 among-channels c [] p i e = absurd i
 among-channels c (x ∷ xs) p (inl same) e = in-left c (channels_of x) (channels xs) (ap (λ (q : Part). is_among c (channels_of q)) (sym same) ∙ e)
 among-channels c (x ∷ xs) p (inr i) e = in-right c (channels_of x) (channels xs) (among-channels c xs p i e)
@@ -250,7 +250,7 @@ apart-right : (xs ys : List (List ℕ)) → are_apart (xs ++ ys) ≡ true → ar
 apart-right [] ys e = e
 apart-right (x ∷ xs) ys e = apart-right xs ys (and-right (not (is_among x (xs ++ ys))) (are_apart (xs ++ ys)) e)
 
-one-part : (c : List ℕ) (parts : List Part) (p q : Part) → are_apart (channels parts) ≡ true → In p parts → In q parts → is_among c (channels_of p) ≡ true → is_among c (channels_of q) ≡ true → p ≡ q
+pub one-part : (c : List ℕ) (parts : List Part) (p q : Part) → are_apart (channels parts) ≡ true → In p parts → In q parts → is_among c (channels_of p) ≡ true → is_among c (channels_of q) ≡ true → p ≡ q
 one-part c [] p q apart i j e f = absurd i
 one-part c (x ∷ xs) p q apart (inl a) (inl b) e f = a ∙ sym b
 one-part c (x ∷ xs) p q apart (inl a) (inr j) e f =

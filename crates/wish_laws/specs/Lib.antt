@@ -2,3 +2,4 @@ pub mod Roots
 pub mod Forged
 pub mod Carried
 pub mod Places
+pub mod Opens

@@ -19,7 +19,6 @@ use Rattle.node_model.specs.Places.{Told, lines_of, mind_at, AreFew}
 use Rattle.node_model.specs.Playing.{Signing, SignsWell, Plays}
 use Rattle.node_model.specs.Refusing.{wish, signs_in}
 use Rattle.node_tables.specs.Stages.{stages}
-use Rattle.wish_laws.specs.Carried.{OpensWith}
 
 -- A place of a history and a journal, and a root that the journal opened, with its goal and what is kept of it there. No
 -- event but a look had seen more.
@@ -45,13 +44,12 @@ RootsCloseAfterSetUp =
     → NoCollision real h (lines_of s.key journal) → (f : FixedParts) (g : Goal) (k : Kept)
     → RootPlace s h journal f g k → g.closing ≡ true → 2 * people k.chain.fixed ≤ next_of k
 
--- if what was noted in the first round repeats the opening outcome
+-- what the stage of a root wants is signed
 abbrev pub RootsSignAtPlaces : Type 0
 RootsSignAtPlaces =
     (s : Signing) (h : List Entry) (journal : List Told) → SignsWell real s → Legal real h
     → Plays stages real s h journal → Unforged real s.key h (lines_of s.key journal)
     → NoCollision real h (lines_of s.key journal) → AreValid h (lines_of s.key journal)
     → (f : FixedParts) (g : Goal) (k : Kept) (state : StateParts) (p : RootPlace s h journal f g k)
-    → OpensWith f g.opening (lines_of s.key journal)
     → wish stages None (mind_at real s.key p.past p.front) (real.named f) k ≡ Some state
     → signs_in stages real None (mind_at real s.key p.past p.front) (real.named f) ≡ Some state

@@ -3,6 +3,7 @@
 
 ghost use Rattle.wish_laws.specs.Carried.{SetUpsAreCarried};
 ghost use Rattle.wish_laws.specs.Forged.{GuardBites};
+ghost use Rattle.wish_laws.specs.Opens.{RootsOpenWith};
 ghost use Rattle.wish_laws.specs.Places.{RootsCloseAfterSetUp, RootsSignAtPlaces};
 ghost use Rattle.wish_laws.specs.Roots.{RootsOpenAsCommanded, RootsSignWhatTheyWant};
 
@@ -30,6 +31,12 @@ pub fn set_ups_are_carried()
     ensures { SetUpsAreCarried }
 {}
 
+/// What a node signs of a channel that holds its own funds in the first round, and takes from a message, repeats the outcome of
+/// the command that opened it, over each legal history and each journal that its rules give.
+pub fn roots_open_with()
+    ensures { RootsOpenWith }
+{}
+
 /// At a place of a node's journal over a legal history, where names don't collide, the set-up of a root of which Close was
 /// commanded is over.
 pub fn roots_close_after_set_up()
@@ -37,7 +44,7 @@ pub fn roots_close_after_set_up()
 {}
 
 /// At a place of a node's journal over a legal history, where nothing is forged and names don't collide, a node signs each state
-/// that the stage of a root wants, if what it signed and took in the first round repeats the opening outcome.
+/// that the stage of a root wants.
 pub fn roots_sign_at_places()
     ensures { RootsSignAtPlaces }
 {}

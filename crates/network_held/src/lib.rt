@@ -1,0 +1,12 @@
+//! A law alone: what a participant holds of a channel ends with an outcome with which the channel could end, under the
+//! network's own rules.
+#![tactic(auto)]
+
+ghost use Rattle.network_held.specs.Laws.{HeldStatesCanEnd};
+
+/// Where nothing is forged and no hashed strings collide, each supported chain that an honest participant holds at a place
+/// ends with fewer than n steps of others after the state that it signed last, in the outcome of that state, in the one that
+/// is proposed there, or in a payment channel in one that is no worse for it.
+pub fn held_states_can_end()
+    ensures { HeldStatesCanEnd }
+{}

@@ -1,0 +1,17 @@
+pub mod OpeningChannels
+pub mod PlanSettings
+pub mod PlanSeats
+pub mod PlanParts
+pub mod PlanLaws
+pub mod SeatSitting
+pub mod SeatLaws
+pub mod PaymentLaws
+pub mod LedgerMoving
+pub mod LedgerLending
+pub mod LedgerKeeping
+pub mod LedgerWanting
+pub mod LedgerPlaces
+pub mod LedgerLaws
+pub mod LedgerSimple
+pub mod Wanting
+pub mod Laws
