@@ -4,3 +4,4 @@ pub mod Shares
 pub mod Gets
 pub mod Got
 pub mod Notes
+pub mod Holds

@@ -6,8 +6,9 @@ ghost use Rattle.node_model.specs.Openings.{opened_by};
 ghost use Rattle.node_ways.proofs.Kept.{nodes_are_kept};
 ghost use Rattle.net_node.specs.Gets.{nodes_get};
 ghost use Rattle.net_node.specs.Got.{nodes_got};
+ghost use Rattle.net_node.specs.Holds.{nodes_hold};
 ghost use Rattle.net_node.specs.Openings.{lines_are_told};
-ghost use Rattle.net_node.specs.Shares.{shares, exits, left, orders, is_lost};
+ghost use Rattle.net_node.specs.Shares.{shares, exits, left, orders, named, is_lost};
 
 use crate::node::Node;
 use crate::sharing::share_known;
@@ -60,6 +61,8 @@ impl Told for Node {
 
     ghost orders = { orders };
 
+    ghost named = { named };
+
     ghost lost = { is_lost };
 
     fn share(&self, asset: u32) -> Result<u128, NoMemory> {
@@ -86,4 +89,6 @@ impl Told for Node {
     ghost gets = { nodes_get };
 
     ghost got = { nodes_got };
+
+    ghost holds = { nodes_hold };
 }

@@ -4,3 +4,4 @@ pub mod Honest
 pub mod Once
 pub mod Shared
 pub mod Left
+pub mod Keeping

@@ -1,11 +1,12 @@
 -- What a report tells of a play, and what it says of the people with nodes.
-use Rattle.std.specs.Prelude.{◌≡◌, ℕ, true, List, map, flat_map, Option, IsTrue, ◌↔◌}
+use Rattle.std.specs.Prelude.{◌≡◌, ◌++◌, ℕ, true, List, map, flat_map, Option, IsTrue, ◌↔◌}
 use Rattle.std.specs.List.{AllByRecursion}
 use Rattle.nitro_bytes.specs.Parts.{FixedParts}
 use Rattle.channel_name.specs.Digests.{name_of_person}
 use Rattle.channel_calls.specs.History.{flows_of, newest_first}
 use Rattle.channel_calls.specs.declared.entry.Entry.{Entry}
 use Rattle.flow_balances.specs.Receipts.{assets_of}
+use Rattle.net_model.specs.Hashed.{of_fixed}
 use Rattle.net_model.specs.Honest.{Honest}
 use Rattle.net_model.specs.Journals.{In, Line}
 use Rattle.net_model.specs.Safety.{IsSafe}
@@ -21,7 +22,7 @@ use Rattle.script_play.specs.Play.{SceneOf, play}
 use Rattle.script_reader.specs.declared.step.Step.{Step}
 use Rattle.share_model.specs.Places.{Order}
 use Rattle.support_chain.specs.Real.{real}
-use Rattle.told_party.specs.Telling.{Pairwise, HaveFixed, Tale}
+use Rattle.told_party.specs.Telling.{Pairwise, HaveFixed, Tale, PlansDirectly, Keeps, KeepsIf}
 use Rattle.play_report.specs.Shares.{shares_of, exits_of, real_shares, real_exits}
 
 -- What is told of the person with this journal: each premise holds exactly where its definition does, whatever the
@@ -60,6 +61,23 @@ module _ {P : Type 0} (ways : Ways P) where
   abbrev pub AllSafe : Report → List (MemberOf P) → Type 0
   AllSafe r members = Pairwise (IsSafeIf r) members r.premises
 
+  -- Where all three premises are told to hold, the strings of the fixed parts that its own commands name don't collide with
+  -- others either, and its plan has no virtual channels, nobody lowers the share of the person, and it can
+  -- leave with it.
+  abbrev pub IsKeptIf : (P → ℕ → Order) → (P → List FixedParts) → Report → MemberOf P → Judged → Type 0
+  IsKeptIf orders named r m p =
+      p.unforged ≡ true → p.distinct ≡ true → p.in_time ≡ true
+      → DistinctWith r.history r.journals (strings_added (ways.lines m.node) ++ flat_map of_fixed (named m.node))
+      → PlansDirectly ways orders m.node → Keeps ways orders (newest_first r.history) m.node
+
+  -- so of each person with a node
+  abbrev pub AllKept : (P → ℕ → Order) → (P → List FixedParts) → Report → List (MemberOf P) → Type 0
+  AllKept orders named r members = Pairwise (IsKeptIf orders named r) members r.premises
+
+  -- so do the nodes over the history of the report
+  abbrev pub AllKeep : (P → ℕ → Order) → (P → List FixedParts) → Report → List (MemberOf P) → Type 0
+  AllKeep orders named r members = (m : MemberOf P) → In m members → KeepsIf ways orders named (newest_first r.history) m.node
+
   -- What is told of each person's share of each asset that was deposited is its share over the whole history and its whole
   -- journal, where `orders` says what its commands asked for.
   abbrev pub AllShared : (P → ℕ → Order) → Report → List (MemberOf P) → Type 0
@@ -78,6 +96,9 @@ module _ {P : Type 0} (ways : Ways P) where
 
   abbrev pub PlaysSafely : Report → List Step → Type 0
   PlaysSafely r steps = AllSafe r (play ways steps).world.members
+
+  abbrev pub PlaysKept : (P → ℕ → Order) → (P → List FixedParts) → Report → List Step → Type 0
+  PlaysKept orders named r steps = AllKept orders named r (play ways steps).world.members
 
   abbrev pub PlaysShares : (P → ℕ → Order) → Report → List Step → Type 0
   PlaysShares orders r steps = AllShared orders r (play ways steps).world.members

@@ -7,7 +7,7 @@ ghost use Rattle.net_model.specs.Valid.{IsValidEntry, IsValidEvent};
 ghost use Rattle.net_world.specs.Entered.{oldest_first};
 ghost use Rattle.support_chain.specs.Real.{real};
 ghost use Rattle.script_reader.specs.Bounds.{Fits, persons_of, rounds_of, signers_of};
-ghost use Rattle.play_report.specs.Reported.{Tells, IsPlayed, journal_of, told_shares, told_exits, AllFixed, AllHonest, AllSafe, PlaysHonestly, PlaysSafely, PlaysShares, PlaysExits};
+ghost use Rattle.play_report.specs.Reported.{Tells, IsPlayed, journal_of, told_shares, told_exits, AllFixed, AllHonest, AllSafe, AllKeep, AllKept, PlaysHonestly, PlaysSafely, PlaysKept, PlaysShares, PlaysExits};
 ghost use Rattle.play_report.specs.Shares.{HasFollowed};
 ghost use Rattle.told_party.specs.Telling.{tale_of};
 
@@ -65,6 +65,8 @@ fn report_of<P: Told, D: Docket>(alloc: Global, scene: Scene<P, D>) -> Result<Re
     ensures valid { IfOk result (λ report. AllByRecursion IsValidEntry report.history) }
     ensures safe { IfOk result (λ report. AllHonest P.ways report scene.world.members
         → AllSafe P.ways report scene.world.members) }
+    ensures kept { IfOk result (λ report. AllKeep P.ways P.orders P.named report scene.world.members
+        → AllKept P.ways P.orders P.named report scene.world.members) }
     ensures followed { OnOk result (AllByRecursion (λ m. HasFollowed P.ways P.lost (length (oldest_first scene.world.history)) m.node) scene.world.members) }
 {
     let tales = tales_of(alloc, &scene)?;
@@ -103,6 +105,9 @@ pub fn report_play<P: Told, D: Docket>(
 
     // Each person with a node is safe where its premises are told to hold.
     ensures safe { IfOk result (λ report. PlaysSafely P.ways report steps.now) }
+
+    // And where its plan has no virtual channels, nobody lowers its share, and it can leave with it.
+    ensures kept { IfOk result (λ report. PlaysKept P.ways P.orders P.named report steps.now) }
 
     // What is told of each share is the definition's, over the whole history and the person's journal.
     ensures shares { IfOk result (λ report. PlaysShares P.ways P.orders report steps.now) }

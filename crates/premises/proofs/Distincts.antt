@@ -6,6 +6,7 @@ use Rattle.sha2.specs.Sha256.{sha256}
 use Rattle.channel_calls.proofs.Names.{same_bytes, bytes_eq_self}
 use Rattle.nitro_bytes.specs.Parts.{FixedParts}
 use Rattle.channel_name.specs.Collisions.{NoneCollide}
+use Rattle.channel_name.specs.Digests.{person_string}
 use Rattle.channel_calls.specs.declared.entry.Entry.{Entry}
 use Rattle.channel_calls.specs.declared.event.Deed.{Deed}
 use Rattle.channel_calls.specs.declared.event.Event.{Event}
@@ -70,6 +71,13 @@ suffices =
           λ h journals j adds there.
           fewer (hashed (reverse h) (lines adds (reverse j.events))) (distinct_strings h journals ++ strings_added (lines adds (reverse j.events)))
           (λ s i. either h journals j adds s (among h journals j adds there s i));
+      with_named =
+          λ h journals j adds more there.
+          fewer (hashed (reverse h) (lines adds (reverse j.events)) ++ (person_string j.key ∷ flat_map of_fixed more))
+          (distinct_strings h journals ++ (strings_added (lines adds (reverse j.events)) ++ flat_map of_fixed more))
+          (λ s i.
+          named-either h journals j adds more there s
+          (In-append_cases s (hashed (reverse h) (lines adds (reverse j.events))) (person_string j.key ∷ flat_map of_fixed more) i));
       with_known_commands =
           λ h journals j adds there known.
           fewer (hashed (reverse h) (lines adds (reverse j.events))) (distinct_strings h journals)
@@ -80,6 +88,23 @@ suffices =
         → In s (distinct_strings h journals) ⊎ In s (strings_added (lines adds (reverse j.events))) → In s (distinct_strings h journals ++ strings_added (lines adds (reverse j.events)))
     either h journals j adds s (inl i) = In-append_left s (distinct_strings h journals) (strings_added (lines adds (reverse j.events))) i
     either h journals j adds s (inr i) = In-append_right s (distinct_strings h journals) (strings_added (lines adds (reverse j.events))) i
+
+    with-more : (h : List Entry) (journals : List Journal) (added more : List (List ℕ)) (s : List ℕ)
+        → In s (distinct_strings h journals) ⊎ In s added → In s (distinct_strings h journals ++ (added ++ more))
+    with-more h journals added more s (inl i) = In-append_left s (distinct_strings h journals) (added ++ more) i
+    with-more h journals added more s (inr i) = In-append_right s (distinct_strings h journals) (added ++ more) (In-append_left s added more i)
+
+    named-either : (h : List Entry) (journals : List Journal) (j : Journal) (adds : ℕ → List FixedParts) (more : List FixedParts) → In j journals → (s : List ℕ)
+        → In s (hashed (reverse h) (lines adds (reverse j.events))) ⊎ In s (person_string j.key ∷ flat_map of_fixed more)
+        → In s (distinct_strings h journals ++ (strings_added (lines adds (reverse j.events)) ++ flat_map of_fixed more))
+    named-either h journals j adds more there s (inl i) =
+        with-more h journals (strings_added (lines adds (reverse j.events))) (flat_map of_fixed more) s (among h journals j adds there s i)
+    named-either h journals j adds more there s (inr (inl e)) =
+        In-append_left s (distinct_strings h journals) (strings_added (lines adds (reverse j.events)) ++ flat_map of_fixed more)
+        (In-append_right s (flat_map of_entry h) (flat_map of_journal journals) (In-flat_map of_journal s j journals there (inl e)))
+    named-either h journals j adds more there s (inr (inr i)) =
+        In-append_right s (distinct_strings h journals) (strings_added (lines adds (reverse j.events)) ++ flat_map of_fixed more)
+        (In-append_right s (strings_added (lines adds (reverse j.events))) (flat_map of_fixed more) i)
 
     known-either : (h : List Entry) (journals : List Journal) (j : Journal) (adds : ℕ → List FixedParts)
         → ((s : List ℕ) → In s (strings_added (lines adds (reverse j.events))) → In s (distinct_strings h journals)) → (s : List ℕ)

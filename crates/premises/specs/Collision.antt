@@ -49,12 +49,17 @@ abbrev pub DistinctWith : List Entry → List Journal → List (List ℕ) → Ty
 DistinctWith h journals more = NoneCollide (distinct_strings h journals ++ more)
 
 -- For each of the journals: where no strings collide, those of its commands among them, none do that the laws of safety
--- speak of; and Distinct is enough where its commands add no new string.
+-- speak of, nor do more fixed parts and its key, where these fixed parts' strings don't; and Distinct is enough where its
+-- commands add no new string.
 pub record DistinctSuffices : Type 0 where
   pub with_commands :
       (h : List Entry) (journals : List Journal) (j : Journal) (adds : ℕ → List FixedParts) → In j journals
       → DistinctWith h journals (strings_added (lines adds (reverse j.events)))
       → NoneCollide (hashed (reverse h) (lines adds (reverse j.events)))
+  pub with_named :
+      (h : List Entry) (journals : List Journal) (j : Journal) (adds : ℕ → List FixedParts) (more : List FixedParts) → In j journals
+      → DistinctWith h journals (strings_added (lines adds (reverse j.events)) ++ flat_map of_fixed more)
+      → NoneCollide (hashed (reverse h) (lines adds (reverse j.events)) ++ (person_string j.key ∷ flat_map of_fixed more))
   pub with_known_commands :
       (h : List Entry) (journals : List Journal) (j : Journal) (adds : ℕ → List FixedParts) → In j journals
       → ((s : List ℕ) → In s (strings_added (lines adds (reverse j.events))) → In s (distinct_strings h journals))

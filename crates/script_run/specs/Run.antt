@@ -3,13 +3,14 @@ use Rattle.std.specs.Prelude.{◌≡◌, ◌≤◌, ◌<◌, ℕ, List, [], ◌�
 use Rattle.std.specs.Fmt.{decimal}
 use Rattle.std.specs.Str.{bytes_eq}
 use Rattle.std.specs.Io.KnownBytes.{Consumes, IsAtEnd}
+use Rattle.nitro_bytes.specs.Parts.{FixedParts}
 use Rattle.script_reader.specs.Outside.{Rose}
 use Rattle.script_reader.specs.Script.{IsScript, Breaks}
 use Rattle.script_reader.specs.declared.step.Rule.{Rule}
 use Rattle.script_reader.specs.declared.step.Rule.TheVariants as rules
 use Rattle.script_reader.specs.declared.step.Step.{Step}
 use Rattle.net_model.specs.Journals.{Line}
-use Rattle.play_report.specs.Reported.{IsPlayed, PlaysHonestly, PlaysSafely, PlaysShares, PlaysExits}
+use Rattle.play_report.specs.Reported.{IsPlayed, PlaysHonestly, PlaysSafely, PlaysKept, PlaysShares, PlaysExits}
 use Rattle.report_text.specs.Report.{text_of}
 use Rattle.report_text.specs.Text.{◌&◌, ended}
 use Rattle.report_text.specs.declared.report.Report.{Report}
@@ -92,13 +93,14 @@ module _ {P : Type 0} (tale : Tale P) where
   EndsAs g WriteFault report = ⊥
   EndsAs g TooLong (Some report) = ⊥
 
-  -- The end has its cause, and of a report people have honest journals and are safe, and their shares, at the end and at
-  -- their exits, are those of the definition, where `left` says which lines come up to an exit and `orders` what commands
-  -- ask for.
-  pub record RunsTo (left : P → Option (List Line)) (orders : P → ℕ → Order) (g : Given) (status : Status) (report : Option Report) : Type 0 where
+  -- The end has its cause, and of a report people have honest journals, are safe and keep their shares, and their shares, at
+  -- the end and at their exits, are those of the definition, where `left` says which lines come up to an exit, `orders` what
+  -- commands ask for and `named` which fixed parts they name.
+  pub record RunsTo (left : P → Option (List Line)) (orders : P → ℕ → Order) (named : P → List FixedParts) (g : Given) (status : Status) (report : Option Report) : Type 0 where
     pub ends : EndsAs g status report
     pub honest : IfSome report (λ r. ComesOf g r (PlaysHonestly tale.ways r))
     pub safe : IfSome report (λ r. ComesOf g r (PlaysSafely tale.ways r))
+    pub kept : IfSome report (λ r. ComesOf g r (PlaysKept tale.ways orders named r))
     pub shares : IfSome report (λ r. ComesOf g r (PlaysShares tale.ways orders r))
     pub exits : IfSome report (λ r. ComesOf g r (PlaysExits tale.ways left orders r))
 

@@ -9,10 +9,10 @@ ghost use Rattle.script_reader.specs.Outside.{Rose};
 ghost use Rattle.script_run.specs.Outside.{AppendsPart};
 ghost use Rattle.script_run.specs.declared.asking.Asked.{Asked};
 ghost use Rattle.script_run.specs.declared.run.Status.{Status};
-ghost use Rattle.play_report.specs.Reported.{PlaysHonestly, PlaysSafely, PlaysShares, PlaysExits};
+ghost use Rattle.play_report.specs.Reported.{PlaysHonestly, PlaysSafely, PlaysKept, PlaysShares, PlaysExits};
 ghost use Rattle.told_party.specs.Telling.{tale_of};
 ghost use Rattle.node_ways.specs.Ways.{ways};
-ghost use Rattle.net_node.specs.Shares.{tale, left, orders};
+ghost use Rattle.net_node.specs.Shares.{tale, left, orders, named};
 ghost use Rattle.script_run.specs.Run.{Given, IsSound, given, code_of, asked, EndsAs, ComesOf, RunsTo, rule_text, owed};
 
 use crate::asking::Asked;
@@ -86,7 +86,7 @@ fn without_report(status: Status) -> Ended
 fn run_script<P: Told>(alloc: Global, bytes: &[u8]) -> Result<Ended, NoMemory>
     ensures ends { (given : Given) → asked given.words ≡ Some Asked.Run → Consumes given.before given.after bytes.now
         → IsAtEnd given.after → length bytes.now ≤ 4194304
-        → IfOk result (λ ended. RunsTo (tale_of P.ways P.shares P.exits) P.left P.orders given ended.status ended.report) }
+        → IfOk result (λ ended. RunsTo (tale_of P.ways P.shares P.exits) P.left P.orders P.named given ended.status ended.report) }
     ensures legal { IfOk result (λ ended. IfSome ended.report (λ report. Legal real (newest_first report.history))) }
 {
     match read_script_with_signers(alloc, bytes, false) {
@@ -109,7 +109,7 @@ fn work<P: Told, S: Source>(
     words: &[Label],
     source: &mut S,
 ) -> Result<Ended, NoMemory>
-    ensures ends { IfOk result (λ ended. RunsTo (tale_of P.ways P.shares P.exits) P.left P.orders (given S.left S.faults words.now source.old source.new) ended.status ended.report) }
+    ensures ends { IfOk result (λ ended. RunsTo (tale_of P.ways P.shares P.exits) P.left P.orders P.named (given S.left S.faults words.now source.old source.new) ended.status ended.report) }
     ensures legal { IfOk result (λ ended. IfSome ended.report (λ report. Legal real (newest_first report.history))) }
 {
     let Some(Asked::Run) = asked(words) else {
@@ -202,6 +202,14 @@ pub fn run_words<S: Source, K: Sink>(
     // older than its newest supported state.
     ensures safe { IfSome result.report (λ report.
         ComesOf tale (given S.left S.faults words.now source.old source.new) report (PlaysSafely ways report)) }
+
+    // Where moreover the strings of all fixed parts that its accepted commands name don't collide with others, and its plan has
+    // no virtual channels, nobody lowers its share: no entry by anybody does, and its own signature does by no more than the
+    // payment that was commanded right before, or, where none was and its plan is funded, not at all. And it can leave with it:
+    // what it had where it signed its last state is paid to it once its channels are final and the calls of its exit stand
+    // after that, whatever others enter between.
+    ensures kept { IfSome result.report (λ report.
+        ComesOf tale (given S.left S.faults words.now source.old source.new) report (PlaysKept ways orders named report)) }
 
     // Each printed share is what the person can get by the definition, over the whole history and its journal: what it was
     // paid and the least that its parts are worth, whichever outcomes its channels end with.

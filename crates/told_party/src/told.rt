@@ -2,10 +2,11 @@
 
 ghost use Rattle.std.specs.Prelude.{◌≡◌, ℕ, List, Bool, Option, IfOk, reverse};
 ghost use Rattle.std.specs.Option.{option_map};
+ghost use Rattle.nitro_bytes.specs.Parts.{FixedParts};
 ghost use Rattle.net_model.specs.Journals.{Line};
 ghost use Rattle.share_model.specs.Places.{Order};
 ghost use Rattle.world_laws.specs.Standing.{AreKept};
-ghost use Rattle.told_party.specs.Telling.{AreTold, HaveFixed, SharesAreReal, ExitsAreReal};
+ghost use Rattle.told_party.specs.Telling.{AreTold, HaveFixed, SharesAreReal, ExitsAreReal, KeepsShares};
 
 use net_party::Party;
 use nitro_bytes::NoMemory;
@@ -24,6 +25,9 @@ pub trait Told: Party {
 
     // What each of its commands asks for, by the number of lines before it.
     ghost orders: { Self → ℕ → Order };
+
+    // The fixed parts that its accepted commands name.
+    ghost named: { Self → List FixedParts };
 
     // Whether memory failed it.
     ghost lost: { Self → Bool };
@@ -54,4 +58,7 @@ pub trait Told: Party {
 
     // What it tells of its exit are those of the definition just after the command.
     ghost got: { ExitsAreReal Self.ways Self.stands lost exits left orders };
+
+    // Nobody lowers the share of a person whose plan has no virtual channels, and it can leave with it.
+    ghost holds: { KeepsShares Self.ways Self.stands orders named };
 }
