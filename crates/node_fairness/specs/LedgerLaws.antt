@@ -8,8 +8,7 @@ use Rattle.stage_rules.specs.Seats.{down_in, toward}
 use Rattle.node_fairness.specs.LedgerKeeping.{LedgerKeeps}
 use Rattle.node_fairness.specs.LedgerLending.{Lent, lent}
 
--- What a part wants on a ledger once it closes gives back what was set aside. (Of what its channels end with; see the laws
--- on payments and on joint channels.)
+-- What a part wants on a ledger once it closes gives back what was set aside.
 abbrev pub GivesBack : FactsOf → Type 0
 GivesBack f =
     (p : Part) (l : List ℕ) (k : Lent) (ab : ℕ × ℕ) (state : StateParts) → In p f.plan.parts → lent f l p ≡ Some k → k.back ≡ Some ab
