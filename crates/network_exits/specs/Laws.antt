@@ -1,5 +1,5 @@
 -- The law on exits, under the network's own rules.
-use Rattle.std.specs.Prelude.{◌≡◌, ℕ, ◌≤◌, Bool, true, false, List, ◌++◌, reverse}
+use Rattle.std.specs.Prelude.{◌≡◌, ℕ, ◌≤◌, List, ◌++◌, reverse}
 use Rattle.channel_name.specs.Collisions.{NoneCollide}
 use Rattle.channel_name.specs.Digests.{name_of_person}
 use Rattle.channel_calls.specs.History.{Legal, paid_to}
@@ -8,8 +8,6 @@ use Rattle.net_model.specs.Hashed.{hashed}
 use Rattle.net_model.specs.Journals.{Line}
 use Rattle.net_model.specs.Honest.{Honest}
 use Rattle.net_model.specs.Premises.{Unforged, InTime}
-use Rattle.funding_value.specs.declared.plan.Part.{Part}
-use Rattle.funding_value.specs.declared.plan.Part.TheVariants.{Root, OnLedger}
 use Rattle.share_model.specs.Kept.{SharesAreKept}
 use Rattle.share_model.specs.Places.{Order, plan, share, IsPlace}
 use Rattle.support_chain.specs.Real.{real}
@@ -52,9 +50,3 @@ NetworkLeaversArePaid h journal =
 pub record KeepsItsShare (me : List ℕ) (orders : ℕ → Order) (h : List Entry) (journal : List Line) : Type 0 where
   pub kept : SharesAreKept real me orders h journal
   pub paid : LeaversArePaid me orders h journal
-
--- a channel without an intermediary, which holds its own funds or is funded by a ledger
-abbrev pub is_direct : Part → Bool
-is_direct (Root c) = true
-is_direct (OnLedger l c) = true
-is_direct part = false

@@ -1,5 +1,5 @@
 -- What is known of a node's plan at each place of its journal: the parts with their goals, and that ledgers were opened before.
-use Rattle.std.proofs.Common.{◌≡◌, ℕ, ◌+◌, true, List, [], ◌∷◌, ◌++◌, inl, inr, length, refl, sym, ◌∙◌, ap, subst, arith}
+use Rattle.std.proofs.Common.{◌≡◌, ℕ, ◌+◌, true, List, [], ◌∷◌, ◌++◌, inl, inr, length, refl, sym, ◌∙◌, subst, arith}
 use Rattle.std.specs.Prelude.{◌==◌, Option, Some, None, map, Result, Ok, Err}
 use Rattle.nitro_bytes.specs.Parts.{FixedParts, IsFixed}
 use Rattle.nitro_bytes.specs.declared.fault.ByteFault.{ByteFault}
@@ -18,11 +18,9 @@ use Rattle.funding_value.specs.declared.plan.Part.{Part}
 use Rattle.funding_value.specs.declared.plan.Part.TheVariants.{Root, OnLedger, End, Middle}
 use Rattle.history_laws.proofs.Rowing.{legal-suffix}
 use Rattle.net_model.specs.Journals.{In, opened, is_followed}
-use Rattle.net_model.specs.Premises.{OccursFixed}
 use Rattle.net_model.proofs.Members.{In-append_left, In-append_right, In-map}
 use Rattle.net_party.specs.declared.command.Command.{Command}
 use Rattle.net_party.specs.declared.command.Command.TheVariants as commands
-use Rattle.node_laws.proofs.Bridging.{lines-append}
 use Rattle.node_laws.proofs.Places.{mind-event, mind-watched, mind-entry}
 use Rattle.node_model.specs.Minds.{Mind, facts_of, noted_message, with_opened, place_with, close_if, commanded, did}
 use Rattle.node_model.specs.Openings.{opened_by, adds, parts_of, goals_of}
@@ -41,9 +39,10 @@ use Rattle.support_chain.specs.Real.{real}
 use Rattle.wish_laws.proofs.Closing.{rest-plays}
 use Rattle.wish_laws.proofs.Over.{Seen, IsKept, AtEvent, over, looked}
 use Rattle.wish_laws.proofs.Planned.{is-planned}
+use Rattle.node_fairness.proofs.SeatPast.{occurs}
 use Rattle.node_fairness.specs.PlanSettings.{IsNodes}
 use Rattle.node_fairness.proofs.PlanFitting.{can-open, Tells, Added, lent, root-added, child-added, virtual-added}
-use Rattle.node_fairness.proofs.PlanHolding.{opening-of, Holds, holds, place-holds, chain-holds}
+use Rattle.node_fairness.proofs.PlanHolding.{Holds, holds, place-holds, chain-holds}
 use Rattle.node_fairness.proofs.PlanKnown.{OfLedger, Of, Paired, stays-known, stays-paired, closes-paired, opens-paired}
 use Rattle.node_fairness.proofs.PlanNames.{in-among}
 
@@ -190,12 +189,12 @@ module _ (s : Signing) (h : List Entry) (journal : List Told) (nodes : IsNodes s
     pub holds-at : (f : FixedParts) → In f (channels_told s.key front) → Holds s.key past (lines_of s.key front) m f
     holds-at f i = holds s.key past front legal-at few grown-at f i
 
-    lent-at : KnowsAt past front → (name first second : List ℕ) (asset : ℕ) (amounts : ℕ × ℕ) → lends (facts_of m) name (stake asset first second amounts) ≡ true
+    pub lent-at : KnowsAt past front → (name first second : List ℕ) (asset : ℕ) (amounts : ℕ × ℕ) → lends (facts_of m) name (stake asset first second amounts) ≡ true
         → OfLedger (channels_told s.key front) m.parts first second name
     lent-at was =
         lent s.key past front m (channels_told s.key front) was.paired apart-at holds-at (place-holds s.key past front legal-at few grown-at) (chain-holds s.key past front legal-at few grown-at)
 
-    owns-at : (f : FixedParts) → In f (channels_told s.key front) → In s.key f.keys
+    pub owns-at : (f : FixedParts) → In f (channels_told s.key front) → In s.key f.keys
     owns-at f i = let o = holds-at f i in In-get f.keys o.kept.me s.key o.mine
 
   one-event : (past : List Entry) (x : Told) (front : List Told) → AtEvent stages real s h journal past x front → KnowsAt past front → KnowsAt past (x ∷ front)
@@ -231,8 +230,12 @@ module _ (s : Signing) (h : List Entry) (journal : List Told) (nodes : IsNodes s
     pub plays-there : Plays stages real s h front
     plays-there = rest-plays s h at.newer front (subst (Plays stages real s h) at.events nodes.plays)
 
+    -- what each event and each entry keeps holds there
+    pub kept-there : (P : List Entry → List Told → Type 0) → IsKept stages real s h journal P → P past front
+    kept-there P kept = over stages real s h journal P kept at.newer front at.events plays-there at.later past at.entries at.before
+
     pub knows-there : KnowsAt past front
-    knows-there = over stages real s h journal KnowsAt plan-is-kept at.newer front at.events plays-there at.later past at.entries at.before
+    knows-there = kept-there KnowsAt plan-is-kept
 
     pub legal-there : Legal real past
     legal-there = legal-at past front at.few at.later at.entries plays-there at.before
@@ -243,11 +246,5 @@ module _ (s : Signing) (h : List Entry) (journal : List Told) (nodes : IsNodes s
     pub apart-there : Apart (channels (mind_at real s.key past front).parts)
     apart-there = apart-at past front at.few at.later at.entries plays-there at.before
 
-    -- a channel that a line opened
-    pub occurs-there : (f : FixedParts) → In f (channels_told s.key front) → OccursFixed h (lines_of s.key journal) f
-    occurs-there f i =
-        let o = opening-of (lines_of s.key front) f i in
-        inr (o.line, subst (In o.line) (sym (ap (lines_of s.key) at.events ∙ lines-append s.key at.newer front)) (In-append_right o.line (lines_of s.key at.newer) (lines_of s.key front) o.there), o.opens)
-
     pub fixed-there : (f : FixedParts) → In f (channels_told s.key front) → IsFixed f
-    fixed-there f i = nodes.valid.fixed f (occurs-there f i)
+    fixed-there f i = nodes.valid.fixed f (occurs s h journal nodes past front at f i)

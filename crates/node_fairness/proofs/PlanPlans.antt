@@ -1,5 +1,5 @@
 -- Plans are whole: by what is known of each part.
-use Rattle.std.proofs.Common.{◌≡◌, ℕ, true, List, [], ◌∷◌, inl, inr, refl, sym, ◌∙◌, ap, subst, arith}
+use Rattle.std.proofs.Common.{◌≡◌, ℕ, true, List, [], ◌∷◌, inl, inr, refl, sym, ◌∙◌, ap, subst}
 use Rattle.std.specs.List.{AllByRecursion}
 use Rattle.std.specs.Str.{bytes_eq}
 use Rattle.nitro_bytes.specs.Parts.{FixedParts}
@@ -26,11 +26,12 @@ use Rattle.share_model.specs.Bases.{bases_of, all_bases}
 use Rattle.share_model.specs.Places.{plan}
 use Rattle.signing_laws.specs.Plans.{IsPlan}
 use Rattle.support_chain.specs.Real.{real}
+use Rattle.node_fairness.proofs.SeatPast.{occurs}
+use Rattle.node_fairness.proofs.Apps.{no-payments}
 use Rattle.node_fairness.specs.PlanLaws.{PlansAreWhole}
-use Rattle.node_fairness.proofs.PlanFitting.{among-in}
 use Rattle.node_fairness.proofs.PlanKnown.{OfLedger, Of, goal-of, GoalOf}
-use Rattle.node_fairness.proofs.PlanNames.{all-apart, all-payers-apart}
-use Rattle.node_fairness.proofs.PlanPlaces.{Knows, knows-there, grown-there, apart-there, occurs-there}
+use Rattle.node_fairness.proofs.PlanNames.{among-in, all-apart, all-payers-apart}
+use Rattle.node_fairness.proofs.PlanPlaces.{Knows, knows-there, grown-there, apart-there}
 
 -- ---- a part
 
@@ -63,7 +64,7 @@ module _ (key : List ℕ) (fs : List FixedParts) (parts : List Part) where
   apart-is (End v) opening amounts o = o.off
   apart-is (Middle v) opening amounts o = o.off
 
-all-are : (P : Part → Type 0) (ps : List Part) → ((p : Part) → In p ps → P p) → AllByRecursion P ps
+pub all-are : (P : Part → Type 0) (ps : List Part) → ((p : Part) → In p ps → P p) → AllByRecursion P ps
 all-are P [] each = tt
 all-are P (p ∷ ps) each = (each p (inl refl), all-are P ps (λ q i. each q (inr i)))
 
@@ -101,11 +102,8 @@ plans_are_whole s h journal past front nodes at = record {
     goal p i = goal-of s.key fs m.parts m.goals p knows.paired apart i
 
     rests : RestsOnNoPayments real (orders_of real s.key journal) (lines_of s.key front)
-    rests f i among pays = zero-one f.app (ap (λ (g : FixedParts). g.app) f-is ∙ base.app) pays
+    rests f i among = no-payments f (ap (λ (g : FixedParts). g.app) f-is ∙ base.app)
       where
-        zero-one : (n : ℕ) → n ≡ 0 → n ≡ 1 → ⊥
-        zero-one n a b = omega arith
-
         resting : Joined bases_of (real.named f) m.parts
         resting = joined bases_of (real.named f) m.parts
             (among-in (real.named f) (all_bases m.parts) (subst (λ (ps : List Part). is_among (real.named f) (all_bases ps) ≡ true) (sym same) among))
@@ -116,4 +114,4 @@ plans_are_whole s h journal past front nodes at = record {
             base-is s.key fs m.parts resting.from g.goal.opening g.goal.amounts g.known (real.named f) resting.is
 
         f-is : f ≡ base.fixed
-        f-is = nodes.distinct.names f base.fixed (occurs-there s h journal nodes past front at f i) (occurs-there s h journal nodes past front at base.fixed base.there) (sym base.named)
+        f-is = nodes.distinct.names f base.fixed (occurs s h journal nodes past front at f i) (occurs s h journal nodes past front at base.fixed base.there) (sym base.named)

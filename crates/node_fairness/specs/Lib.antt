@@ -6,12 +6,14 @@ pub mod PlanLaws
 pub mod SeatSitting
 pub mod SeatLaws
 pub mod PaymentLaws
+pub mod JointKeeping
 pub mod LedgerMoving
 pub mod LedgerLending
 pub mod LedgerKeeping
 pub mod LedgerWanting
 pub mod LedgerPlaces
 pub mod LedgerLaws
-pub mod LedgerSimple
+pub mod LedgerEvents
 pub mod Wanting
+pub mod Guarding
 pub mod Laws

@@ -1,4 +1,4 @@
--- Nobody lowers the share of a person of a play whose plan has no virtual channels, where its premises are told to hold.
+-- Nobody lowers the share of a person of a play, where its premises are told to hold.
 use Rattle.std.proofs.Common.{◌≡◌, ℕ, List, sym, subst}
 use Rattle.std.specs.Prelude.{All, IfOk, Result, Ok, Err}
 use Rattle.nitro_bytes.specs.Parts.{FixedParts}

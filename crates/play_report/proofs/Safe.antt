@@ -1,4 +1,4 @@
--- People are safe where the premises are told to hold, and keep their shares where their plans have no virtual channels.
+-- People are safe, and keep their shares, where the premises are told to hold.
 use Rattle.std.proofs.Common.{◌≡◌, ℕ, suc, Bool, true, false, cond, List, [], ◌∷◌, ◌++◌, map, flat_map, length, reverse, refl, sym, ◌∙◌, ap, subst, inl, inr, arith}
 use Rattle.std.specs.Prelude.{◌==◌, ◌<◌}
 use Rattle.std.specs.List.{AllByRecursion}
@@ -122,7 +122,7 @@ module _ {P : Type 0} (ways : Ways P) (r : Report) where
   is-kept : (orders : P → ℕ → Order) (named : P → List FixedParts) (m : MemberOf P) (p : Judged) → AllByRecursion IsValidEntry r.history
       → IsSound m → In (journal_of ways m) r.journals → KeepsIf ways orders named (newest_first r.history) m.node
       → IsJudged r.history r.journals (journal_of ways m) p → IsKeptIf ways orders named r m p
-  is-kept orders named m p entries sound there keeps judged unforged distinct in_time apart direct =
+  is-kept orders named m p entries sound there keeps judged unforged distinct in_time apart =
       let are : ArePremises m = premises-hold m p entries sound judged unforged in_time in
       let more : List (List ℕ) = flat_map of_fixed (named m.node) in
       let none : NoneCollide (hashed (newest_first r.history) (ways.lines m.node) ++ (person_string (ways.key m.node) ∷ more)) =
@@ -130,7 +130,7 @@ module _ {P : Type 0} (ways : Ways P) (r : Report) where
       (suffices.with_named r.history r.journals (journal_of ways m) (adds_in (ways.lines m.node)) (named m.node) there
       (subst (λ (xs : List Line). DistinctWith r.history r.journals (strings_added xs ++ more)) (sym (lines-are m sound)) apart))
       in
-      keeps are.valid are.own none are.early direct
+      keeps are.valid are.own none are.early
 
   -- ---- all
 

@@ -22,7 +22,7 @@ use Rattle.script_play.specs.Play.{SceneOf, play}
 use Rattle.script_reader.specs.declared.step.Step.{Step}
 use Rattle.share_model.specs.Places.{Order}
 use Rattle.support_chain.specs.Real.{real}
-use Rattle.told_party.specs.Telling.{Pairwise, HaveFixed, Tale, PlansDirectly, Keeps, KeepsIf}
+use Rattle.told_party.specs.Telling.{Pairwise, HaveFixed, Tale, Keeps, KeepsIf}
 use Rattle.play_report.specs.Shares.{shares_of, exits_of, real_shares, real_exits}
 
 -- What is told of the person with this journal: each premise holds exactly where its definition does, whatever the
@@ -61,14 +61,13 @@ module _ {P : Type 0} (ways : Ways P) where
   abbrev pub AllSafe : Report → List (MemberOf P) → Type 0
   AllSafe r members = Pairwise (IsSafeIf r) members r.premises
 
-  -- Where all three premises are told to hold, the strings of the fixed parts that its own commands name don't collide with
-  -- others either, and its plan has no virtual channels, nobody lowers the share of the person, and it can
-  -- leave with it.
+  -- Where all three premises are told to hold, and the strings of the fixed parts that its own commands name don't collide with
+  -- others either, nobody lowers the share of the person, and it can leave with it.
   abbrev pub IsKeptIf : (P → ℕ → Order) → (P → List FixedParts) → Report → MemberOf P → Judged → Type 0
   IsKeptIf orders named r m p =
       p.unforged ≡ true → p.distinct ≡ true → p.in_time ≡ true
       → DistinctWith r.history r.journals (strings_added (ways.lines m.node) ++ flat_map of_fixed (named m.node))
-      → PlansDirectly ways orders m.node → Keeps ways orders (newest_first r.history) m.node
+      → Keeps ways orders (newest_first r.history) m.node
 
   -- so of each person with a node
   abbrev pub AllKept : (P → ℕ → Order) → (P → List FixedParts) → Report → List (MemberOf P) → Type 0

@@ -106,7 +106,7 @@ pub fn report_play<P: Told, D: Docket>(
     // Each person with a node is safe where its premises are told to hold.
     ensures safe { IfOk result (λ report. PlaysSafely P.ways report steps.now) }
 
-    // And where its plan has no virtual channels, nobody lowers its share, and it can leave with it.
+    // And nobody lowers its share, and it can leave with it, where they are.
     ensures kept { IfOk result (λ report. PlaysKept P.ways P.orders P.named report steps.now) }
 
     // What is told of each share is the definition's, over the whole history and the person's journal.

@@ -1,6 +1,6 @@
 -- Lines and the events of which they are, and what nodes tell of shares.
 use Rattle.std.specs.Prelude.{◌≡◌, ◌==◌, ◌-◌, ◌++◌, ℕ, Bool, true, false, List, [], ◌∷◌, length, drop, flat_map, Option, Some, None, if◌then◌else◌}
-use Rattle.std.specs.List.{AllByRecursion, list_all}
+use Rattle.std.specs.List.{AllByRecursion}
 use Rattle.nitro_bytes.specs.Parts.{FixedParts, IsFixed}
 use Rattle.channel_name.specs.Collisions.{NoneCollide}
 use Rattle.channel_name.specs.Digests.{name_of_person, person_string}
@@ -12,8 +12,8 @@ use Rattle.net_model.specs.Journals.{Line}
 use Rattle.net_model.specs.Premises.{Unforged, InTime, AreValid}
 use Rattle.net_model.specs.Valid.{IsValidEntry}
 use Rattle.net_party.specs.Ways.{Ways}
-use Rattle.network_exits.specs.Laws.{KeepsItsShare, is_direct}
-use Rattle.share_model.specs.Places.{Order, plan, share}
+use Rattle.network_exits.specs.Laws.{KeepsItsShare}
+use Rattle.share_model.specs.Places.{Order, share}
 use Rattle.support_chain.specs.Real.{real}
 
 -- each of the one list stands so to the one at its place in the other, which is as long
@@ -83,21 +83,17 @@ ExitsAreReal {P} ways stands lost exits left orders =
 
 -- ---- what people keep
 
--- the plan of a node's person has no virtual channels
-abbrev pub PlansDirectly : {P : Type 0} → Ways P → (orders : P → ℕ → Order) → P → Type 0
-PlansDirectly ways orders p = list_all is_direct (plan (orders p) (ways.lines p)) ≡ true
-
 -- nobody lowers the share of a node's person, and it can leave with it
 abbrev pub Keeps : {P : Type 0} → Ways P → (orders : P → ℕ → Order) → List Entry → P → Type 0
 Keeps ways orders h p = KeepsItsShare (name_of_person (ways.key p)) (orders p) h (ways.lines p)
 
 -- So it is where nothing is forged, no hashed strings collide, those of its key and of the fixed parts that its accepted
--- commands name among them, its watchers are in time, and its plan is such: `named` are these fixed parts.
+-- commands name among them, and its watchers are in time: `named` are these fixed parts.
 abbrev pub KeepsIf : {P : Type 0} → Ways P → (orders : P → ℕ → Order) → (named : P → List FixedParts) → List Entry → P → Type 0
 KeepsIf ways orders named h p =
     AreValid h (ways.lines p) → Unforged real (ways.key p) h (ways.lines p)
     → NoneCollide (hashed h (ways.lines p) ++ (person_string (ways.key p) ∷ flat_map of_fixed (named p)))
-    → InTime real h (ways.lines p) → PlansDirectly ways orders p → Keeps ways orders h p
+    → InTime real h (ways.lines p) → Keeps ways orders h p
 
 -- so over each legal history
 abbrev pub KeepsShares : {P : Type 0} → Ways P → (stands : List Entry → P → Type 0) → (orders : P → ℕ → Order) → (named : P → List FixedParts) → Type 0

@@ -59,6 +59,6 @@ pub trait Told: Party {
     // What it tells of its exit are those of the definition just after the command.
     ghost got: { ExitsAreReal Self.ways Self.stands lost exits left orders };
 
-    // Nobody lowers the share of a person whose plan has no virtual channels, and it can leave with it.
+    // Nobody lowers the share of its person, and it can leave with it, where its premises hold.
     ghost holds: { KeepsShares Self.ways Self.stands orders named };
 }
