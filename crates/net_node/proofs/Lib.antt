@@ -2,3 +2,4 @@ pub mod Heights
 pub mod Followed
 pub mod Kept
 pub mod Gaining
+pub mod Own

@@ -5,3 +5,4 @@ pub mod Gets
 pub mod Got
 pub mod Notes
 pub mod Holds
+pub mod Own

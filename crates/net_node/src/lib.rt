@@ -10,4 +10,6 @@ mod told;
 pub use node::Node;
 
 #[cfg(test)]
+mod pair;
+#[cfg(test)]
 mod tests;

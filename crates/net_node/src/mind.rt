@@ -1,8 +1,11 @@
 //! What a node knows, with its signer.
 
-ghost use Rattle.std.specs.Prelude.{◌≡◌, ◌+◌, ◌<◌, ◌^◌, true, OnOk, IfOk};
-ghost use Rattle.std.specs.List.{flat_map};
+ghost use Rattle.std.specs.Prelude.{◌≡◌, ◌+◌, ◌<◌, ◌^◌, true, None, OnOk, IfOk};
+ghost use Rattle.std.specs.List.{flat_map, slice_get};
+ghost use Rattle.std.specs.Str.{bytes_eq};
 ghost use Rattle.channel_store.specs.Keeping.{held_chain};
+ghost use Rattle.channel_store.specs.Storing.{kept_of, refusal_of};
+ghost use Rattle.net_node.specs.Own.{is_key, is_own};
 ghost use Rattle.node_model.specs.Minds.{fresh, noted};
 ghost use Rattle.node_tables.specs.Stages.{stages};
 ghost use Rattle.node_ways.specs.Ways.{made_of, key_of};
@@ -12,9 +15,9 @@ ghost use Rattle.support_chain.specs.Real.{real};
 
 use crate::seeing::can_see;
 use channel_calls::{Call, Entry, HeldChain, NodeRefusal};
-use channel_name::{challenge_message, state_digest, state_message};
+use channel_name::{challenge_message, channel_name, state_digest, state_message};
 use net_party::Command;
-use nitro_bytes::{Key, Listed, Name, NoMemory, Signed, State};
+use nitro_bytes::{Fixed, Key, Listed, Name, NoMemory, Signed, State};
 use node_mind::Known;
 use node_objective::{Knowing, OwnChallenge};
 use node_refusals::command_refusal;
@@ -51,6 +54,21 @@ fn limit_of(signer: &Signer) -> u32
     if signer.public()[3] == 5 { 32 } else { 1024 }
 }
 
+fn is_named(fixed: &Fixed, channel: &Name) -> bool
+    ensures { result ≡ bytes_eq (real.named fixed.now) channel.now }
+{
+    channel_name(fixed.bytes()) == *channel
+}
+
+fn is_at(fixed: &Fixed, place: u8, key: &Key) -> bool
+    ensures { result ≡ is_key key.now (slice_get fixed.now.keys place) }
+{
+    match fixed.keys().get(place as usize) {
+        None => false,
+        Some(own) => *own == *key,
+    }
+}
+
 impl Mind {
     /// Nothing is known.
     pub(crate) fn make(alloc: Global, signer: Signer) -> Mind
@@ -83,6 +101,7 @@ impl Mind {
     fn signature(&mut self, message: &[u8]) -> Result<Listed<u8>, NoMemory>
         requires { self.old.signer.used < 2 ^ self.old.signer.h }
         ensures made { IfOk result (λ bytes. bytes ≡ made_bytes self.old.signer.seed self.old.signer.id self.old.signer.h self.old.signer.used message.now) }
+        ensures verifies { IfOk result (λ bytes. real.verifies (key_of (made_of self.old.signer)) message.now bytes ≡ true) }
         ensures used { OnOk result (self.new.signer.used ≡ self.old.signer.used + 1) }
         ensures known { self.new.known ≡ self.old.known }
         ensures signer { made_of self.new.signer ≡ made_of self.old.signer }
@@ -93,14 +112,28 @@ impl Mind {
         }
     }
 
-    /// Notes a state that the node signed, which passes the store's tests.
+    /// Whether a channel is kept by its name, with this key at the participant's position.
+    fn is_own(&self, channel: &Name, key: &Key) -> bool
+        ensures { result ≡ is_own key.now channel.now (kept_of channel.now self.now.known.kept) }
+    {
+        match self.known.store().kept(channel) {
+            None => false,
+            Some(k) => is_named(&k.chain.fixed, channel) && is_at(&k.chain.fixed, k.me, key),
+        }
+    }
+
+    /// Notes a state that the node signed and that follows in its channel. The signature isn't verified again: the channel is
+    /// kept by its name, with the node's key at its position, and what the key signs verifies.
     fn note(&mut self, channel: &Name, signed: Signed) -> Result<(), NoMemory>
+        requires passes { is_own (key_of (made_of self.old.signer)) channel.now (kept_of channel.now self.old.known.kept) ≡ true → refusal_of real channel.now signed self.old.known.kept ≡ None }
         ensures known { OnOk result (self.new.known ≡ noted real true channel.now signed self.old.known) }
         ensures signer { self.new.signer ≡ self.old.signer }
     {
-        match self.known.store().check(channel, &signed) {
-            Ok(()) => self.known.note(true, channel, signed),
-            Err(_) => Err(NoMemory),
+        let key = self.signer.public();
+        if self.is_own(channel, &key) {
+            self.known.note(true, channel, signed)
+        } else {
+            Err(NoMemory)
         }
     }
 }
@@ -202,7 +235,7 @@ impl Knowing for Mind {
         self.signer.used() < self.limit
     }
 
-    #[tactic(auto, unfolding(node_model::specs::Playing::signing_of))]
+    #[tactic(auto, unfolding(node_model::specs::Playing::signing_of), using(crate::proofs::Own::passes))]
     fn sign(&mut self, channel: &Name, state: &State) -> Result<Listed<u8>, NoMemory> {
         let digest = state_digest(channel, state.bytes());
         let signature = self.signature(&state_message(&digest))?;

@@ -1,10 +1,10 @@
 //! Whether an entry can be followed.
 
-ghost use Rattle.std.specs.Prelude.{◌≡◌, true, IsTrue};
+ghost use Rattle.std.specs.Prelude.{◌≡◌, ◌↔◌, true, IsTrue};
 ghost use Rattle.std.specs.Option.{option_map};
 ghost use Rattle.channel_calls.specs.Naming.{name_of};
 ghost use Rattle.channel_calls.specs.Rows.{fixed_of};
-ghost use Rattle.history_view.specs.Views.{view_of};
+ghost use Rattle.history_view.specs.Views.{view_of, CanFollow};
 ghost use Rattle.node_mind.specs.Shown.{HasFew, FewIn, CanSee};
 
 use channel_calls::{Call, Entry, Op, WorldView};
@@ -23,7 +23,7 @@ fn shown<'a>(view: &'a WorldView, channel: &Name) -> Option<&'a Chain>
 }
 
 fn has_few(shown: Option<&Chain>) -> bool
-    ensures { IsTrue result → HasFew (option_map (λ m. m.now) shown.entry) }
+    ensures { IsTrue result ↔ HasFew (option_map (λ m. m.now) shown.entry) }
 {
     match shown {
         None => true,
@@ -33,7 +33,7 @@ fn has_few(shown: Option<&Chain>) -> bool
 
 /// Whether an answer has room on the chain that was shown.
 fn has_room(view: &WorldView, op: &Op) -> bool
-    ensures { IsTrue result → FewIn view.entry.now op.now (fixed_of op.now) }
+    ensures { IsTrue result ↔ FewIn view.entry.now op.now (fixed_of op.now) }
 {
     match op {
         Op::Call(Call::Respond { fixed, .. }) => {
@@ -45,7 +45,8 @@ fn has_room(view: &WorldView, op: &Op) -> bool
 
 /// Whether the entry is the next one, and what it pays and the answer that it gives have room.
 pub(crate) fn can_see(view: &WorldView, entry: &Entry) -> bool
-    ensures { IsTrue result → CanSee entry.now view.entry.now }
+    ensures enough { IsTrue result → CanSee entry.now view.entry.now }
+    ensures exact { IsTrue result ↔ (CanFollow name_of entry.now view.entry.now × FewIn view.entry.now entry.now.op (fixed_of entry.now.op)) }
 {
     can_follow(view, entry) && has_room(view, &entry.op)
 }
