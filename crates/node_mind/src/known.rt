@@ -35,7 +35,7 @@ use std::alloc::Global;
 use std::marker::Model;
 
 /// A node's key, what it opened and what was commanded of that, its view of the history, and its store; whether it left, and
-/// whether it gave calls of its exit since.
+/// whether the calls of its exit were given: it gave some since, or held no chain when it was told to leave.
 #[derive(Drop)]
 pub struct Known {
     key: Key,
@@ -173,7 +173,7 @@ impl Known {
         self.left
     }
 
-    /// Whether it gave calls of its exit since.
+    /// Whether the calls of its exit were given: it gave some since, or held no chain when it was told to leave.
     pub fn gave(&self) -> bool
         ensures { result ≡ self.now.gave }
     {
@@ -315,6 +315,7 @@ impl Known {
             Command::Pay { .. } => Ok(()),
             Command::Exit => {
                 self.left = true;
+                self.gave = self.gave || self.store.chains().is_empty();
                 Ok(())
             }
         }

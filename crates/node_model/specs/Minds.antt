@@ -35,7 +35,7 @@ use Rattle.net_party.specs.declared.command.Command.TheVariants.{Open, OpenOn, O
 use Rattle.node_model.specs.Openings.{adds, opened, parts_of, goals_of}
 
 -- Its key, what it opened and what was commanded of that, its view of the history, and what its store keeps; whether it
--- left, and whether it gave calls of its exit since.
+-- left, and whether the calls of its exit were given: it gave some since, or held no chain when it was told to leave.
 pub record Mind : Type 0 where
   pub key : List ℕ
   pub parts : List Part
@@ -114,7 +114,7 @@ commanded r (OpenOn ledger f asset amounts) m = with_opened r (OpenOn ledger f a
 commanded r (OpenVirtual ledgers guarantors joint channel asset amounts) m = with_opened r (OpenVirtual ledgers guarantors joint channel asset amounts) m
 commanded r (Close channel) m = record m { goals = map (λ goal. close_if (goal.part == place_with channel m.parts) goal) m.goals }
 commanded r (Pay channel asset amount) m = m
-commanded r Exit m = record m { left = true }
+commanded r Exit m = record m { left = true; gave = m.gave || (length (flat_map held_chain m.kept) == 0) }
 
 -- ---- calls
 
