@@ -6,6 +6,7 @@ pub mod Forms
 pub mod Index
 pub mod Kinds
 pub mod Listed
+pub mod Messages
 pub mod Outside
 pub mod Reading
 pub mod Resolved

@@ -1,6 +1,6 @@
 //! Sources in memory, for tests and for programs that have their bytes.
 
-ghost use Rattle.std.specs.Prelude.{◌≡◌, ◌↔◌, ◌≤◌, ◌<◌, ◌+◌, ◌-◌, ◌^◌, [], ◌++◌, Contains, Some, length, min, take};
+ghost use Rattle.std.specs.Prelude.{◌≡◌, ◌≢◌, ◌↔◌, ◌≤◌, ◌<◌, ◌+◌, ◌-◌, ◌^◌, [], ◌++◌, Contains, Some, length, min, take};
 ghost use Rattle.script_reader.specs.Outside.{Rose, TakeGives};
 
 use crate::source::{Source, Took};
@@ -16,7 +16,12 @@ impl Source for CalmSource<'_> {
 
     ghost faults = { λ s. 0 };
 
-    fn take(&mut self, into: &mut [u8]) -> Took {
+    fn take(&mut self, into: &mut [u8]) -> Took
+        ensures gives { TakeGives (Some self.old.bytes.now) (Some self.new.bytes.now) into.new result }
+        ensures later { 0 ≤ 0 }
+        ensures failed { result ≡ Took.Failed → Rose 0 0 }
+        ensures whole { result ≡ Took.Got (min (length self.old.bytes.now) (length into.new)) }
+    {
         Took::Got(take_front(&mut self.bytes, into))
     }
 }
@@ -59,6 +64,11 @@ impl Source for ListSource<'_> {
         ensures listed { (result ≡ Took.Failed) ↔ Contains self.old.failing.now self.old.calls }
         ensures counted { self.new.calls ≡ min (self.old.calls + 1) (2 ^ 64 - 1) }
         ensures kept { self.new.failing.now ≡ self.old.failing.now }
+
+        // Else it gives as much as there is place for, and only a failure is counted.
+        ensures whole { result ≢ Took.Failed → result ≡ Took.Got (min (length self.old.bytes.now) (length into.new)) }
+        ensures calm { result ≢ Took.Failed → self.new.faults ≡ self.old.faults }
+        ensures risen { result ≡ Took.Failed → self.new.faults ≡ min (self.old.faults + 1) (2 ^ 64 - 1) }
     {
         let call = self.calls;
         self.calls = self.calls.saturating_add(1);
@@ -73,6 +83,7 @@ impl Source for ListSource<'_> {
 /// Copies as many bytes as there is place for, and drops them from the front.
 fn take_front(bytes: &mut &[u8], into: &mut [u8]) -> usize
     ensures count { result ≤ length into.new }
+    ensures whole { result ≡ min (length bytes.old.now) (length into.new) }
     ensures bytes { bytes.old.now ≡ take result into.new ++ bytes.new.now }
     ensures end { result ≡ 0 → 0 < length into.new → bytes.new.now ≡ [] }
 {

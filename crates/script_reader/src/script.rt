@@ -31,6 +31,11 @@ pub enum ScriptFault {
 }
 
 impl fmt::Display for ScriptFault {
+    ghost use Rattle.std.specs.Prelude.{Some};
+    ghost use Rattle.script_reader.specs.Messages.{fault_words};
+
+    ghost output = { λ x. Some (fault_words x) };
+
     fn fmt<W: fmt::Write>(&self, f: &mut fmt::Formatter<W>) -> fmt::Result {
         match self {
             ScriptFault::NoMemory => write!(f, "out of memory"),

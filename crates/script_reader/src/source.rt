@@ -43,6 +43,11 @@ pub enum ReadEnd {
 }
 
 impl fmt::Display for ReadEnd {
+    ghost use Rattle.std.specs.Prelude.{Some};
+    ghost use Rattle.script_reader.specs.Messages.{end_words};
+
+    ghost output = { λ x. Some (end_words x) };
+
     fn fmt<W: fmt::Write>(&self, f: &mut fmt::Formatter<W>) -> fmt::Result {
         match self {
             ReadEnd::NoMemory => write!(f, "out of memory"),

@@ -20,6 +20,11 @@ pub enum Rule {
 }
 
 impl fmt::Display for Rule {
+    ghost use Rattle.std.specs.Prelude.{Some};
+    ghost use Rattle.script_reader.specs.Messages.{rule_words};
+
+    ghost output = { λ x. Some (rule_words x) };
+
     fn fmt<W: fmt::Write>(&self, f: &mut fmt::Formatter<W>) -> fmt::Result {
         match self {
             Rule::NotJson => write!(f, "not a JSON text"),

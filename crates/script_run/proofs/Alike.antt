@@ -81,7 +81,7 @@ module _ {P : Type 0} (tale : Tale P) where
   fate words bytes g Done None calm e = absurd e
   fate words bytes g Done (Some r) calm e = inr (inr (inr (came words bytes g r e.0 calm (ap asked (sym calm.words_are) ∙ e.1) e.2)))
   fate words bytes g NoMemory p calm e = absurd e
-  fate words bytes g Usage None calm e = inl (record { none = ap asked (sym calm.words_are) ∙ e; status = refl; report = refl })
+  fate words bytes g Usage None calm e = inl (record { none = ap asked (sym calm.words_are) ∙ e.0; status = refl; report = refl })
   fate words bytes g Usage (Some r) calm e = absurd e
   fate words bytes g (Script step rule) None calm e =
       let whole = all_taken g.before g.after bytes e.2.0 calm.told e.2.1 e.2.2 in

@@ -1,7 +1,7 @@
 -- A sound script ends as done.
 use Rattle.std.proofs.Common.{◌≡◌, ℕ, ◌≤◌, List, [], ◌++◌, length, Option, Some, None, refl, sym, ◌∙◌, ap, arith, append-nil, length-append, subst}
 use Rattle.std.specs.Prelude.{false}
-use Rattle.std.specs.Io.KnownBytes.{Consumes, IsAtEnd}
+use Rattle.std.specs.Io.KnownBytes.{Keeps, Consumes, IsAtEnd}
 use Rattle.script_reader.specs.Script.{Breaks}
 use Rattle.script_reader.specs.declared.step.Rule.{Rule}
 use Rattle.script_reader.proofs.OneReading.{script_breaks_none}
@@ -12,6 +12,11 @@ use Rattle.script_run.specs.declared.asking.Asked.{Asked}
 use Rattle.script_run.specs.declared.asking.Asked.TheVariants.{Run}
 use Rattle.report_text.specs.declared.report.Report.{Report}
 use Rattle.told_party.specs.Telling.{Tale}
+
+-- a source that isn't asked keeps its bytes
+pub keeps_all : (left : Option (List ℕ)) → Keeps left left
+keeps_all None = tt
+keeps_all (Some bytes) = refl
 
 -- what was taken to the end of a source that tells its bytes
 pub all_taken : (before after : Option (List ℕ)) (bytes taken : List ℕ) → before ≡ Some bytes → Consumes before after taken → IsAtEnd after → taken ≡ bytes
@@ -35,7 +40,7 @@ broken Run step rule bytes b = b
 pub completes : {P : Type 0} (tale : Tale P) (g : Given) (status : Status) (report : Option Report) → EndsAs tale g status report → IsSound g → status ≡ Done
 completes tale g Done report e s = refl
 completes tale g NoMemory report e s = absurd e
-completes tale g Usage None e s = let words = s.words in absurd (cc)
+completes tale g Usage None e s = let words = s.words in let none = e.0 in absurd (cc)
 completes tale g Usage (Some r) e s = absurd e
 completes tale g (Script step rule) None e s =
     let taken = all_taken g.before g.after s.bytes e.2.0 s.told e.2.1 e.2.2 in

@@ -2,7 +2,7 @@
 use Rattle.std.specs.Prelude.{◌≡◌, ◌≤◌, ◌<◌, ℕ, List, [], ◌∷◌, length, Bool, false, Option, Some, None, IfSome, codes, if◌then◌else◌}
 use Rattle.std.specs.Fmt.{decimal}
 use Rattle.std.specs.Str.{bytes_eq}
-use Rattle.std.specs.Io.KnownBytes.{Consumes, IsAtEnd}
+use Rattle.std.specs.Io.KnownBytes.{Keeps, Consumes, IsAtEnd}
 use Rattle.nitro_bytes.specs.Parts.{FixedParts}
 use Rattle.script_reader.specs.Outside.{Rose}
 use Rattle.script_reader.specs.Script.{IsScript, Breaks}
@@ -64,6 +64,10 @@ Takes g P = (bytes : List ℕ) × Consumes g.before g.after bytes × P bytes
 abbrev pub Reads : Given → (List ℕ → Type 0) → Type 0
 Reads g P = (bytes : List ℕ) × Consumes g.before g.after bytes × IsAtEnd g.after × (length bytes ≤ 4194304) × P bytes
 
+-- nothing was taken, and no fault was met
+abbrev pub IsUnread : Given → Type 0
+IsUnread g = Keeps g.before g.after × (g.faults_after ≡ g.faults_before)
+
 module _ {P : Type 0} (tale : Tale P) where
   -- what was asked for comes to this report, by steps of which this holds besides
   abbrev pub ComesBy : (List Step → Type 0) → Asked → Given → Report → Type 0
@@ -80,7 +84,7 @@ module _ {P : Type 0} (tale : Tale P) where
   -- Why a run comes to each end, before its text is put.
   abbrev pub EndsAs : Given → Status → Option Report → Type 0
   EndsAs g Done (Some report) = Asks g (λ a. Comes a g report)
-  EndsAs g Usage None = asked g.words ≡ None
+  EndsAs g Usage None = (asked g.words ≡ None) × IsUnread g
   EndsAs g (Script step rule) None = Asks g (λ a. Reads g (Breaks (is_race a) step rule))
   EndsAs g ReadFault None = Asks g (λ a. Takes g (λ bytes. length bytes ≤ 4194304) × Rose g.faults_before g.faults_after)
   EndsAs g TooLong None = Asks g (λ a. Takes g (λ bytes. 4194304 < length bytes))

@@ -1,6 +1,6 @@
 //! Sinks in memory, for tests and for programs that keep the text.
 
-ghost use Rattle.std.specs.Prelude.{◌≡◌, ◌≤◌, ◌+◌, ◌-◌, ◌^◌, Some, None, [], IfOk, Contains, min, vec_capacity};
+ghost use Rattle.std.specs.Prelude.{◌≡◌, ◌≤◌, ◌<◌, ◌+◌, ◌-◌, ◌^◌, ◌⊎◌, ℕ, Some, None, [], IfOk, Contains, length, max, min, vec_capacity};
 ghost use Rattle.script_reader.specs.Outside.{Rose};
 ghost use Rattle.script_run.specs.Outside.{PutGives};
 
@@ -17,7 +17,12 @@ impl Sink for CalmSink {
 
     ghost faults = { λ s. 0 };
 
-    fn put(&mut self, piece: &[u8]) -> Gave {
+    fn put(&mut self, piece: &[u8]) -> Gave
+        ensures gives { PutGives None None piece.now result }
+        ensures later { 0 ≤ 0 }
+        ensures failed { result ≡ Gave.Failed → Rose 0 0 }
+        ensures whole { result ≡ Gave.Took (length piece.now) }
+    {
         Gave::Took(piece.len())
     }
 }
@@ -70,6 +75,11 @@ impl Sink for ListSink<'_> {
         ensures later { self.old.faults ≤ self.new.faults }
         ensures failed { result ≡ Gave.Failed → Rose self.old.faults self.new.faults }
         ensures listed { Contains self.old.failing.now self.old.calls → result ≡ Gave.Failed }
+
+        // It fails for no other cause than the list and want of room, and else takes as much as it may.
+        ensures caused { result ≡ Gave.Failed → Contains self.old.failing.now self.old.calls
+            ⊎ (vec_capacity self.old.bytes - length self.old.bytes.items < min (length piece.now) (max self.old.most 1)) }
+        ensures took { (n : ℕ) → result ≡ Gave.Took n → n ≡ min (length piece.now) (max self.old.most 1) }
         ensures counted { self.new.calls ≡ min (self.old.calls + 1) (2 ^ 64 - 1) }
         ensures failing { self.new.failing.now ≡ self.old.failing.now }
         ensures most { self.new.most ≡ self.old.most }

@@ -104,6 +104,7 @@ fn run_script<P: Told>(alloc: Global, bytes: &[u8]) -> Result<Ended, NoMemory>
 }
 
 /// What the words and the source come to, with nodes of this type.
+#[tactic(auto, using(crate::proofs::Completes::keeps_all))]
 fn work<P: Told, S: Source>(
     alloc: Global,
     words: &[Label],
@@ -203,11 +204,11 @@ pub fn run_words<S: Source, K: Sink>(
     ensures safe { IfSome result.report (λ report.
         ComesOf tale (given S.left S.faults words.now source.old source.new) report (PlaysSafely ways report)) }
 
-    // Where moreover the strings of all fixed parts that its accepted commands name don't collide with others, and its plan has
-    // no virtual channels, nobody lowers its share: no entry by anybody does, and its own signature does by no more than the
-    // payment that was commanded right before, or, where none was and its plan is funded, not at all. And it can leave with it:
-    // what it had where it signed its last state is paid to it once its channels are final and the calls of its exit stand
-    // after that, whatever others enter between.
+    // Where moreover the strings of all fixed parts that its accepted commands name don't collide with others, nobody lowers
+    // its share: no entry by anybody does, and its own signature does by no more than the payment that was commanded right
+    // before, or, where none was and its plan is funded, not at all. And it can leave with it: what it had where it signed its
+    // last state is paid to it once its channels are final and the calls of its exit stand after that, whatever others enter
+    // between.
     ensures kept { IfSome result.report (λ report.
         ComesOf tale (given S.left S.faults words.now source.old source.new) report (PlaysKept ways orders named report)) }
 

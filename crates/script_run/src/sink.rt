@@ -34,6 +34,10 @@ pub trait Sink {
 pub struct SinkFailed;
 
 impl fmt::Display for SinkFailed {
+    ghost use Rattle.std.specs.Prelude.{Some, codes};
+
+    ghost output = { λ _. Some (codes "the sink failed") };
+
     fn fmt<W: fmt::Write>(&self, f: &mut fmt::Formatter<W>) -> fmt::Result {
         write!(f, "the sink failed")
     }
@@ -46,6 +50,7 @@ pub fn put_all<K: Sink>(sink: &mut K, text: &[u8]) -> Result<(), SinkFailed>
     ensures ok { OnOk result (Appends (K.held sink.old) (K.held sink.new) text.now) }
     ensures part { OnErr result (AppendsPart (K.held sink.old) (K.held sink.new) text.now) }
     ensures failed { OnErr result (Rose (K.faults sink.old) (K.faults sink.new)) }
+    ensures later { K.faults sink.old ≤ K.faults sink.new }
 {
     let mut rest = text;
     while !rest.is_empty() {
