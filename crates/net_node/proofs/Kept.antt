@@ -35,6 +35,13 @@ awake p change new kept is = ap (λ (b : Bool). cond b p (record p { node = chan
 abbrev pub Keeps : List Entry → Numbered → NodeOf → Type 0
 Keeps h p new = Stands stages real (signing_of p.node.signer) h p.node → Stands stages real (signing_of p.node.signer) h new
 
+-- a tick that memory didn't cut off makes of it what its ways say
+pub tick_makes : {A E : Type 0} (p q : Numbered) (new : NodeOf) (result : Result A E) → q ≡ p
+    → OnOk result ((q.node.is_lost ≡ false) × (new ≡ after_tick stages real (signing_of q.node.signer) q.node)) → OnOk result (record q { node = new } ≡ ways.ticked p)
+tick_makes p q new (Ok outs) same ok =
+    subst (λ (z : Numbered). record q { node = new } ≡ ways.ticked z) same (sym (awake q (λ n. after_tick stages real (signing_of n.signer) n) new ok.0 ok.1))
+tick_makes p q new (Err fault) same ok = tt
+
 pub tick_keeps : {A E : Type 0} (p : Numbered) (new : NodeOf) (result : Result A E)
     → OnOk result ((p.node.is_lost ≡ false) × (new ≡ after_tick stages real (signing_of p.node.signer) p.node)) → OnErr result (new.is_lost ≡ true)
     → ((h : List Entry) → Legal real h → Keeps h p new) → new.signer ≡ p.node.signer

@@ -207,19 +207,19 @@ impl Knowing for Mind {
         }
     }
 
-    fn calls(&self) -> Result<Vec<Call>, NoMemory> {
+    fn calls(&self, has_exited: bool) -> Result<Vec<Call>, NoMemory> {
         let alloc = self.known.view().channels.allocator();
         let _parts = self.known.parts();
         let facts = self.known.facts();
         if self.known.left() {
-            node_tables::exit_calls_given(alloc, &facts, self.known.gave())
+            node_tables::exit_calls_given(alloc, &facts, has_exited)
         } else {
             node_tables::calls(alloc, &facts)
         }
     }
 
-    fn called(&mut self, call: &Call) {
-        self.known.called(call);
+    fn is_over(&self) -> bool {
+        self.known.left() && self.known.is_over()
     }
 
     fn paying(&self, channel: &Name, asset: u32, amount: u64) -> Result<Option<State>, NoMemory> {

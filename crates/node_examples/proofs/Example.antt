@@ -142,7 +142,7 @@ abbrev signer : SignerOf
 signer = record { seed = []; id = []; h = 1 }
 
 abbrev node_0 : NodeOf
-node_0 = record { mind = fresh key_a; signer = signer; used = 0; journal = []; commands = []; is_lost = false }
+node_0 = record { mind = fresh key_a; signer = signer; used = 0; journal = []; commands = []; has_exited = false; is_lost = false }
 
 abbrev knowing : WorldView → Chain → Option StateParts → Mind
 knowing view c last =
@@ -153,11 +153,10 @@ knowing view c last =
       view = view;
       kept = record { channel = name; me = 0; chain = c; last = last } ∷ [];
       left = false;
-      gave = false;
     }
 
 abbrev node : Mind → ℕ → List Event → NodeOf
-node m used journal = record { mind = m; signer = signer; used = used; journal = journal; commands = command ∷ []; is_lost = false }
+node m used journal = record { mind = m; signer = signer; used = used; journal = journal; commands = command ∷ []; has_exited = false; is_lost = false }
 
 abbrev node_1 : NodeOf
 node_1 = node (knowing unseen (chain [] []) None) 0 (opening ∷ [])

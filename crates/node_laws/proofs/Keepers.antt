@@ -8,7 +8,6 @@ use Rattle.channel_model.specs.Rules.{Rules}
 use Rattle.channel_calls.specs.History.{Legal}
 use Rattle.channel_calls.specs.Reading.{message_of}
 use Rattle.channel_calls.specs.declared.call.Call.{Call}
-use Rattle.channel_calls.specs.declared.call.Call.TheVariants.{Deposit, Challenge, Respond, Refute, Checkpoint, Conclude, Transfer, Claim}
 use Rattle.channel_calls.specs.declared.entry.Entry.{Entry}
 use Rattle.channel_calls.specs.declared.event.Deed.TheVariants as deeds
 use Rattle.channel_calls.specs.declared.event.Event.{Event}
@@ -16,13 +15,13 @@ use Rattle.chain_laws.proofs.Lists.{append_assoc'}
 use Rattle.history_laws.proofs.Rowing.{legal-suffix}
 use Rattle.chain_laws.proofs.Tests.{lt-true}
 use Rattle.net_model.specs.Journals.{In, is_watched}
-use Rattle.node_model.specs.Minds.{Mind, saw, called, did}
-use Rattle.node_model.specs.Leaving.{OwnChallenge, challenge_in, IsOwnChallenge, MayCall}
+use Rattle.node_model.specs.Minds.{Mind, saw, did}
+use Rattle.node_model.specs.Leaving.{OwnChallenge, challenge_in, MayCall}
 use Rattle.node_model.specs.Tables.{Tables}
 use Rattle.node_model.specs.Refusing.{message_refusal, command_refusal, signs_in}
 use Rattle.node_model.specs.Places.{Told, tell, told, mind_at, AreFew}
 use Rattle.node_model.specs.Playing.{Signing, SignerOf, signing_of, is_signed, signings, payment_in, pending, Allowed, PlaysEvent, Plays}
-use Rattle.node_model.specs.Nodes.{NodeOf, new_node, told_of, Knows, Stands, handled, signed, signed_if, ticked, challenged, challenged_if, challenged_all, gave_one, gave, asked, saw_one, ComesNext}
+use Rattle.node_model.specs.Nodes.{NodeOf, new_node, told_of, Knows, Stands, handled, signed, signed_if, ticked, challenged, challenged_if, challenged_all, gave_one, gave, exited, asked, saw_one, ComesNext}
 use Rattle.net_party.specs.declared.command.Command.{Command}
 use Rattle.node_laws.proofs.Standing.{known}
 use Rattle.node_laws.proofs.Places.{mind-event, mind-entry, told-event, told-command}
@@ -180,24 +179,14 @@ module _ (ts : Tables) (r : Rules) (s : Signing) (h : List Entry) (legal : Legal
       x : Event
       x = record { seen = n.mind.view.count; deed = deeds.Called call }
 
-  -- what it may give doesn't hang on what it gave
-  may-later : (call c : Call) (m : Mind) → MayCall ts m c → MayCall ts (called call m) c
-  may-later call c m (inr i) = inr i
-  may-later call c m (inl own) = inl (at c own)
-    where
-      at : (c : Call) → IsOwnChallenge m c → IsOwnChallenge (called call m) c
-      at (Challenge chain who signature) own = own
-      at (Deposit channel asset expected amount) own = absurd own
-      at (Respond fixed from next) own = absurd own
-      at (Refute fixed next) own = absurd own
-      at (Checkpoint chain) own = absurd own
-      at (Conclude chain) own = absurd own
-      at (Transfer channel outcome asset index) own = absurd own
-      at (Claim guarantor promise target outcome asset position) own = absurd own
-
   pub gives-all : (cs : List Call) (n : NodeOf) → ((c : Call) → In c cs → MayCall ts n.mind c) → Waits n None → Waits (gave cs n) None
   gives-all [] n may w = w
-  gives-all (call ∷ cs) n may w = gives-all cs (gave_one n call) (λ c i. may-later call c n.mind (may c (inr i))) (gives n call (may call (inl refl)) w)
+  gives-all (call ∷ cs) n may w = gives-all cs (gave_one n call) (λ c i. may c (inr i)) (gives n call (may call (inl refl)) w)
+
+  -- that the calls of its exit were given is no part of what it knows
+  pub exits : (n : NodeOf) → Waits n None → Waits (exited n) None
+  exits n w =
+      record { plays = w.plays; later = w.later; past = w.past; split = w.split; few = w.few; mind = w.mind; used = w.used; before = w.before; waiting = w.waiting; count = w.count }
 
   -- a command, before the state of a payment
   pub asks : (n : NodeOf) (step : ℕ) (command : Command) → Waits n None

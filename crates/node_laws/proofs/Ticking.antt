@@ -14,11 +14,11 @@ use Rattle.net_model.specs.Journals.{In}
 use Rattle.node_model.specs.Giving.{in_order, challenge_call, challenge_calls, after_signing, after_challenging, tick_calls, after_tick}
 use Rattle.node_model.specs.Leaving.{OwnChallenge, challenge_in, exit_given, calls_of, may_give, IsOwnChallenge, MayCall}
 use Rattle.node_model.specs.Minds.{Mind, facts_of}
-use Rattle.node_model.specs.Nodes.{NodeOf, challenged, challenged_if, challenged_all}
+use Rattle.node_model.specs.Nodes.{NodeOf, challenged, challenged_if, challenged_all, gave}
 use Rattle.node_model.specs.Playing.{Signing}
 use Rattle.node_model.specs.Tables.{Tables}
 use Rattle.node_laws.proofs.Bridging.{held-in-chains}
-use Rattle.node_laws.proofs.Keepers.{Waits, ticks, challenges, gives-all}
+use Rattle.node_laws.proofs.Keepers.{Waits, ticks, challenges, gives-all, exits}
 use Rattle.node_laws.proofs.Leaving.{challenges-left, from-held}
 
 pub each-in : {A : Type 0} (P : A → Type 0) (xs : List A) → All P xs → (x : A) → In x xs → P x
@@ -71,29 +71,30 @@ module _ (ts : Tables) (r : Rules) (s : Signing) where
       which (inr j) rest = subst (λ (m : Mind). IsOwnChallenge m call) (if-mind channel (challenge_in n.mind channel) n) (rest j)
 
   -- what it gives is what it may give
-  calls-may : (m : Mind) (call : Call) → In call (calls_of ts m) → In call (may_give ts m)
-  calls-may m call i = go m.left i
+  calls-may : (has_exited : Bool) (m : Mind) (call : Call) → In call (calls_of ts has_exited m) → In call (may_give ts m)
+  calls-may has_exited m call i = go m.left i
     where
       exits-may : (b : Bool) → In call (cond b (ts.exits (facts_of m)) []) → In call (ts.exits (facts_of m))
       exits-may true j = j
       exits-may false j = absurd j
 
-      go : (b : Bool) → In call (cond b (exit_given ts m) (ts.calls (facts_of m))) → In call (cond b (ts.exits (facts_of m)) (ts.calls (facts_of m)))
-      go true j = exits-may (not m.gave || ts.is_owed (facts_of m)) j
+      go : (b : Bool) → In call (cond b (exit_given ts has_exited m) (ts.calls (facts_of m))) → In call (cond b (ts.exits (facts_of m)) (ts.calls (facts_of m)))
+      go true j = exits-may (not has_exited || ts.is_owed (facts_of m)) j
       go false j = j
 
   pub tick-may : (n : NodeOf) (call : Call) → In call (tick_calls ts r s n) → MayCall ts (after_challenging ts r s n).mind call
-  tick-may n call i = which (In-append_cases call (challenge_calls r s channels (after_signing ts r s n)) (calls_of ts (after_challenging ts r s n).mind) i)
+  tick-may n call i = which (In-append_cases call (challenge_calls r s channels (after_signing ts r s n)) (calls_of ts (after_challenging ts r s n).has_exited (after_challenging ts r s n).mind) i)
     where
       channels : List (List ℕ)
       channels = in_order n.mind.parts
 
-      which : (In call (challenge_calls r s channels (after_signing ts r s n)) ⊎ In call (calls_of ts (after_challenging ts r s n).mind)) → MayCall ts (after_challenging ts r s n).mind call
+      which : (In call (challenge_calls r s channels (after_signing ts r s n)) ⊎ In call (calls_of ts (after_challenging ts r s n).has_exited (after_challenging ts r s n).mind)) → MayCall ts (after_challenging ts r s n).mind call
       which (inl j) = inl (subst (λ (m : Mind). IsOwnChallenge m call) (sym (all-mind channels (after_signing ts r s n))) (own-calls channels (after_signing ts r s n) call j))
-      which (inr j) = inr (calls-may (after_challenging ts r s n).mind call j)
+      which (inr j) = inr (calls-may (after_challenging ts r s n).has_exited (after_challenging ts r s n).mind call j)
 
 -- a tick with its states, challenges and calls
 pub ticks-all : (ts : Tables) (r : Rules) (s : Signing) (h : List Entry) (legal : Legal r h) (n : NodeOf) → Waits ts r s h legal n None → Waits ts r s h legal (after_tick ts r s n) None
 ticks-all ts r s h legal n w =
-    gives-all ts r s h legal (tick_calls ts r s n) (after_challenging ts r s n) (tick-may ts r s n)
-    (challenges ts r s h legal (in_order n.mind.parts) (after_signing ts r s n) (ticks ts r s h legal (in_order n.mind.parts) n w))
+    exits ts r s h legal (gave (tick_calls ts r s n) (after_challenging ts r s n))
+    (gives-all ts r s h legal (tick_calls ts r s n) (after_challenging ts r s n) (tick-may ts r s n)
+    (challenges ts r s h legal (in_order n.mind.parts) (after_signing ts r s n) (ticks ts r s h legal (in_order n.mind.parts) n w)))

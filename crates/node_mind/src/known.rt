@@ -12,8 +12,8 @@ ghost use Rattle.channel_store.specs.declared.kept.Kept.{Kept as AKept};
 ghost use Rattle.history_view.specs.Views.{view_of};
 ghost use Rattle.net_party.specs.declared.command.Command.TheVariants as commands;
 ghost use Rattle.node_model.specs.Giving.{in_order, sends_of};
-ghost use Rattle.node_model.specs.Leaving.{challenge_in};
-ghost use Rattle.node_model.specs.Minds.{fresh, facts_of, shown_by, kept_seeing, saw, noted, with_opened, commanded, called};
+ghost use Rattle.node_model.specs.Leaving.{challenge_in, is_over};
+ghost use Rattle.node_model.specs.Minds.{fresh, facts_of, shown_by, kept_seeing, saw, noted, with_opened, commanded};
 ghost use Rattle.node_model.specs.Openings.{goal_with};
 ghost use Rattle.node_mind.specs.Shown.{kept_shown, FewUnder, FewIn, CanSee};
 ghost use Rattle.node_mind.specs.Taking.{with_part, CanOpen, CanShare, CanTake};
@@ -21,10 +21,10 @@ ghost use Rattle.support_chain.specs.Real.{real};
 
 use crate::closing::{close, place_with};
 use crate::giving::{in_order, sends_to};
-use crate::leaving::{Challenger, challenge_of, pays_out};
+use crate::leaving::{Challenger, challenge_of, is_over};
 use crate::opening::{join, join_virtual, name_of, part_of_virtual, shared};
 use crate::showing::{is_accepted, shown_by};
-use channel_calls::{Call, Entry, Op, WorldView, fixed_of};
+use channel_calls::{Entry, Op, WorldView, fixed_of};
 use channel_name::{channel_name, person_name};
 use channel_store::Store;
 use funding_value::{Facts, Goal, Part, Plan};
@@ -34,8 +34,7 @@ use nitro_bytes::{Chain, Fixed, Key, Listed, Name, NoMemory, Outcome, Signed, St
 use std::alloc::Global;
 use std::marker::Model;
 
-/// A node's key, what it opened and what was commanded of that, its view of the history, and its store; whether it left, and
-/// whether the calls of its exit were given: it gave some since, or held no chain when it was told to leave.
+/// A node's key, what it opened and what was commanded of that, its view of the history, and its store; and whether it left.
 #[derive(Drop)]
 pub struct Known {
     key: Key,
@@ -44,7 +43,6 @@ pub struct Known {
     view: WorldView,
     store: Store,
     left: bool,
-    gave: bool,
 }
 
 impl Model for Known {
@@ -54,7 +52,7 @@ impl Model for Known {
 
     ghost Value = { Mind };
 
-    ghost view = { λ m. record { key = m.key; parts = m.plan.parts; goals = m.goals.items; view = m.view; kept = m.store; left = m.left; gave = m.gave } };
+    ghost view = { λ m. record { key = m.key; parts = m.plan.parts; goals = m.goals.items; view = m.view; kept = m.store; left = m.left } };
 
     ghost invariant = { λ m. (m.plan.me ≡ name_of_person m.key) × (length m.plan.parts ≤ 64) };
 }
@@ -123,7 +121,6 @@ impl Known {
             view: unseen(alloc),
             store: Store::make(alloc),
             left: false,
-            gave: false,
         }
     }
 
@@ -171,13 +168,6 @@ impl Known {
         ensures { result ≡ self.now.left }
     {
         self.left
-    }
-
-    /// Whether the calls of its exit were given: it gave some since, or held no chain when it was told to leave.
-    pub fn gave(&self) -> bool
-        ensures { result ≡ self.now.gave }
-    {
-        self.gave
     }
 
     /// What the rules read.
@@ -315,17 +305,16 @@ impl Known {
             Command::Pay { .. } => Ok(()),
             Command::Exit => {
                 self.left = true;
-                self.gave = self.gave || self.store.chains().is_empty();
                 Ok(())
             }
         }
     }
 
-    /// Notes a call that was given.
-    pub fn called(&mut self, call: &Call)
-        ensures { self.new ≡ called call.now self.old }
+    /// Whether all channels with a held chain are final.
+    pub fn is_over(&self) -> bool
+        ensures { result ≡ is_over (facts_of self.now) }
     {
-        self.gave = self.gave || (self.left && pays_out(call));
+        is_over(&self.facts())
     }
 
     /// With what it challenges in a channel: once it left, with the chain that it holds of a channel that is open.

@@ -6,10 +6,9 @@ ghost use Rattle.channel_model.specs.Rules.{newest};
 ghost use Rattle.channel_store.specs.Keeping.{is_held};
 ghost use Rattle.node_mind.specs.Left.{challenge_on};
 ghost use Rattle.node_model.specs.Leaving.{challenge_with};
-ghost use Rattle.node_model.specs.Minds.{pays_out};
+ghost use Rattle.node_model.specs.Leaving as leaving;
 ghost use Rattle.node_model.specs.Refusing as refusing;
 
-use channel_calls::Call;
 use channel_store::Kept;
 use deadline_clock::{Standing, mode};
 use funding_value::Facts;
@@ -93,12 +92,21 @@ pub(crate) fn challenge_of<'a>(
     }
 }
 
-/// Whether funds are paid out by the call.
-pub(crate) fn pays_out(call: &Call) -> bool
-    ensures { result ≡ pays_out call.now }
+fn is_final(standing: Standing) -> bool
+    ensures { result ≡ leaving.is_final standing }
 {
-    match call {
-        Call::Transfer { .. } | Call::Claim { .. } => true,
+    match standing {
+        Standing::Final => true,
         _ => false,
     }
+}
+
+/// Whether all channels with a held chain are final.
+pub(crate) fn is_over(facts: &Facts) -> bool
+    ensures { result ≡ leaving.is_over facts.now }
+{
+    facts
+        .chains
+        .iter()
+        .all(|held| is_final(stands_in(facts, &held.channel)))
 }

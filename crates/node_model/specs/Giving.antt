@@ -25,7 +25,7 @@ use Rattle.node_model.specs.Minds.{Mind}
 use Rattle.node_model.specs.Refusing.{command_refusal, signs_in}
 use Rattle.node_model.specs.Leaving.{OwnChallenge, challenge_in, calls_of}
 use Rattle.node_model.specs.Playing.{Signing}
-use Rattle.node_model.specs.Nodes.{NodeOf, signed, signed_if, ticked, challenged_if, challenged_all, gave, asked}
+use Rattle.node_model.specs.Nodes.{NodeOf, signed, signed_if, ticked, challenged_if, challenged_all, gave, exited, asked}
 
 -- ---- the order of a tick
 
@@ -109,10 +109,10 @@ after_challenging t r s n = challenged_all r s (in_order n.mind.parts) (after_si
 -- its challenges, and then the other calls
 abbrev pub tick_calls : Tables → Rules → Signing → NodeOf → List Call
 tick_calls t r s n =
-    challenge_calls r s (in_order n.mind.parts) (after_signing t r s n) ++ calls_of t (after_challenging t r s n).mind
+    challenge_calls r s (in_order n.mind.parts) (after_signing t r s n) ++ calls_of t (after_challenging t r s n).has_exited (after_challenging t r s n).mind
 
 abbrev pub after_tick : Tables → Rules → Signing → NodeOf → NodeOf
-after_tick t r s n = gave (tick_calls t r s n) (after_challenging t r s n)
+after_tick t r s n = exited (gave (tick_calls t r s n) (after_challenging t r s n))
 
 abbrev pub tick_gives : Tables → Rules → Signing → NodeOf → Outs
 tick_gives t r s n =

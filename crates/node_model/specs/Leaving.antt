@@ -1,11 +1,15 @@
 -- What a node does once it left: it challenges with the chains that it holds, and gives the calls of its exit.
-use Rattle.std.specs.Prelude.{◌≡◌, ℕ, true, not, ◌&&◌, ◌||◌, List, [], Option, Some, None, ◌⊎◌, if◌then◌else◌}
+use Rattle.std.specs.Prelude.{◌≡◌, ℕ, Bool, true, false, not, ◌&&◌, ◌||◌, List, [], Option, Some, None, ◌⊎◌, if◌then◌else◌}
+use Rattle.std.specs.List.{list_all}
 use Rattle.nitro_bytes.specs.Parts.{StateParts}
 use Rattle.nitro_bytes.specs.declared.chain.Chain.{Chain}
 use Rattle.channel_model.specs.Rules.{newest}
 use Rattle.channel_calls.specs.declared.call.Call.{Call}
 use Rattle.channel_calls.specs.declared.call.Call.TheVariants.{Challenge}
 use Rattle.channel_calls.specs.declared.held_chain.HeldChain.{HeldChain}
+use Rattle.deadline_clock.specs.declared.standing.Standing.{Standing}
+use Rattle.deadline_clock.specs.declared.standing.Standing.TheVariants.{Final}
+use Rattle.funding_value.specs.Known.{FactsOf}
 use Rattle.net_model.specs.Journals.{In}
 use Rattle.channel_store.specs.Keeping.{is_held}
 use Rattle.channel_store.specs.Storing.{kept_of}
@@ -40,13 +44,21 @@ ChallengesWith m channel state who = (c : OwnChallenge) × (challenge_in m chann
 
 -- ---- calls
 
+abbrev pub is_final : Standing → Bool
+is_final Final = true
+is_final _ = false
+
+-- all channels with a held chain are final
+abbrev pub is_over : FactsOf → Bool
+is_over f = list_all (λ held. is_final (stands_in f held.channel)) f.chains
+
 -- once it left, the calls of its exit: when all channels with a held chain are final, and again while it can still get more
 -- than it was paid; before, those that its stages give
-abbrev pub exit_given : Tables → Mind → List Call
-exit_given t m = if not m.gave || t.is_owed (facts_of m) then t.exits (facts_of m) else []
+abbrev pub exit_given : Tables → (has_exited : Bool) → Mind → List Call
+exit_given t has_exited m = if not has_exited || t.is_owed (facts_of m) then t.exits (facts_of m) else []
 
-abbrev pub calls_of : Tables → Mind → List Call
-calls_of t m = if m.left then exit_given t m else t.calls (facts_of m)
+abbrev pub calls_of : Tables → (has_exited : Bool) → Mind → List Call
+calls_of t has_exited m = if m.left then exit_given t has_exited m else t.calls (facts_of m)
 
 -- what it may call: besides, a challenge with a chain that it holds
 abbrev pub may_give : Tables → Mind → List Call

@@ -1,5 +1,5 @@
 -- What a node knows, and what entries, commands and states make of it.
-use Rattle.std.specs.Prelude.{ℕ, ◌==◌, Bool, true, false, ◌&&◌, ◌||◌, List, [], ◌++◌, length, map, Option, Some, None, Result, Ok, Err, if◌then◌else◌}
+use Rattle.std.specs.Prelude.{ℕ, ◌==◌, Bool, true, false, List, [], ◌++◌, length, map, Option, Some, None, Result, Ok, Err, if◌then◌else◌}
 use Rattle.std.specs.List.{flat_map, position_or_len}
 use Rattle.nitro_bytes.specs.Parts.{FixedParts}
 use Rattle.nitro_bytes.specs.declared.chain.Chain.{Chain}
@@ -13,8 +13,7 @@ use Rattle.channel_calls.specs.Rows.{fixed_of}
 use Rattle.channel_calls.specs.History.{is_accepted}
 use Rattle.channel_calls.specs.Reading.{message_of}
 use Rattle.channel_calls.specs.Spelling.{Message}
-use Rattle.channel_calls.specs.declared.call.Call.{Call}
-use Rattle.channel_calls.specs.declared.call.Call.TheVariants.{Challenge, Respond, Checkpoint, Conclude, Transfer, Claim}
+use Rattle.channel_calls.specs.declared.call.Call.TheVariants.{Challenge, Respond, Checkpoint, Conclude}
 use Rattle.channel_calls.specs.declared.call.Op.{Op}
 use Rattle.channel_calls.specs.declared.call.Op.TheVariants as ops
 use Rattle.channel_calls.specs.declared.entry.Entry.{Entry}
@@ -34,8 +33,8 @@ use Rattle.net_party.specs.declared.command.Command.{Command}
 use Rattle.net_party.specs.declared.command.Command.TheVariants.{Open, OpenOn, OpenVirtual, Pay, Close, Exit}
 use Rattle.node_model.specs.Openings.{adds, opened, parts_of, goals_of}
 
--- Its key, what it opened and what was commanded of that, its view of the history, and what its store keeps; whether it
--- left, and whether the calls of its exit were given: it gave some since, or held no chain when it was told to leave.
+-- Its key, what it opened and what was commanded of that, its view of the history, and what its store keeps; and whether it
+-- left.
 pub record Mind : Type 0 where
   pub key : List ℕ
   pub parts : List Part
@@ -43,10 +42,9 @@ pub record Mind : Type 0 where
   pub view : WorldView
   pub kept : List Kept
   pub left : Bool
-  pub gave : Bool
 
 abbrev pub fresh : List ℕ → Mind
-fresh key = record { key = key; parts = []; goals = []; view = unseen; kept = []; left = false; gave = false }
+fresh key = record { key = key; parts = []; goals = []; view = unseen; kept = []; left = false }
 
 -- what its rules read
 abbrev pub facts_of : Mind → FactsOf
@@ -114,19 +112,7 @@ commanded r (OpenOn ledger f asset amounts) m = with_opened r (OpenOn ledger f a
 commanded r (OpenVirtual ledgers guarantors joint channel asset amounts) m = with_opened r (OpenVirtual ledgers guarantors joint channel asset amounts) m
 commanded r (Close channel) m = record m { goals = map (λ goal. close_if (goal.part == place_with channel m.parts) goal) m.goals }
 commanded r (Pay channel asset amount) m = m
-commanded r Exit m = record m { left = true; gave = m.gave || (length (flat_map held_chain m.kept) == 0) }
-
--- ---- calls
-
--- a call by which funds are paid out
-abbrev pub pays_out : Call → Bool
-pays_out (Transfer channel outcome asset index) = true
-pays_out (Claim guarantor promise target outcome asset position) = true
-pays_out _ = false
-
--- such a call after it left is one of its exit
-abbrev pub called : Call → Mind → Mind
-called call m = record m { gave = m.gave || (m.left && pays_out call) }
+commanded r Exit m = record m { left = true }
 
 -- ---- events
 
@@ -139,5 +125,4 @@ abbrev pub did : Rules → Deed → Option Command → Mind → Mind
 did r (deeds.Commanded step refusal) command m = commanded_if r command refusal m
 did r (deeds.Handled bytes None) command m = noted_message r (message_of bytes) m
 did r (deeds.Signed channel state signature) command m = noted r true channel (record { state = state; signature = signature }) m
-did r (deeds.Called call) command m = called call m
 did r _ command m = m

@@ -1,5 +1,5 @@
 -- What is seen of a node, what its calls make of it, and when it stands for a history.
-use Rattle.std.specs.Prelude.{◌≡◌, ℕ, suc, ◌≤◌, Bool, false, nat_lt, List, [], ◌∷◌, ◌++◌, length, reverse, fold, Option, Some, None, if◌then◌else◌}
+use Rattle.std.specs.Prelude.{◌≡◌, ℕ, suc, ◌≤◌, Bool, false, ◌&&◌, ◌||◌, nat_lt, List, [], ◌∷◌, ◌++◌, length, reverse, fold, Option, Some, None, if◌then◌else◌}
 use Rattle.std.specs.List.{flat_map}
 use Rattle.nitro_bytes.specs.Parts.{StateParts}
 use Rattle.channel_name.specs.Messages.{message_of_state, message_of_challenge}
@@ -16,28 +16,29 @@ use Rattle.net_model.specs.Journals.{In, is_watched}
 use Rattle.channel_store.specs.Keeping.{held_chain}
 use Rattle.history_view.specs.Standing.{OfFew}
 use Rattle.channel_watcher.specs.Watching.{looks}
-use Rattle.node_model.specs.Minds.{Mind, fresh, saw, called, did}
+use Rattle.node_model.specs.Minds.{Mind, fresh, facts_of, saw, did}
 use Rattle.node_model.specs.Tables.{Tables}
 use Rattle.node_model.specs.Refusing.{message_refusal, command_refusal, signs_in}
-use Rattle.node_model.specs.Leaving.{OwnChallenge, challenge_in}
+use Rattle.node_model.specs.Leaving.{OwnChallenge, challenge_in, is_over}
 use Rattle.node_model.specs.Places.{Told, told, mind_at, AreFew}
 use Rattle.node_model.specs.Playing.{Signing, SignerOf, signing_of, signings, pending, Plays}
 use Rattle.net_party.specs.declared.command.Command.{Command}
 use Rattle.net_party.specs.declared.command.Command.TheVariants.{Pay}
 
 -- What it knows, of what its signer is made and how often its key signed, its journal and its commands in the order of time,
--- and whether memory failed it.
+-- whether the calls of its exit were given, and whether memory failed it.
 pub record NodeOf : Type 0 where
   pub mind : Mind
   pub signer : SignerOf
   pub used : ℕ
   pub journal : List Event
   pub commands : List Command
+  pub has_exited : Bool
   pub is_lost : Bool
 
 -- one that followed nothing, with a signer that hasn't signed
 abbrev pub new_node : SignerOf → NodeOf
-new_node signer = record { mind = fresh (signing_of signer).key; signer = signer; used = 0; journal = []; commands = []; is_lost = false }
+new_node signer = record { mind = fresh (signing_of signer).key; signer = signer; used = 0; journal = []; commands = []; has_exited = false; is_lost = false }
 
 -- its events with their commands, newest first
 abbrev pub told_of : NodeOf → List Told
@@ -104,11 +105,15 @@ challenged_all r s (channel ∷ channels) n = challenged_all r s channels (chall
 
 -- with a call given, and with each of these
 abbrev pub gave_one : NodeOf → Call → NodeOf
-gave_one n call = wrote (deeds.Called call) (called call n.mind) n
+gave_one n call = wrote (deeds.Called call) n.mind n
 
 abbrev pub gave : List Call → NodeOf → NodeOf
 gave [] n = n
 gave (call ∷ calls) n = gave calls (gave_one n call)
+
+-- once it left and all channels with a held chain are final the calls of its exit are given, be there any or none
+abbrev pub exited : NodeOf → NodeOf
+exited n = record n { has_exited = n.has_exited || (n.mind.left && is_over (facts_of n.mind)) }
 
 -- a command's event
 abbrev pub asked : Rules → Signing → ℕ → Command → Option NodeRefusal → NodeOf → NodeOf

@@ -1,13 +1,13 @@
 //! What a node knows and signs, without its journal.
 
-ghost use Rattle.std.specs.Prelude.{◌≡◌, ◌<◌, ◌≤◌, ℕ, suc, length, nat_lt, true, OnOk, IfOk, Some, None};
+ghost use Rattle.std.specs.Prelude.{◌≡◌, ◌&&◌, ◌<◌, ◌≤◌, ℕ, suc, length, nat_lt, true, OnOk, IfOk, Some, None};
 ghost use Rattle.channel_name.specs.Messages.{message_of_state, message_of_challenge};
 ghost use Rattle.channel_model.specs.Rules.{Rules};
 ghost use Rattle.channel_calls.specs.Reading.{message_of};
 ghost use Rattle.channel_calls.specs.declared.event.Deed.TheVariants as deeds;
 ghost use Rattle.node_model.specs.Tables.{Tables};
-ghost use Rattle.node_model.specs.Leaving.{challenge_in, calls_of};
-ghost use Rattle.node_model.specs.Minds.{Mind, saw, did, commanded_if, noted, called};
+ghost use Rattle.node_model.specs.Leaving.{challenge_in, calls_of, is_over};
+ghost use Rattle.node_model.specs.Minds.{Mind, facts_of, saw, did, commanded_if, noted};
 ghost use Rattle.node_model.specs.Playing.{SignerOf, signing_of};
 ghost use Rattle.node_model.specs.Giving.{in_order, sends_of};
 ghost use Rattle.node_objective.specs.Answers.{IsWanted};
@@ -97,16 +97,14 @@ pub trait Knowing {
     fn challenge(&self, channel: &Name) -> Result<Option<OwnChallenge>, NoMemory>
         ensures { IfOk result (λ own. own ≡ challenge_in (mind self.now) channel.now) };
 
-    /// The calls that the stages give, or those of its exit once it left, at most 32000.
-    fn calls(&self) -> Result<Vec<Call>, NoMemory>
+    /// The calls that the stages give, or those of its exit once it left, by whether they were given before; at most 32000.
+    fn calls(&self, has_exited: bool) -> Result<Vec<Call>, NoMemory>
         ensures few { IfOk result (λ given. length given.items ≤ 32000) }
-        ensures given { IfOk result (λ given. given.items ≡ calls_of tables (mind self.now)) };
+        ensures given { IfOk result (λ given. given.items ≡ calls_of tables has_exited (mind self.now)) };
 
-    /// Notes a call that was given.
-    fn called(&mut self, call: &Call)
-        ensures called { mind self.new ≡ called call.now (mind self.old) }
-        ensures used { times self.new ≡ times self.old }
-        ensures signer { signer self.new ≡ signer self.old };
+    /// Whether it left, and all channels with a held chain are final.
+    fn is_over(&self) -> bool
+        ensures { result ≡ (mind self.now).left && is_over (facts_of (mind self.now)) };
 
     /// The state of a payment that was taken up, in its channel.
     fn paying(&self, channel: &Name, asset: u32, amount: u64) -> Result<Option<State>, NoMemory>

@@ -69,6 +69,7 @@ pub struct Node<M: Knowing + Drop> {
     mind: M,
     journal: Vec<Event>,
     commands: Vec<Command>,
+    has_exited: bool,
     is_lost: bool,
 }
 
@@ -77,7 +78,7 @@ impl<M: Knowing + Drop> Model for Node<M> {
 
     ghost Value = { NodeOf };
 
-    ghost view = { λ n. record { mind = M.mind n.mind; signer = M.signer n.mind; used = M.times n.mind; journal = n.journal.items; commands = n.commands.items; is_lost = n.is_lost } };
+    ghost view = { λ n. record { mind = M.mind n.mind; signer = M.signer n.mind; used = M.times n.mind; journal = n.journal.items; commands = n.commands.items; has_exited = n.has_exited; is_lost = n.is_lost } };
 }
 
 impl<M: Knowing + Drop> Node<M> {
@@ -92,6 +93,7 @@ impl<M: Knowing + Drop> Node<M> {
             mind,
             journal: Vec::new(alloc),
             commands: Vec::new(alloc),
+            has_exited: false,
             is_lost: false,
         }
     }
@@ -458,16 +460,14 @@ impl<M: Knowing + Drop> Node<M> {
         Ok(())
     }
 
-    /// Puts a call into the journal, and notes it.
+    /// Puts a call into the journal.
     fn give(&mut self, call: &Call) -> Result<(), NoMemory>
         ensures ok { OnOk result (self.new ≡ gave_one self.old call.now) }
         ensures err { OnErr result (SameJournal self.old self.new) }
         ensures signer { self.new.signer ≡ self.old.signer }
     {
         let copy = copy_call(call)?;
-        self.write(Deed::Called(copy))?;
-        self.mind.called(call);
-        Ok(())
+        self.write(Deed::Called(copy))
     }
 
     fn give_all(&mut self, given: &[Call]) -> Result<(), NoMemory>
@@ -500,7 +500,7 @@ impl<M: Knowing + Drop> Node<M> {
         let mut given = self.no_challenges(all.spent);
         self.challenge_all(&mut given, channels.as_slice())?;
         let Challenged { mut calls, spent } = given;
-        let mut more = self.mind.calls()?;
+        let mut more = self.mind.calls(self.has_exited)?;
         calls.append(&mut more)?;
         Ok(Outs {
             sends: Listed::make(all.sends),
@@ -520,6 +520,7 @@ impl<M: Knowing + Drop> Node<M> {
     {
         let outs = self.signed_outs()?;
         self.give_all(outs.calls.as_slice())?;
+        self.has_exited = self.has_exited || self.mind.is_over();
         Ok(outs)
     }
 

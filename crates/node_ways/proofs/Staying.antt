@@ -19,7 +19,7 @@ use Rattle.net_party.specs.declared.command.Command.TheVariants.{Open, OpenOn, O
 use Rattle.node_model.specs.Giving.{in_order, after_signing, after_challenging, tick_calls, after_tick}
 use Rattle.node_model.specs.Leaving.{OwnChallenge, challenge_in}
 use Rattle.node_model.specs.Minds.{Mind, noted_message, commanded, commanded_if, did}
-use Rattle.node_model.specs.Nodes.{NodeOf, told_of, handled, signed, signed_if, ticked, challenged, challenged_if, challenged_all, gave_one, gave, asked, paid_if, told_to}
+use Rattle.node_model.specs.Nodes.{NodeOf, told_of, handled, signed, signed_if, ticked, challenged, challenged_if, challenged_all, gave_one, gave, exited, asked, paid_if, told_to}
 use Rattle.node_model.specs.Places.{Told, tell, told, is_commanded}
 use Rattle.node_model.specs.Playing.{Signing}
 use Rattle.node_model.specs.Refusing.{message_refusal, command_refusal, signs_in}
@@ -148,12 +148,18 @@ module _ (t : Tables) (r : Rules) where
       (record { signer = refl; view = refl; lost = refl; exit = wrote-event n (record { seen = n.mind.view.count; deed = deeds.Called call }) refl refl })
       (gave-stays calls (gave_one n call))
 
+  exited-stays : (n : NodeOf) → Stays n (exited n)
+  exited-stays n = record { signer = refl; view = refl; lost = refl; exit = (same-stays n).exit }
+
   pub tick-stays : (s : Signing) (n : NodeOf) → Stays n (after_tick t r s n)
   tick-stays s n =
       let signed : NodeOf = after_signing t r s n in
       let done : NodeOf = after_challenging t r s n in
-      and-stays n done (after_tick t r s n)
-      (and-stays n signed done (ticked-stays s (in_order n.mind.parts) n) (all-challenged-stays s (in_order n.mind.parts) signed)) (gave-stays (tick_calls t r s n) done)
+      let given : NodeOf = gave (tick_calls t r s n) done in
+      and-stays n given (after_tick t r s n)
+      (and-stays n done given
+      (and-stays n signed done (ticked-stays s (in_order n.mind.parts) n) (all-challenged-stays s (in_order n.mind.parts) signed)) (gave-stays (tick_calls t r s n) done))
+      (exited-stays given)
 
   asked-stays : (s : Signing) (step : ℕ) (command : Command) (refusal : Option NodeRefusal) (n : NodeOf) → leaves command ≡ false → Stays n (asked r s step command refusal n)
   asked-stays s step command refusal n stays =
