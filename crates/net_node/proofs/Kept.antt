@@ -8,7 +8,7 @@ use Rattle.channel_calls.specs.declared.call.Call.{Call}
 use Rattle.channel_calls.specs.declared.event.NodeRefusal.{NodeRefusal}
 use Rattle.channel_calls.specs.declared.held_chain.HeldChain.{HeldChain}
 use Rattle.channel_store.specs.Keeping.{held_chain}
-use Rattle.net_party.specs.Ways.{followed, looked, ComeNext, HasLooked}
+use Rattle.net_party.specs.Ways.{RefusesAs, followed, looked, ComeNext, HasLooked}
 use Rattle.net_party.specs.declared.command.Command.{Command}
 use Rattle.net_party.specs.declared.command.Command.TheVariants.{Open, OpenOn, OpenVirtual, Pay, Close, Exit}
 use Rattle.net_party.specs.declared.lookout.Lookout.{Lookout}
@@ -135,3 +135,9 @@ handle_keeps p bytes new (Ok done) answer keeps signer h legal is =
 handle_keeps p bytes new (Err (Refused refusal)) answer keeps signer h legal is =
     subst (IsPlaced h) (awake p (handled stages real bytes) new answer.0 answer.2) (nodes_are_kept.handled h bytes p legal is)
 handle_keeps p bytes new (Err NoMemory) answer keeps signer h legal is = lost-placed h p new answer.0 signer (keeps h legal) is
+
+pub handle_refuses : {A : Type 0} (p : Numbered) (bytes : List ℕ) (new : NodeOf) (result : Result A NodeFault) → HandleAnswers stages real bytes p.node new result
+    → RefusesAs (ways.refuses bytes p) result
+handle_refuses p bytes new (Ok done) answer = answer.1
+handle_refuses p bytes new (Err (Refused refusal)) answer = answer.1
+handle_refuses p bytes new (Err NoMemory) answer = tt

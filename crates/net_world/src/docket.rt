@@ -1,6 +1,6 @@
 //! Where ops are entered.
 
-ghost use Rattle.std.specs.Prelude.{◌≡◌, ◌<◌, ◌-◌, ◌^◌, [], List, length, OnOk};
+ghost use Rattle.std.specs.Prelude.{◌≡◌, ◌<◌, ◌-◌, ◌^◌, [], List, length, OnErr, OnOk};
 ghost use Rattle.channel_calls.specs.History.{Legal, newest_first};
 ghost use Rattle.channel_calls.specs.declared.entry.Entry.{Entry as AnEntry};
 ghost use Rattle.support_chain.specs.Real.{real};
@@ -17,10 +17,11 @@ pub trait Docket: Drop {
     fn make(alloc: Global) -> Self
         ensures { history result ≡ [] };
 
-    /// Enters an op, with the reply of the adjudicator.
+    /// Enters an op, with the reply of the adjudicator; or, for want of memory, nothing.
     fn enter(&mut self, by: u32, op: Op) -> Result<(), NoMemory>
         requires { length (history self.old) < 2 ^ 32 - 1 }
-        ensures { OnOk result (history self.new ≡ entered (history self.old) by op) };
+        ensures entered { OnOk result (history self.new ≡ entered (history self.old) by op) }
+        ensures kept { OnErr result (history self.new ≡ history self.old) };
 
     /// The entries in the order of time.
     fn entries(&self) -> &[Entry]

@@ -1,12 +1,14 @@
 -- The ways of a node with the network's own rules and tables, and what it keeps.
 use Rattle.std.specs.Prelude.{◌≡◌, ◌≤◌, ℕ, Bool, false, List, [], ◌∷◌, ◌++◌, length, Option, Some, None, if◌then◌else◌}
 use Rattle.std.specs.List.{flat_map}
+use Rattle.channel_calls.specs.Reading.{message_of}
 use Rattle.channel_calls.specs.declared.entry.Entry.{Entry}
 use Rattle.channel_store.specs.Keeping.{held_chain}
 use Rattle.net_party.specs.Ways.{Ways}
 use Rattle.node_keys.specs.Keys.{IsSound}
 use Rattle.node_model.specs.Giving.{after_tick, tick_gives, command_answers}
 use Rattle.node_model.specs.Nodes.{NodeOf, new_node, told_of, Stands, handled, told_to, saw_all, watched}
+use Rattle.node_model.specs.Refusing.{message_refusal}
 use Rattle.node_model.specs.Places.{Told, AreFew, lines_of, mind_at}
 use Rattle.node_model.specs.Playing.{SignerOf, signing_of}
 use Rattle.node_tables.specs.Stages.{stages}
@@ -57,6 +59,7 @@ ways =
       commanded = λ step command p. noting_if (leaves command) (unless_lost (λ n. told_to stages real (signing_of n.signer) step command n) p);
       answers = λ command p. command_answers stages real (signing_of p.node.signer) 0 command p.node;
       handled = λ bytes. unless_lost (handled stages real bytes);
+      refuses = λ bytes p. message_refusal stages real p.node.mind (message_of bytes);
       ticked = unless_lost (λ n. after_tick stages real (signing_of n.signer) n);
       gives = λ p. tick_gives stages real (signing_of p.node.signer) p.node;
       watched = λ seen place calls. unless_lost (watched seen place calls);
