@@ -1,0 +1,5 @@
+pub mod Turns
+pub mod WordKinds
+pub mod Parts
+pub mod Loads
+pub mod Numbers
