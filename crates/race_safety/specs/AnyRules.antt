@@ -1,0 +1,17 @@
+-- What an honest participant is safe from in a race, under any rules that keep final states.
+use Rattle.std.specs.Prelude.{ℕ, List}
+use Rattle.channel_model.specs.Rules.{Rules, KeepsFinal}
+use Rattle.channel_calls.specs.History.{Legal}
+use Rattle.channel_calls.specs.declared.entry.Entry.{Entry}
+use Rattle.net_model.specs.Journals.{Line}
+use Rattle.net_model.specs.Premises.{Unforged, NoCollision, AreValid}
+use Rattle.net_model.specs.Honest.{Honest}
+use Rattle.net_model.specs.Safety.{IsSafe}
+use Rattle.race_laws.specs.Races.{IsRaced, NotesLasting}
+
+-- in a race no outcome becomes final for an honest participant that is older than what it noted or was shown
+abbrev pub AnyRacedOutcomesAreNotOlder : Type 0
+AnyRacedOutcomesAreNotOlder =
+    (r : Rules) (key : List ℕ) (h : List Entry) (journal : List Line) (ends : List ℕ) → KeepsFinal r → Legal r h
+    → Honest r key h journal → Unforged r key h journal → NoCollision r h journal → AreValid h journal
+    → IsRaced h journal ends → NotesLasting r journal → IsSafe r key h journal

@@ -1,0 +1,3 @@
+pub mod AnyRules
+pub mod Network
+pub mod Witness
