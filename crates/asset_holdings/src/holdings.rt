@@ -141,6 +141,3 @@ fn raise(amounts: &mut IndexMap<(Name, u32), u64>, name: Name, asset: u32, more:
     let amount = amount(amounts, &(name, asset));
     set_amount(amounts, (name, asset), amount + more);
 }
-
-#[cfg(test)]
-mod tests;

@@ -14,6 +14,3 @@ pub use channel_calls::{Row, row_or_blank};
 pub use opening::{challenge, challenge_with};
 pub use supported::{checkpoint, checkpoint_with, conclude, conclude_with};
 pub use top::is_challenge_signed;
-
-#[cfg(test)]
-mod tests;

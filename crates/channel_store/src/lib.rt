@@ -10,6 +10,3 @@ mod store;
 pub use fault::NoteFault;
 pub use kept::Kept;
 pub use store::Store;
-
-#[cfg(test)]
-mod tests;

@@ -147,6 +147,3 @@ pub fn claim_due(
         amount,
     })
 }
-
-#[cfg(test)]
-mod tests;

@@ -8,6 +8,3 @@ mod sources;
 mod sums;
 
 pub use balances::Balances;
-
-#[cfg(test)]
-mod tests;

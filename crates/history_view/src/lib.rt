@@ -15,6 +15,3 @@ mod turning;
 pub use following::{follow, unseen};
 pub use readers::{held_amount, paid_amount, view_of};
 pub use room::can_follow;
-
-#[cfg(test)]
-mod tests;

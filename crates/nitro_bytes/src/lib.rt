@@ -37,6 +37,3 @@ pub use outcome::{
 };
 pub use state::{State, read_state, take_state, write_state};
 pub use value::{AssetOutcome, Dest, Item, Key, Name, Shape};
-
-#[cfg(test)]
-mod tests;

@@ -28,6 +28,3 @@ pub fn lower(items: &mut [Item], index: usize, amount: u64)
 {
     items[index].amount -= amount;
 }
-
-#[cfg(test)]
-mod tests;

@@ -30,6 +30,3 @@ pub fn claimable(target_items: &[Item], list: &[Dest], position: usize, balance:
     }
     amount_for(target_items, &list[position]).min(left)
 }
-
-#[cfg(test)]
-mod tests;

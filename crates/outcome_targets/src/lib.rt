@@ -18,6 +18,3 @@ pub use apart::apart_spelled;
 pub use changed::Changed;
 pub use child::Child;
 pub use terms::Terms;
-
-#[cfg(test)]
-mod tests;

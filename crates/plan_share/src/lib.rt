@@ -13,6 +13,3 @@ mod worth;
 pub use funded::is_funded;
 pub use owed::is_owed;
 pub use worth::share;
-
-#[cfg(test)]
-mod tests;

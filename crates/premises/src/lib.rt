@@ -12,6 +12,3 @@ mod timing;
 
 pub use answers::{distinct, in_time, is_in_time, is_unforged, unforged};
 pub use journal::{Journal, journal_of};
-
-#[cfg(test)]
-mod tests;

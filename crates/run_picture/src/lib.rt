@@ -16,8 +16,6 @@ mod receivers;
 mod shapes;
 mod style;
 mod svg;
-#[cfg(test)]
-mod tests;
 mod times;
 
 pub use picture::picture_of;

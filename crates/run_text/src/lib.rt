@@ -9,8 +9,6 @@ mod lines;
 mod model;
 mod reading;
 mod refusals;
-#[cfg(test)]
-mod tests;
 mod words;
 
 pub use fault::{LineFault, Unread, Wanted};

@@ -16,8 +16,6 @@ mod script;
 mod source;
 mod standard;
 mod step;
-#[cfg(test)]
-mod tests;
 mod written;
 
 pub use context::{Channel, Context, Person};

@@ -11,6 +11,3 @@ pub use nitro_bytes::{Chain, Mark, StepFault, SupportFault};
 pub use signature::{is_signed_well, mark_verifies, mover_at, signs_state};
 pub use steps::step;
 pub use support::{people_of, supports, supports_with};
-
-#[cfg(test)]
-mod tests;

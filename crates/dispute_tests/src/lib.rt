@@ -1,0 +1,9 @@
+//! Steps, support and challenges.
+#![tactic(auto)]
+
+#[cfg(test)]
+mod challenges;
+#[cfg(test)]
+mod moves;
+#[cfg(test)]
+mod support;

@@ -1,0 +1,5 @@
+//! Values and their bytes, told by hand.
+#![tactic(auto)]
+
+#[cfg(test)]
+mod bytes;
