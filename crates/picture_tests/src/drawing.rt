@@ -1,8 +1,9 @@
 //! What the text doesn't say in a clause: who is paid, and where shapes stand.
 
-use run_picture::{escape, picture_of};
+use run_picture::picture_of;
 use run_text::read_run;
 use std::test::Fail;
+use svg_words::escape;
 
 /// The guarantor is paid first, since it pays itself before the ledger's other payment.
 const TEXT: &[u8] = b"1 0 deposit L 0 0 9 ok held 9

@@ -19,4 +19,3 @@ mod svg;
 mod times;
 
 pub use picture::picture_of;
-pub use svg::escape;

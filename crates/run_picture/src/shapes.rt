@@ -1,11 +1,9 @@
 //! What a picture is made of, as plain numbers.
 
-ghost use Rattle.std.specs.Prelude.{◌≡◌};
-ghost use Rattle.run_picture.specs.Look.{is_refused};
-
 use crate::px::{minus, plus};
 use run_text::Reply;
 use std::alloc::{AllocError, Global};
+use svg_words::Fill;
 
 /// How a shape looks.
 #[derive(Clone, Copy)]
@@ -23,10 +21,10 @@ pub enum Look {
     Final,
     Arrow,
     ArrowUntold,
-    /// What a call was, by its caller: hollow where it was refused.
-    Mark { by: u64, is_hollow: bool },
+    /// What a call was, by its caller.
+    Mark { by: u64, fill: Fill },
     /// The number in a mark.
-    InMark { is_hollow: bool },
+    InMark(Fill),
     /// What a channel holds.
     Held(usize),
     /// What a person was paid.
@@ -81,27 +79,6 @@ pub struct Shape {
     pub look: Look,
     /// What is told of it; nothing where it is empty.
     pub title: Vec<u8>,
-}
-
-/// The look of a mark, by the caller and the reply.
-pub fn look_of_mark(by: u64, reply: &Reply) -> Look
-    ensures { result ≡ Look.Mark by (is_refused reply.now) }
-{
-    match reply {
-        Reply::No(_) => Look::Mark {
-            by,
-            is_hollow: true,
-        },
-        Reply::Held(_)
-        | Reply::Now(_)
-        | Reply::Until(_)
-        | Reply::Open(_)
-        | Reply::Final(_)
-        | Reply::Paid(_) => Look::Mark {
-            by,
-            is_hollow: false,
-        },
-    }
 }
 
 /// A picture while it is made.
@@ -226,18 +203,13 @@ impl Sketch {
         radius: u64,
         title: &[u8],
     ) -> Result<(), AllocError> {
-        self.dot(look_of_mark(by, reply), at, radius, title)?;
+        let fill = Fill::of(reply);
+        self.dot(Look::Mark { by, fill }, at, radius, title)?;
         if radius < 6 || by > 99 {
             return Ok(());
         }
-        let is_hollow = matches!(reply, Reply::No(_));
         let number = self.number(by)?;
         let below = (at.0, plus(at.1, 3));
-        self.text(
-            Look::InMark { is_hollow },
-            below,
-            Run::Both,
-            &[number.as_bytes()],
-        )
+        self.text(Look::InMark(fill), below, Run::Both, &[number.as_bytes()])
     }
 }

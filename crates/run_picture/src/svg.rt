@@ -1,46 +1,13 @@
 //! Writing a picture as SVG.
 
-ghost use Rattle.std.specs.Prelude.{◌≡◌, ◌++◌, OnOk, codes, if◌then◌else◌};
-ghost use Rattle.run_picture.specs.Escape.{escaped_byte, escaped};
-
 use crate::shapes::{Form, Look, Run, Shape};
 use crate::style::{HEAD, STYLE};
 use std::alloc::{AllocError, Global};
+use svg_words::escape;
 
 fn put(out: &mut Vec<u8>, text: &str) -> Result<(), AllocError> {
     out.extend_from_slice(text.as_bytes())?;
     Ok(())
-}
-
-fn escape_byte(out: &mut Vec<u8>, byte: u8) -> Result<(), AllocError>
-    ensures { OnOk result (out.new.items ≡ out.old.items ++ escaped_byte byte) }
-{
-    match byte {
-        b'&' => out.extend_from_slice(b"&amp;")?,
-        b'<' => out.extend_from_slice(b"&lt;")?,
-        b'>' => out.extend_from_slice(b"&gt;")?,
-        b'"' => out.extend_from_slice(b"&quot;")?,
-        32..=126 => out.push(byte)?,
-        _ => out.push(b'?')?,
-    }
-    Ok(())
-}
-
-/// Writes text of any bytes, so that it is text of the XML document.
-pub fn escape(out: &mut Vec<u8>, text: &[u8]) -> Result<(), AllocError>
-    ensures { OnOk result (out.new.items ≡ out.old.items ++ escaped text.now) }
-{
-    for byte in text {
-        escape_byte(out, *byte)?;
-    }
-    Ok(())
-}
-
-/// The class of a mark, by whether its call was refused.
-fn fill_of(is_hollow: bool) -> &'static str
-    ensures { result.now ≡ (if is_hollow then codes "hollow" else codes "full") }
-{
-    if is_hollow { "hollow" } else { "full" }
 }
 
 /// The colour of a caller: the script has its own.
@@ -53,14 +20,14 @@ fn colour_of(by: u64) -> u64 {
 
 fn put_class(alloc: Global, out: &mut Vec<u8>, look: Look) -> Result<(), AllocError> {
     let name = match look {
-        Look::Mark { by, is_hollow } => {
+        Look::Mark { by, fill } => {
             let colour = colour_of(by);
-            let fill = fill_of(is_hollow);
+            let fill = fill.name();
             let class = format!(in alloc; "mark k{colour} {fill}")?;
             return put(out, class.as_str());
         }
-        Look::InMark { is_hollow } => {
-            let fill = fill_of(is_hollow);
+        Look::InMark(fill) => {
+            let fill = fill.name();
             let class = format!(in alloc; "in {fill}")?;
             return put(out, class.as_str());
         }

@@ -1,2 +1,2 @@
-pub mod Look
 pub mod Escape
+pub mod Fills
