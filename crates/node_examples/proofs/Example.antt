@@ -48,7 +48,7 @@ use Rattle.node_examples.specs.Witness.{StandsWithJournal}
 
 -- ---- the rules: a signature is the first byte of the key, a name repeats the nonce, and every step follows
 
-abbrev rules : Rules
+abbrev pub rules : Rules
 rules =
     record {
       verifies = λ key message signature. bytes_eq (take 1 key) signature;
@@ -58,7 +58,7 @@ rules =
       step = λ f s t. None;
     }
 
-abbrev key_a : List ℕ
+abbrev pub key_a : List ℕ
 key_a = replicate 56 1
 
 abbrev key_b : List ℕ
@@ -70,21 +70,21 @@ by_a = 1 ∷ []
 abbrev by_b : List ℕ
 by_b = 2 ∷ []
 
-abbrev signing : Signing
+abbrev pub signing : Signing
 signing = record { key = key_a; limit = 2; made = λ index message. by_a }
 
-signs : SignsWell rules signing
+pub signs : SignsWell rules signing
 signs index message within = refl
 
 -- ---- the channel, its states, and the history
 
-abbrev pair : FixedParts
+abbrev pub pair : FixedParts
 pair = fixed_with (key_a ∷ key_b ∷ []) 7 0 10
 
-abbrev name : List ℕ
+abbrev pub name : List ℕ
 name = replicate 32 7
 
-abbrev at_turn : ℕ → StateParts
+abbrev pub at_turn : ℕ → StateParts
 at_turn turn = state_with turn false [] []
 
 abbrev mark : ℕ → List ℕ → Mark
@@ -96,13 +96,13 @@ chain states marks = record { fixed = pair; states = states; marks = marks }
 abbrev challenged : Chain
 challenged = chain (at_turn 0 ∷ at_turn 1 ∷ []) (mark 0 by_a ∷ mark 1 by_b ∷ [])
 
-abbrev challenge : Entry
+abbrev pub challenge : Entry
 challenge = record { number = 1; by = 2; op = ops.Call (Challenge challenged 1 by_b); reply = Until 10 }
 
-abbrev history : List Entry
+abbrev pub history : List Entry
 history = challenge ∷ []
 
-legal : Legal rules history
+pub legal : Legal rules history
 unfolding reply_to supports last_turn
 legal = (tt, refl, refl)
 
@@ -117,7 +117,7 @@ by_b_1 = record { state = at_turn 1; signature = by_b }
 abbrev bytes : List ℕ
 bytes = message (name, by_b_1)
 
-abbrev held : Chain
+abbrev pub held : Chain
 held = chain (at_turn 1 ∷ at_turn 2 ∷ []) (mark 1 by_a ∷ mark 0 by_b ∷ [])
 
 abbrev event : ℕ → Deed → Event
@@ -170,10 +170,10 @@ node_3 = node (knowing unseen challenged (Some (at_turn 0))) 1 (opening ∷ firs
 abbrev node_4 : NodeOf
 node_4 = node (knowing unseen held (Some (at_turn 2))) 2 (opening ∷ first ∷ taking ∷ second ∷ [])
 
-abbrev node_5 : NodeOf
+abbrev pub node_5 : NodeOf
 node_5 = node (knowing (followed rules.named challenge unseen) held (Some (at_turn 2))) 2 (opening ∷ first ∷ taking ∷ second ∷ [])
 
-abbrev node_6 : NodeOf
+abbrev pub node_6 : NodeOf
 node_6 = node (knowing (followed rules.named challenge unseen) held (Some (at_turn 2))) 2 (opening ∷ first ∷ taking ∷ second ∷ looking ∷ [])
 
 -- ---- what the calls make of it
@@ -239,7 +239,7 @@ looked = record {
   are = λ later past is len. subst (λ (z : List Entry). AreFew z × ((Checkpoint held ∷ []) ≡ looks rules z (flat_map held_chain node_5.mind.kept))) (sym (same-tail later [] past history (sym is) len)) ((omega arith, tt), refl);
 }
 
-stands : Stands stages rules signing history node_6
+pub stands : Stands stages rules signing history node_6
 stands =
     let st1 = subst (Stands stages rules signing history) opens ((calls node_0 refl fresh-stands).tells 0 command) in
     let st2 = subst (Stands stages rules signing history) signs-first ((calls node_1 refl st1).ticks (name ∷ [])) in
@@ -253,7 +253,7 @@ are-bytes zero b h i = omega arith
 are-bytes (suc n) b h zero = h
 are-bytes (suc n) b h (suc i) = are-bytes n b h i
 
-valid : IsFixed pair
+pub valid : IsFixed pair
 valid = record {
   at_least_two = omega arith;
   at_most_four = omega arith;
@@ -265,7 +265,7 @@ valid = record {
   duration = omega arith;
 }
 
-pub stands_with_journal : StandsWithJournal
+abbrev pub stands_with_journal : StandsWithJournal
 stands_with_journal = record {
   rules = rules;
   signing = signing;
