@@ -136,8 +136,14 @@ handle_keeps p bytes new (Err (Refused refusal)) answer keeps signer h legal is 
     subst (IsPlaced h) (awake p (handled stages real bytes) new answer.0 answer.2) (nodes_are_kept.handled h bytes p legal is)
 handle_keeps p bytes new (Err NoMemory) answer keeps signer h legal is = lost-placed h p new answer.0 signer (keeps h legal) is
 
-pub handle_refuses : {A : Type 0} (p : Numbered) (bytes : List ℕ) (new : NodeOf) (result : Result A NodeFault) → HandleAnswers stages real bytes p.node new result
+refuses-as : {A : Type 0} (p : Numbered) (bytes : List ℕ) (new : NodeOf) (result : Result A NodeFault) → HandleAnswers stages real bytes p.node new result
     → RefusesAs (ways.refuses bytes p) result
-handle_refuses p bytes new (Ok done) answer = answer.1
-handle_refuses p bytes new (Err (Refused refusal)) answer = answer.1
-handle_refuses p bytes new (Err NoMemory) answer = tt
+refuses-as p bytes new (Ok done) answer = answer.1
+refuses-as p bytes new (Err (Refused refusal)) answer = answer.1
+refuses-as p bytes new (Err NoMemory) answer = tt
+
+-- why a message is refused is answered of its copy, and so of it
+pub handle_refuses : {A : Type 0} (p : Numbered) (bytes copy : List ℕ) (new : NodeOf) (result : Result A NodeFault) → copy ≡ bytes
+    → HandleAnswers stages real copy p.node new result → RefusesAs (ways.refuses bytes p) result
+handle_refuses p bytes copy new result same answer =
+    subst (λ (b : List ℕ). RefusesAs (ways.refuses b p) result) same (refuses-as p copy new result answer)

@@ -10,5 +10,6 @@ returns-clause-keeps c =
 
 pub returns-clause-refuses : goal.returns-clause-refuses
 returns-clause-refuses c =
-    handle_refuses (record { number = c.self.inside.number; node = c.self.inside.node; exits = c.self.inside.exits }) c.in_ok-bytes.bytes c.handle.new.self c.handle.result
-    c.handle.ensures.answer
+    rw (← c.self.view_is)
+    (handle_refuses (record { number = c.self.inside.number; node = c.self.inside.node; exits = c.self.inside.exits }) c.args.bytes.now c.in_ok-bytes.bytes c.handle.new.self
+    c.handle.result c.in_ok-bytes.ensures c.handle.ensures.answer)
