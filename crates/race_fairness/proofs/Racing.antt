@@ -1,14 +1,10 @@
 -- A race brings about that a node's watchers are in time, so what rests on that holds for the network's node.
-use Rattle.std.proofs.Common.{ℕ, List, ◌∷◌, ◌++◌, inl}
-use Rattle.std.specs.Prelude.{flat_map}
+use Rattle.std.proofs.Common.{ℕ, List, ◌++◌, inl}
 use Rattle.channel_name.specs.Collisions.{NoneCollide}
-use Rattle.channel_name.specs.Digests.{person_string}
 use Rattle.channel_calls.specs.History.{Legal}
 use Rattle.channel_calls.specs.declared.entry.Entry.{Entry}
 use Rattle.support_chain.specs.Real.{real}
 use Rattle.net_model.proofs.Members.{In-append_left, contains, contained}
-use Rattle.net_model.specs.Hashed.{of_fixed, hashed}
-use Rattle.net_model.specs.Journals.{Line}
 use Rattle.net_model.specs.Premises.{AreValid}
 use Rattle.race_laws.specs.Races.{IsRaced}
 use Rattle.node_model.specs.Nodes.{told_of}

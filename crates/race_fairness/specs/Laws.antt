@@ -53,5 +53,5 @@ RacingNodesKeepShares =
     → IsRaced h (ways.lines p) ends → OpensLasting (ways.lines p) → AreValid h (ways.lines p)
     → Unforged real (ways.key p) h (ways.lines p)
     → NoneCollide
-        (hashed h (ways.lines p) ++ (person_string (ways.key p) ∷ flat_map of_fixed (named_in (told_of p.node))))
+    (hashed h (ways.lines p) ++ (person_string (ways.key p) ∷ flat_map of_fixed (named_in (told_of p.node))))
     → KeepsItsShare (name_of_person (ways.key p)) (orders_of real (ways.key p) (told_of p.node)) h (ways.lines p)

@@ -1,0 +1,5 @@
+//! The scripts of loads.
+#![tactic(auto)]
+
+#[cfg(test)]
+mod loads;
