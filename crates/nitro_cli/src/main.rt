@@ -1,4 +1,5 @@
-//! The program: `nitro_cli run` reads a script from standard input, plays it and prints the history.
+//! The program: `nitro_cli run` reads a script from standard input, plays it and prints the history; `nitro_cli load` plays
+//! one that it makes from a seed.
 #![tactic(auto)]
 
 use nitro_bytes::{Label, NoMemory};

@@ -11,6 +11,7 @@ use Rattle.net_model.specs.Valid.{IsValidEntry}
 use Rattle.net_world.specs.Entered.{oldest_first}
 use Rattle.net_world.specs.Members.{MemberOf}
 use Rattle.play_laws.proofs.Played.{plays_are_kept}
+use Rattle.report_text.specs.declared.report.Load.{Load}
 use Rattle.report_text.specs.declared.report.Report.{Report}
 use Rattle.script_play.specs.Play.{SceneOf, play}
 use Rattle.script_reader.specs.Bounds.{Fits}
@@ -23,7 +24,7 @@ use Rattle.play_report.proofs.Pairs.{all_reverse}
 use Rattle.play_report.specs.Reported.{Tells, PlaysExits}
 use Rattle.play_report.specs.Shares.{HasFollowed, shares_of, exits_for, exits_if, exits_of, exits_at, real_exits}
 
-module _ {P : Type 0} (tale : Tale P) (stands : List Entry → P → Type 0) (kept : AreKept tale.ways stands) (lost : P → Bool)
+module _ {P : Type 0} (tale : Tale P) (load : Option Load) (stands : List Entry → P → Type 0) (kept : AreKept tale.ways stands) (lost : P → Bool)
     (left : P → Option (List Line)) (orders : P → ℕ → Order) (got : ExitsAreReal tale.ways stands lost tale.exits left orders) where
   module _ (h : List Entry) (legal : Legal real h) (valid : AllByRecursion IsValidEntry h) where
     each_asset : (p : P) (amounts : List (ℕ × ℕ)) (front : List Line) → ((asset : ℕ) → amount_then amounts asset ≡ share_then tale.ways orders h p front asset)
@@ -54,7 +55,7 @@ module _ {P : Type 0} (tale : Tale P) (stands : List Entry → P → Type 0) (ke
 
   module _ (steps : List Step) (fit : All Fits steps) where
     -- of what the steps came to
-    of_play : (r : Report) → AllByRecursion IsValidEntry r.history → Tells tale r (play tale.ways steps)
+    of_play : (r : Report) → AllByRecursion IsValidEntry r.history → Tells tale load r (play tale.ways steps)
         → AllByRecursion (λ (m : MemberOf P). HasFollowed tale.ways lost (length (oldest_first (play tale.ways steps).world.history)) m.node) (play tale.ways steps).world.members
         → PlaysExits tale.ways left orders r steps
     of_play r valid tells followed =
@@ -68,10 +69,10 @@ module _ {P : Type 0} (tale : Tale P) (stands : List Entry → P → Type 0) (ke
         ∙ all_nodes h world.legal values (assets_of (flows_of r.history)) (length (oldest_first h)) (play tale.ways steps).world.members world.nodes followed)
 
     pub plays_exits : {E : Type 0} (scene : SceneOf P) → scene ≡ play tale.ways steps → (result : Result Report E)
-        → IfOk result (λ r. AllByRecursion IsValidEntry r.history) → IfOk result (λ r. Tells tale r scene)
+        → IfOk result (λ r. AllByRecursion IsValidEntry r.history) → IfOk result (λ r. Tells tale load r scene)
         → OnOk result (AllByRecursion (λ (m : MemberOf P). HasFollowed tale.ways lost (length (oldest_first scene.world.history)) m.node) scene.world.members)
         → IfOk result (λ r. PlaysExits tale.ways left orders r steps)
     plays_exits scene same (Ok r) valid tells followed =
-        of_play r valid (subst (Tells tale r) same tells)
+        of_play r valid (subst (Tells tale load r) same tells)
         (subst (λ (s : SceneOf P). AllByRecursion (λ (m : MemberOf P). HasFollowed tale.ways lost (length (oldest_first s.world.history)) m.node) s.world.members) same followed)
     plays_exits scene same (Err e) valid tells followed = tt

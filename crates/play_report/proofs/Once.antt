@@ -1,12 +1,13 @@
 -- What a play came to has one report.
 use Rattle.std.proofs.Common.{◌≡◌, Bool, true, false, List, [], ◌∷◌, ℕ, sym, ◌∙◌, ap, subst, refl}
-use Rattle.std.specs.Prelude.{IsTrue, ◌↔◌, reverse}
+use Rattle.std.specs.Prelude.{IsTrue, ◌↔◌, Option, reverse}
 use Rattle.std.proofs.lemmas.List.{reverse-reverse}
 use Rattle.channel_calls.specs.History.{newest_first}
 use Rattle.channel_calls.specs.declared.entry.Entry.{Entry}
 use Rattle.nitro_bytes.specs.Parts.{FixedParts}
 use Rattle.premises.specs.declared.journal.Journal.{Journal}
 use Rattle.report_text.specs.declared.report.Judged.{Judged}
+use Rattle.report_text.specs.declared.report.Load.{Load}
 use Rattle.report_text.specs.declared.report.Report.{Report}
 use Rattle.script_play.specs.Play.{SceneOf}
 use Rattle.told_party.specs.Telling.{Pairwise, Tale}
@@ -41,8 +42,8 @@ same_in_time : (h k : List Entry) → newest_first h ≡ newest_first k → h �
 same_in_time h k e = sym (reverse-reverse h) ∙ ap reverse e ∙ reverse-reverse k
 
 module _ {P : Type 0} (tale : Tale P) where
-  pub one_report : (r q : Report) (s : SceneOf P) → Tells tale r s → Tells tale q s → r ≡ q
-  one_report r q s a b =
+  pub one_report : (load : Option Load) (r q : Report) (s : SceneOf P) → Tells tale load r s → Tells tale load q s → r ≡ q
+  one_report load r q s a b =
       let history = same_in_time r.history q.history (a.history ∙ sym b.history) in
       let journals = a.journals ∙ sym b.journals in
       let rounds = a.rounds ∙ sym b.rounds in
@@ -53,6 +54,7 @@ module _ {P : Type 0} (tale : Tale P) where
       let premises = same-all q.history q.journals q.journals r.premises q.premises moved b.judged in
       let shared = a.shares ∙ ap (λ h. told_shares tale h s) history ∙ sym b.shares in
       let exited = a.exits ∙ ap (λ h. told_exits tale h s) history ∙ sym b.exits in
+      let noted = a.noted ∙ sym b.noted in
       λ i.
       record {
         history = history i;
@@ -62,4 +64,5 @@ module _ {P : Type 0} (tale : Tale P) where
         premises = premises i;
         shares = shared i;
         exits = exited i;
+        load = noted i;
       }

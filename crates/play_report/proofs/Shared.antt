@@ -1,6 +1,6 @@
 -- The shares that are told at the end of a play are those of the definition.
 use Rattle.std.proofs.Common.{◌≡◌, ℕ, Bool, List, [], ◌∷◌, ◌++◌, length, inl, inr, refl, sym, ◌∙◌, ap, subst}
-use Rattle.std.specs.Prelude.{All, IfOk, OnOk, Result, Ok, Err, map, reverse, flat_map}
+use Rattle.std.specs.Prelude.{All, IfOk, OnOk, Option, Result, Ok, Err, map, reverse, flat_map}
 use Rattle.std.specs.List.{AllByRecursion}
 use Rattle.std.proofs.lemmas.List.{length-reverse, reverse-reverse}
 use Rattle.channel_name.specs.Digests.{name_of_person}
@@ -12,6 +12,7 @@ use Rattle.net_model.specs.Valid.{IsValidEntry}
 use Rattle.net_world.specs.Entered.{oldest_first}
 use Rattle.net_world.specs.Members.{MemberOf}
 use Rattle.play_laws.proofs.Played.{plays_are_kept}
+use Rattle.report_text.specs.declared.report.Load.{Load}
 use Rattle.report_text.specs.declared.report.Report.{Report}
 use Rattle.script_play.specs.Play.{SceneOf, play}
 use Rattle.script_reader.specs.Bounds.{Fits}
@@ -29,11 +30,11 @@ pub in_time : (h past : List Entry) → newest_first h ≡ past → reverse past
 in_time h past is = ap reverse (sym is) ∙ reverse-reverse h
 
 -- a report of these parts tells what a play came to
-pub tells_so : {P : Type 0} (tale : Tale P) (s : SceneOf P) (r : Report) → newest_first r.history ≡ s.world.history
+pub tells_so : {P : Type 0} (tale : Tale P) (load : Option Load) (s : SceneOf P) (r : Report) → newest_first r.history ≡ s.world.history
     → r.journals ≡ map (journal_of tale.ways) s.world.members → r.rounds ≡ s.rounds → r.labels ≡ s.names.labels
     → AreJudged r.history r.journals r.premises → r.shares ≡ told_shares tale (oldest_first s.world.history) s
-    → r.exits ≡ told_exits tale (oldest_first s.world.history) s → Tells tale r s
-tells_so tale s r history journals rounds labels judged shares exits =
+    → r.exits ≡ told_exits tale (oldest_first s.world.history) s → r.load ≡ load → Tells tale load r s
+tells_so tale load s r history journals rounds labels judged shares exits noted =
     record {
       history = history;
       journals = journals;
@@ -42,9 +43,10 @@ tells_so tale s r history journals rounds labels judged shares exits =
       judged = judged;
       shares = shares ∙ ap (λ h. told_shares tale h s) (in_time r.history s.world.history history);
       exits = exits ∙ ap (λ h. told_exits tale h s) (in_time r.history s.world.history history);
+      noted = noted;
     }
 
-module _ {P : Type 0} (tale : Tale P) (stands : List Entry → P → Type 0) (kept : AreKept tale.ways stands) (lost : P → Bool)
+module _ {P : Type 0} (tale : Tale P) (load : Option Load) (stands : List Entry → P → Type 0) (kept : AreKept tale.ways stands) (lost : P → Bool)
     (orders : P → ℕ → Order) (gets : SharesAreReal tale.ways stands lost tale.shares orders) where
   module _ (h : List Entry) (legal : Legal real h) (valid : AllByRecursion IsValidEntry h) where
     one_node : (p : P) → stands h p → HasFollowed tale.ways lost (length h) p → (assets : List ℕ)
@@ -63,7 +65,7 @@ module _ {P : Type 0} (tale : Tale P) (stands : List Entry → P → Type 0) (ke
 
   module _ (steps : List Step) (fit : All Fits steps) where
     -- of what the steps came to
-    of_play : (r : Report) → AllByRecursion IsValidEntry r.history → Tells tale r (play tale.ways steps)
+    of_play : (r : Report) → AllByRecursion IsValidEntry r.history → Tells tale load r (play tale.ways steps)
         → AllByRecursion (λ (m : MemberOf P). HasFollowed tale.ways lost (length (oldest_first (play tale.ways steps).world.history)) m.node) (play tale.ways steps).world.members
         → PlaysShares tale.ways orders r steps
     of_play r valid tells followed =
@@ -80,10 +82,10 @@ module _ {P : Type 0} (tale : Tale P) (stands : List Entry → P → Type 0) (ke
         (tells.shares ∙ all_nodes h world.legal values (assets_of (flows_of r.history)) (play tale.ways steps).world.members world.nodes whole)
 
     pub plays_shares : {E : Type 0} (scene : SceneOf P) → scene ≡ play tale.ways steps → (result : Result Report E)
-        → IfOk result (λ r. AllByRecursion IsValidEntry r.history) → IfOk result (λ r. Tells tale r scene)
+        → IfOk result (λ r. AllByRecursion IsValidEntry r.history) → IfOk result (λ r. Tells tale load r scene)
         → OnOk result (AllByRecursion (λ (m : MemberOf P). HasFollowed tale.ways lost (length (oldest_first scene.world.history)) m.node) scene.world.members)
         → IfOk result (λ r. PlaysShares tale.ways orders r steps)
     plays_shares scene same (Ok r) valid tells followed =
-        of_play r valid (subst (Tells tale r) same tells)
+        of_play r valid (subst (Tells tale load r) same tells)
         (subst (λ (s : SceneOf P). AllByRecursion (λ (m : MemberOf P). HasFollowed tale.ways lost (length (oldest_first s.world.history)) m.node) s.world.members) same followed)
     plays_shares scene same (Err e) valid tells followed = tt

@@ -16,6 +16,7 @@ use Rattle.premises.specs.Collision.{Distinct, DistinctWith, strings_added}
 use Rattle.premises.specs.Persons.{IsUnforged, IsInTime}
 use Rattle.premises.specs.declared.journal.Journal.{Journal}
 use Rattle.report_text.specs.declared.report.Judged.{Judged}
+use Rattle.report_text.specs.declared.report.Load.{Load}
 use Rattle.report_text.specs.declared.report.Report.{Report}
 use Rattle.report_text.specs.declared.report.Share.{Share}
 use Rattle.script_play.specs.Play.{SceneOf, play}
@@ -115,8 +116,8 @@ module _ {P : Type 0} (tale : Tale P) where
   abbrev pub told_exits : List Entry → SceneOf P → List Share
   told_exits h s = flat_map (λ m. exits_of tale.ways tale.exits (assets_of (flows_of h)) m.node) s.world.members
 
-  -- the report is that of a play, which came to this
-  pub record Tells (r : Report) (s : SceneOf P) : Type 0 where
+  -- the report is that of a play, which came to this, with a note of the load that its script was made of, if it was
+  pub record Tells (load : Option Load) (r : Report) (s : SceneOf P) : Type 0 where
     pub history : newest_first r.history ≡ s.world.history
     pub journals : r.journals ≡ map (journal_of tale.ways) s.world.members
     pub rounds : r.rounds ≡ s.rounds
@@ -124,6 +125,7 @@ module _ {P : Type 0} (tale : Tale P) where
     pub judged : AreJudged r.history r.journals r.premises
     pub shares : r.shares ≡ told_shares r.history s
     pub exits : r.exits ≡ told_exits r.history s
+    pub noted : r.load ≡ load
 
-  abbrev pub IsPlayed : Report → List Step → Type 0
-  IsPlayed r steps = Tells r (play tale.ways steps)
+  abbrev pub IsPlayed : Option Load → Report → List Step → Type 0
+  IsPlayed load r steps = Tells load r (play tale.ways steps)

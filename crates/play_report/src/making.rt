@@ -18,7 +18,7 @@ use net_model::entries_are_valid;
 use net_world::Docket;
 use nitro_bytes::{Listed, NoMemory};
 use premises::Journal;
-use report_text::{Report, Share, assets_of};
+use report_text::{Load, Report, Share, assets_of};
 use script_play::{Scene, play};
 use script_reader::{STEP_LIMIT, Step};
 use sign_index::Signer;
@@ -57,10 +57,14 @@ fn tales_of<P: Told, D: Docket>(alloc: Global, scene: &Scene<P, D>) -> Result<Ta
     })
 }
 
-/// The report of what a play came to.
+/// The report of what a play came to, with a note of the load that its script was made of, if it was.
 #[tactic(auto, using(crate::proofs::Shared::tells_so))]
-fn report_of<P: Told, D: Docket>(alloc: Global, scene: Scene<P, D>) -> Result<Report, NoMemory>
-    ensures tells { IfOk result (λ report. Tells (tale_of P.ways P.shares P.exits) report scene) }
+fn report_of<P: Told, D: Docket>(
+    alloc: Global,
+    scene: Scene<P, D>,
+    load: Option<Load>,
+) -> Result<Report, NoMemory>
+    ensures tells { IfOk result (λ report. Tells (tale_of P.ways P.shares P.exits) load report scene) }
     ensures legal { IfOk result (λ report. Legal real (newest_first report.history)) }
     ensures valid { IfOk result (λ report. AllByRecursion IsValidEntry report.history) }
     ensures safe { IfOk result (λ report. AllHonest P.ways report scene.world.members
@@ -81,21 +85,24 @@ fn report_of<P: Told, D: Docket>(alloc: Global, scene: Scene<P, D>) -> Result<Re
         premises: Listed::make(premises),
         shares: Listed::make(tales.shares),
         exits: Listed::make(tales.exits),
+        load,
     })
 }
 
-/// Plays the steps, and tells what came of them. The signers are those of the people that the steps declare.
+/// Plays the steps, and tells what came of them. The signers are those of the people that the steps declare. Of a load the
+/// report notes what it was made from.
 pub fn report_play<P: Told, D: Docket>(
     alloc: Global,
     steps: &[Step],
     signers: Vec<Signer>,
+    load: Option<Load>,
 ) -> Result<Report, NoMemory>
     requires fit { All Fits steps.now }
     requires few { persons_of steps.now ≤ 16 }
     requires rounds { rounds_of steps.now ≤ 4096 }
     requires short { length steps.now ≤ STEP_LIMIT }
     requires fresh { signers.items ≡ signers_of steps.now }
-    ensures played { IfOk result (λ report. IsPlayed (tale_of P.ways P.shares P.exits) report steps.now) }
+    ensures played { IfOk result (λ report. IsPlayed (tale_of P.ways P.shares P.exits) load report steps.now) }
 
     // Each reply of the history is the sequential adjudicator's at its place.
     ensures legal { IfOk result (λ report. Legal real (newest_first report.history)) }
@@ -116,5 +123,5 @@ pub fn report_play<P: Told, D: Docket>(
     ensures exits { IfOk result (λ report. PlaysExits P.ways P.left P.orders report steps.now) }
 {
     let scene: Scene<P, D> = play(alloc, steps, signers)?;
-    report_of(alloc, scene)
+    report_of(alloc, scene, load)
 }

@@ -13,7 +13,7 @@ mod report;
 mod text;
 
 pub use flows::assets_of;
-pub use report::{Judged, Report, Share, text_of};
+pub use report::{Judged, Load, Report, Share, text_of};
 
 #[cfg(test)]
 mod tests;

@@ -27,10 +27,17 @@ pub struct Share {
     pub amount: u128,
 }
 
+/// What a load was made from: its seed, and how many payments it makes.
+#[derive(Clone, Copy, Debug, Drop, PartialEq, Eq)]
+pub struct Load {
+    pub seed: u64,
+    pub count: u32,
+}
+
 /// What a run made: its history, in the order of time; the journals of the people with nodes, in the order of their
 /// declaration; how long the history was after each round; the names of the declared people and channels, in the order
 /// of declaration; for each journal whether the premises of its person's safety hold; the shares of those people at the
-/// end; and those just after they were commanded to exit.
+/// end; those just after they were commanded to exit; and, where it is of a load, what that was made from.
 #[derive(Drop)]
 pub struct Report {
     pub history: Listed<Entry>,
@@ -40,6 +47,7 @@ pub struct Report {
     pub premises: Listed<Judged>,
     pub shares: Listed<Share>,
     pub exits: Listed<Share>,
+    pub load: Option<Load>,
 }
 
 /// The printed text of a report.

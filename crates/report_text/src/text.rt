@@ -8,14 +8,14 @@ ghost use Rattle.support_chain.specs.Real.{real};
 ghost use Rattle.flow_balances.specs.Receipts.{assets_of};
 ghost use Rattle.report_text.specs.Text.{entry_line, end_line, asset_line, balance_line, held_line, paid_line, balance_lines};
 ghost use Rattle.report_text.specs.Shares.{person_lines};
-ghost use Rattle.report_text.specs.Report.{text_of};
+ghost use Rattle.report_text.specs.Report.{load_line, deed_lines, text_of};
 
 use crate::commands::append_commands;
 use crate::entries::entry_line;
 use crate::flows::flows_of;
 use crate::names::{channel_text, person_text};
 use crate::people::append_people;
-use crate::report::Report;
+use crate::report::{Load, Report};
 use channel_calls::{Entry, Op, Reply};
 use flow_balances::Balances;
 use nitro_bytes::{Dest, Label, NoMemory};
@@ -228,6 +228,29 @@ fn append_sums(
     Ok(())
 }
 
+fn load_line(alloc: Global, load: &Load) -> Result<String, AllocError>
+    ensures { IfOk result (λ text. string_bytes text ≡ load_line load.now) }
+{
+    let (seed, count) = (load.seed, load.count);
+    format!(in alloc; "load seed {seed} count {count}\n")
+}
+
+/// The entries and the refused commands; of a load one line in their place.
+fn append_deeds(alloc: Global, text: &mut String, report: &Report) -> Result<(), NoMemory>
+    ensures { OnOk result (string_bytes text.new
+        ≡ string_bytes text.old ++ deed_lines report.now.load report.now) }
+{
+    if let Some(load) = &report.load {
+        let line = load_line(alloc, load)?;
+        text.push_str(line.as_str())?;
+        return Ok(());
+    }
+    let labels = report.labels.as_slice();
+    append_entries(alloc, text, labels, report.history.as_slice())?;
+    append_commands(alloc, text, labels, report.journals.as_slice())?;
+    Ok(())
+}
+
 /// The text of a report. Its labels are the names in the order of declaration.
 pub(crate) fn report_text(alloc: Global, report: &Report) -> Result<String, NoMemory>
     requires { Legal real (newest_first report.now.history) }
@@ -237,8 +260,7 @@ pub(crate) fn report_text(alloc: Global, report: &Report) -> Result<String, NoMe
     let labels = report.labels.as_slice();
     let end = end_line(alloc, history.len(), now_of(history))?;
     let mut text = String::new(alloc);
-    append_entries(alloc, &mut text, labels, history)?;
-    append_commands(alloc, &mut text, labels, report.journals.as_slice())?;
+    append_deeds(alloc, &mut text, report)?;
     text.push_str(end.as_str())?;
     append_sums(alloc, &mut text, labels, report)?;
     Ok(text)

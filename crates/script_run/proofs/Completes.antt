@@ -1,15 +1,16 @@
--- A sound script ends as done.
-use Rattle.std.proofs.Common.{◌≡◌, ℕ, ◌≤◌, List, [], ◌++◌, length, Option, Some, None, refl, sym, ◌∙◌, ap, arith, append-nil, length-append, subst}
+-- A sound script ends as done, and so does a load.
+use Rattle.std.proofs.Common.{◌≡◌, ℕ, ◌≤◌, ◌<◌, List, [], ◌++◌, length, Option, Some, None, refl, sym, ◌∙◌, ap, arith, append-nil, length-append, subst}
 use Rattle.std.specs.Prelude.{false}
 use Rattle.std.specs.Io.KnownBytes.{Keeps, Consumes, IsAtEnd}
 use Rattle.script_reader.specs.Script.{Breaks}
 use Rattle.script_reader.specs.declared.step.Rule.{Rule}
 use Rattle.script_reader.proofs.OneReading.{script_breaks_none}
-use Rattle.script_run.specs.Run.{Given, IsSound, is_race, EndsAs}
+use Rattle.script_reader.specs.Outside.{Rose}
+use Rattle.script_run.specs.Run.{Given, wanted, Runs, Takes, Reads, HasScript, IsSound, EndsAs}
 use Rattle.script_run.specs.declared.run.Status.{Status}
 use Rattle.script_run.specs.declared.run.Status.TheVariants.{Done, NoMemory, Usage, Script, ReadFault, WriteFault, TooLong}
-use Rattle.script_run.specs.declared.asking.Asked.{Asked}
-use Rattle.script_run.specs.declared.asking.Asked.TheVariants.{Run}
+use Rattle.word_reader.specs.declared.asking.Asked.{Asked}
+use Rattle.word_reader.specs.declared.asking.Asked.TheVariants.{Run, Load}
 use Rattle.report_text.specs.declared.report.Report.{Report}
 use Rattle.told_party.specs.Telling.{Tale}
 
@@ -34,22 +35,38 @@ no_more_taken (Some xs) (Some ys) bytes taken e c =
     let same : xs ≡ bytes = cc in
     omega (arith, ap length c, ap length same, length-append taken ys)
 
-pub broken : (a : Asked) (step : ℕ) (rule : Rule) (bytes : List ℕ) → Breaks (is_race a) step rule bytes → Breaks false step rule bytes
-broken Run step rule bytes b = b
+-- words that ask for a run ask for no load
+one_request : {A : Type 0} (o : Option Asked) (seed count : ℕ) → o ≡ Some Run → o ≡ Some (Load seed count) → A
+one_request o seed count a b = absurd (cc)
+
+not_broken : (g : Given) (step : ℕ) (rule : Rule) (a : Asked) → Runs g (Reads g (Breaks false step rule)) → wanted g.words ≡ Some a → HasScript a g → ⊥
+not_broken g step rule Run e some s =
+    let taken = all_taken g.before g.after s.bytes e.1.0 s.told e.1.1 e.1.2 in
+    script_breaks_none false step rule s.bytes s.steps s.script (subst (Breaks false step rule) taken e.1.4)
+not_broken g step rule (Load seed count) e some s = one_request (wanted g.words) seed count e.0 some
+
+not_faulty : (g : Given) (a : Asked) → wanted g.words ≡ Some Run → Rose g.faults_before g.faults_after → wanted g.words ≡ Some a → HasScript a g → ⊥
+not_faulty g Run run rose some s = s.faultless rose
+not_faulty g (Load seed count) run rose some s = one_request (wanted g.words) seed count run some
+
+not_long : (g : Given) (a : Asked) → Runs g (Takes g (λ bytes. 4194304 < length bytes)) → wanted g.words ≡ Some a → HasScript a g → ⊥
+not_long g Run e some s =
+    let most = no_more_taken g.before g.after s.bytes e.1.0 s.told e.1.1 in
+    omega (arith, most, s.short, e.1.2)
+not_long g (Load seed count) e some s = one_request (wanted g.words) seed count e.0 some
+
+none_or_some : {A : Type 0} (o : Option A) (x : A) → o ≡ None → o ≡ Some x → ⊥
+none_or_some o x a b = cc
 
 pub completes : {P : Type 0} (tale : Tale P) (g : Given) (status : Status) (report : Option Report) → EndsAs tale g status report → IsSound g → status ≡ Done
 completes tale g Done report e s = refl
 completes tale g NoMemory report e s = absurd e
-completes tale g Usage None e s = let words = s.words in let none = e.0 in absurd (cc)
+completes tale g Usage None e s = absurd (none_or_some (wanted g.words) s.0 e.0 s.1)
 completes tale g Usage (Some r) e s = absurd e
-completes tale g (Script step rule) None e s =
-    let taken = all_taken g.before g.after s.bytes e.2.0 s.told e.2.1 e.2.2 in
-    absurd (script_breaks_none false step rule s.bytes s.steps s.script (broken e.0 step rule s.bytes (subst (Breaks (is_race e.0) step rule) taken e.2.4)))
+completes tale g (Script step rule) None e s = absurd (not_broken g step rule s.0 e s.1 s.2)
 completes tale g (Script step rule) (Some r) e s = absurd e
-completes tale g ReadFault None e s = absurd (s.faultless e.2.1)
+completes tale g ReadFault None e s = absurd (not_faulty g s.0 e.0 e.1.1 s.1 s.2)
 completes tale g ReadFault (Some r) e s = absurd e
 completes tale g WriteFault report e s = absurd e
-completes tale g TooLong None e s =
-    let most = no_more_taken g.before g.after s.bytes e.2.0 s.told e.2.1 in
-    absurd (omega (arith, most, s.short, e.2.2))
+completes tale g TooLong None e s = absurd (not_long g s.0 e s.1 s.2)
 completes tale g TooLong (Some r) e s = absurd e

@@ -1,2 +1,4 @@
 pub mod Alike
 pub mod Completes
+pub mod Counts
+pub mod Loaded

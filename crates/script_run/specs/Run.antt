@@ -1,7 +1,6 @@
 -- What a run of the program comes to.
-use Rattle.std.specs.Prelude.{◌≡◌, ◌≤◌, ◌<◌, ℕ, List, [], ◌∷◌, length, Bool, false, Option, Some, None, IfSome, codes, if◌then◌else◌}
+use Rattle.std.specs.Prelude.{◌≡◌, ◌≤◌, ◌<◌, ℕ, List, [], ◌∷◌, length, false, ⊤, Option, Some, None, IfSome, codes, if◌then◌else◌}
 use Rattle.std.specs.Fmt.{decimal}
-use Rattle.std.specs.Str.{bytes_eq}
 use Rattle.std.specs.Io.KnownBytes.{Keeps, Consumes, IsAtEnd}
 use Rattle.nitro_bytes.specs.Parts.{FixedParts}
 use Rattle.script_reader.specs.Outside.{Rose}
@@ -13,13 +12,16 @@ use Rattle.net_model.specs.Journals.{Line}
 use Rattle.play_report.specs.Reported.{IsPlayed, PlaysHonestly, PlaysSafely, PlaysKept, PlaysShares, PlaysExits}
 use Rattle.report_text.specs.Report.{text_of}
 use Rattle.report_text.specs.Text.{◌&◌, ended}
+use Rattle.report_text.specs.declared.report.Load.{Load as Note}
 use Rattle.report_text.specs.declared.report.Report.{Report}
 use Rattle.share_model.specs.Places.{Order}
 use Rattle.told_party.specs.Telling.{Tale}
 use Rattle.script_run.specs.declared.run.Status.{Status}
 use Rattle.script_run.specs.declared.run.Status.TheVariants.{Done, NoMemory, Usage, Script, ReadFault, WriteFault, TooLong}
-use Rattle.script_run.specs.declared.asking.Asked.{Asked}
-use Rattle.script_run.specs.declared.asking.Asked.TheVariants.{Run}
+use Rattle.word_reader.specs.Words.{asked}
+use Rattle.word_reader.specs.declared.asking.Asked.{Asked}
+use Rattle.word_reader.specs.declared.asking.Asked.TheVariants.{Run, Load}
+use Rattle.load_script.specs.Load.{are_two, load_steps}
 
 -- the words and the source that a run was handed: what was left of it and its count of faults, before and after
 pub record Given : Type 0 where
@@ -43,18 +45,23 @@ code_of ReadFault = 4
 code_of WriteFault = 5
 code_of TooLong = 6
 
--- what the words ask for, if anything
-abbrev pub asked : List (List ℕ) → Option Asked
-asked (word ∷ []) = if bytes_eq word (codes "run") then Some Run else None
-asked _ = None
+-- a load whose two people would have one name is none
+abbrev pub playable : Option Asked → Option Asked
+playable None = None
+playable (Some Run) = Some Run
+playable (Some (Load seed count)) = if are_two seed then Some (Load seed count) else None
+
+-- what the words ask for that can be played, if anything
+abbrev pub wanted : List (List ℕ) → Option Asked
+wanted words = playable (asked words)
 
 -- the words ask for something
 abbrev pub Asks : Given → (Asked → Type 0) → Type 0
-Asks g P = (a : Asked) × (asked g.words ≡ Some a) × P a
+Asks g P = (a : Asked) × (wanted g.words ≡ Some a) × P a
 
--- whether the script is one for a race
-abbrev pub is_race : Asked → Bool
-is_race Run = false
+-- the words are `run`, and this holds
+abbrev pub Runs : Given → Type 0 → Type 0
+Runs g P = (wanted g.words ≡ Some Run) × P
 
 -- some bytes were taken
 abbrev pub Takes : Given → (List ℕ → Type 0) → Type 0
@@ -68,14 +75,20 @@ Reads g P = (bytes : List ℕ) × Consumes g.before g.after bytes × IsAtEnd g.a
 abbrev pub IsUnread : Given → Type 0
 IsUnread g = Keeps g.before g.after × (g.faults_after ≡ g.faults_before)
 
+-- what the report of a load notes
+abbrev pub made_from : (seed count : ℕ) → Note
+made_from seed count = record { seed = seed; count = count }
+
 module _ {P : Type 0} (tale : Tale P) where
   -- what was asked for comes to this report, by steps of which this holds besides
   abbrev pub ComesBy : (List Step → Type 0) → Asked → Given → Report → Type 0
-  ComesBy Q Run g report = Reads g (λ bytes. (steps : List Step) × IsScript false bytes steps × IsPlayed tale report steps × Q steps)
+  ComesBy Q Run g report = Reads g (λ bytes. (steps : List Step) × IsScript false bytes steps × IsPlayed tale None report steps × Q steps)
+  ComesBy Q (Load seed count) g report = IsUnread g × IsPlayed tale (Some (made_from seed count)) report (load_steps seed count) × Q (load_steps seed count)
 
   -- what was asked for comes to this report
   abbrev pub Comes : Asked → Given → Report → Type 0
-  Comes Run g report = Reads g (λ bytes. (steps : List Step) × IsScript false bytes steps × IsPlayed tale report steps)
+  Comes Run g report = Reads g (λ bytes. (steps : List Step) × IsScript false bytes steps × IsPlayed tale None report steps)
+  Comes (Load seed count) g report = IsUnread g × IsPlayed tale (Some (made_from seed count)) report (load_steps seed count)
 
   -- the report comes of what was asked for, by steps of which this holds
   abbrev pub ComesOf : Given → Report → (List Step → Type 0) → Type 0
@@ -84,10 +97,10 @@ module _ {P : Type 0} (tale : Tale P) where
   -- Why a run comes to each end, before its text is put.
   abbrev pub EndsAs : Given → Status → Option Report → Type 0
   EndsAs g Done (Some report) = Asks g (λ a. Comes a g report)
-  EndsAs g Usage None = (asked g.words ≡ None) × IsUnread g
-  EndsAs g (Script step rule) None = Asks g (λ a. Reads g (Breaks (is_race a) step rule))
-  EndsAs g ReadFault None = Asks g (λ a. Takes g (λ bytes. length bytes ≤ 4194304) × Rose g.faults_before g.faults_after)
-  EndsAs g TooLong None = Asks g (λ a. Takes g (λ bytes. 4194304 < length bytes))
+  EndsAs g Usage None = (wanted g.words ≡ None) × IsUnread g
+  EndsAs g (Script step rule) None = Runs g (Reads g (Breaks false step rule))
+  EndsAs g ReadFault None = Runs g (Takes g (λ bytes. length bytes ≤ 4194304) × Rose g.faults_before g.faults_after)
+  EndsAs g TooLong None = Runs g (Takes g (λ bytes. 4194304 < length bytes))
   -- no other end, and no other report
   EndsAs g Done None = ⊥
   EndsAs g NoMemory report = ⊥
@@ -136,15 +149,23 @@ owed ReadFault report = ended (codes "read fault")
 owed WriteFault report = []
 owed TooLong report = ended (codes "too long")
 
--- the words are `run`, and the source tells a script that is short enough, and doesn't fail
-pub record IsSound (g : Given) : Type 0 where
-  pub words : asked g.words ≡ Some Run
+-- the source tells a script that is short enough, and doesn't fail
+pub record TellsScript (g : Given) : Type 0 where
   pub bytes : List ℕ
   pub told : g.before ≡ Some bytes
   pub short : length bytes ≤ 4194304
   pub steps : List Step
   pub script : IsScript false bytes steps
   pub faultless : ¬ (Rose g.faults_before g.faults_after)
+
+-- a run has a script; a load needs none
+abbrev pub HasScript : Asked → Given → Type 0
+HasScript Run g = TellsScript g
+HasScript (Load seed count) g = ⊤
+
+-- the words ask for something, and its script is there
+abbrev pub IsSound : Given → Type 0
+IsSound g = Asks g (λ a. HasScript a g)
 
 -- these words, and a source that tells these bytes, and doesn't fail
 pub record IsCalm (words : List (List ℕ)) (bytes : List ℕ) (g : Given) : Type 0 where

@@ -1,7 +1,6 @@
-//! From the bytes of a script to the printed text of its run.
+//! From words, and the bytes of a script, to the printed text of a run.
 #![tactic(auto)]
 
-mod asking;
 mod laws;
 mod memory;
 mod records;
@@ -11,10 +10,9 @@ mod standard;
 #[cfg(test)]
 mod tests;
 
-pub use asking::Asked;
 pub use laws::calm_runs_end_alike;
 pub use memory::{CalmSink, ListSink};
 pub use records::Records;
-pub use run::{Ended, Status, asked, run_words};
+pub use run::{Ended, Status, run_words};
 pub use sink::{Gave, Sink, SinkFailed, put_all};
 pub use standard::StdSink;

@@ -7,24 +7,26 @@ ghost use Rattle.channel_calls.specs.History.{Legal, newest_first, flows_of};
 ghost use Rattle.support_chain.specs.Real.{real};
 ghost use Rattle.script_reader.specs.Outside.{Rose};
 ghost use Rattle.script_run.specs.Outside.{AppendsPart};
-ghost use Rattle.script_run.specs.declared.asking.Asked.{Asked};
+ghost use Rattle.word_reader.specs.Words.{asked};
+ghost use Rattle.word_reader.specs.declared.asking.Asked.{Asked};
 ghost use Rattle.script_run.specs.declared.run.Status.{Status};
 ghost use Rattle.play_report.specs.Reported.{PlaysHonestly, PlaysSafely, PlaysKept, PlaysShares, PlaysExits};
 ghost use Rattle.told_party.specs.Telling.{tale_of};
 ghost use Rattle.node_ways.specs.Ways.{ways};
 ghost use Rattle.net_node.specs.Shares.{tale, left, orders, named};
-ghost use Rattle.script_run.specs.Run.{Given, IsSound, given, code_of, asked, EndsAs, ComesOf, RunsTo, rule_text, owed};
+ghost use Rattle.script_run.specs.Run.{Given, IsSound, IsUnread, given, code_of, wanted, EndsAs, ComesOf, RunsTo, rule_text, owed};
 
-use crate::asking::Asked;
 use crate::records::Records;
 use crate::sink::{Sink, put_all};
+use load_script::{LoadFault, load_script};
 use net_node::Node;
 use nitro_bytes::{Label, NoMemory};
 use play_report::report_play;
-use report_text::{Report, text_of};
+use report_text::{Load, Report, text_of};
 use script_reader::{ReadEnd, Rule, ScriptFault, Source, read_all, read_script_with_signers};
 use std::alloc::{AllocError, Global};
 use told_party::Told;
+use word_reader::{Asked, asked};
 
 /// How a run ended. A script that is refused has the step, counted from 1, and the rule that it breaks
 /// first; step 0 is the whole script.
@@ -63,16 +65,6 @@ pub struct Ended {
     pub report: Option<Report>,
 }
 
-/// What the words ask for, if anything.
-pub fn asked(words: &[Label]) -> Option<Asked>
-    ensures { result ≡ asked words.now }
-{
-    match words {
-        [word] if word.as_str() == "run" => Some(Asked::Run),
-        _ => None,
-    }
-}
-
 fn without_report(status: Status) -> Ended
     ensures { result ≡ record { status = status; report = None } }
 {
@@ -84,7 +76,7 @@ fn without_report(status: Status) -> Ended
 
 /// What a script comes to that was read whole.
 fn run_script<P: Told>(alloc: Global, bytes: &[u8]) -> Result<Ended, NoMemory>
-    ensures ends { (given : Given) → asked given.words ≡ Some Asked.Run → Consumes given.before given.after bytes.now
+    ensures ends { (given : Given) → wanted given.words ≡ Some Asked.Run → Consumes given.before given.after bytes.now
         → IsAtEnd given.after → length bytes.now ≤ 4194304
         → IfOk result (λ ended. RunsTo (tale_of P.ways P.shares P.exits) P.left P.orders P.named given ended.status ended.report) }
     ensures legal { IfOk result (λ ended. IfSome ended.report (λ report. Legal real (newest_first report.history))) }
@@ -94,7 +86,44 @@ fn run_script<P: Told>(alloc: Global, bytes: &[u8]) -> Result<Ended, NoMemory>
         Err(ScriptFault::Broken { step, rule }) => Ok(without_report(Status::Script(step, rule))),
         Ok((script, signers)) => {
             let steps = script.steps.as_slice();
-            let report = report_play::<P, Records>(alloc, steps, signers)?;
+            let report = report_play::<P, Records>(alloc, steps, signers, None)?;
+            Ok(Ended {
+                status: Status::Done,
+                report: Some(report),
+            })
+        }
+    }
+}
+
+/// What comes of a script that the source has.
+fn run_source<P: Told, S: Source>(alloc: Global, source: &mut S) -> Result<Ended, NoMemory>
+    ensures ends { (words : List (List ℕ)) → wanted words ≡ Some Asked.Run
+        → IfOk result (λ ended. RunsTo (tale_of P.ways P.shares P.exits) P.left P.orders P.named (given S.left S.faults words source.old source.new) ended.status ended.report) }
+    ensures legal { IfOk result (λ ended. IfSome ended.report (λ report. Legal real (newest_first report.history))) }
+{
+    match read_all(alloc, source) {
+        Ok(bytes) => run_script::<P>(alloc, &bytes),
+        Err(ReadEnd::NoMemory) => Err(NoMemory),
+        Err(ReadEnd::Failed) => Ok(without_report(Status::ReadFault)),
+        Err(ReadEnd::TooLong) => Ok(without_report(Status::TooLong)),
+    }
+}
+
+/// What a load comes to. Nothing is read for it.
+#[tactic(auto, using(crate::proofs::Counts::wanted_load, crate::proofs::Counts::wanted_no_load))]
+fn run_load<P: Told>(alloc: Global, seed: u64, count: u32) -> Result<Ended, NoMemory>
+    requires some { 1 ≤ count }
+    requires few { count ≤ 1000 }
+    ensures ends { (given : Given) → asked given.words ≡ Some (Asked.Load seed count) → IsUnread given
+        → IfOk result (λ ended. RunsTo (tale_of P.ways P.shares P.exits) P.left P.orders P.named given ended.status ended.report) }
+    ensures legal { IfOk result (λ ended. IfSome ended.report (λ report. Legal real (newest_first report.history))) }
+{
+    match load_script(alloc, seed, count) {
+        Err(LoadFault::NoMemory) => Err(NoMemory),
+        Err(LoadFault::OneName) => Ok(without_report(Status::Usage)),
+        Ok((script, signers)) => {
+            let load = Some(Load { seed, count });
+            let report = report_play::<P, Records>(alloc, script.steps.as_slice(), signers, load)?;
             Ok(Ended {
                 status: Status::Done,
                 report: Some(report),
@@ -104,7 +133,7 @@ fn run_script<P: Told>(alloc: Global, bytes: &[u8]) -> Result<Ended, NoMemory>
 }
 
 /// What the words and the source come to, with nodes of this type.
-#[tactic(auto, using(crate::proofs::Completes::keeps_all))]
+#[tactic(auto, using(crate::proofs::Completes::keeps_all, crate::proofs::Counts::some_payments, crate::proofs::Counts::few_payments, crate::proofs::Counts::wanted_none, crate::proofs::Counts::wanted_run))]
 fn work<P: Told, S: Source>(
     alloc: Global,
     words: &[Label],
@@ -113,14 +142,10 @@ fn work<P: Told, S: Source>(
     ensures ends { IfOk result (λ ended. RunsTo (tale_of P.ways P.shares P.exits) P.left P.orders P.named (given S.left S.faults words.now source.old source.new) ended.status ended.report) }
     ensures legal { IfOk result (λ ended. IfSome ended.report (λ report. Legal real (newest_first report.history))) }
 {
-    let Some(Asked::Run) = asked(words) else {
-        return Ok(without_report(Status::Usage));
-    };
-    match read_all(alloc, source) {
-        Ok(bytes) => run_script::<P>(alloc, &bytes),
-        Err(ReadEnd::NoMemory) => Err(NoMemory),
-        Err(ReadEnd::Failed) => Ok(without_report(Status::ReadFault)),
-        Err(ReadEnd::TooLong) => Ok(without_report(Status::TooLong)),
+    match asked(alloc, words)? {
+        None => Ok(without_report(Status::Usage)),
+        Some(Asked::Run) => run_source::<P, S>(alloc, source),
+        Some(Asked::Load { seed, count }) => run_load::<P>(alloc, seed, count),
     }
 }
 
@@ -167,7 +192,7 @@ fn owed(alloc: Global, ended: &Ended) -> Result<Vec<u8>, NoMemory>
     }
 }
 
-/// Does all that the program does: reads the script, replays it and puts the text of the history.
+/// Does all that the program does: reads the script or makes that of a load, plays it and puts the text of its report.
 #[tactic(auto, using(report_text::proofs::Numbers::conserved_in_time, crate::proofs::Completes::completes))]
 pub fn run_words<S: Source, K: Sink>(
     alloc: Global,
@@ -222,7 +247,7 @@ pub fn run_words<S: Source, K: Sink>(
     ensures exits { IfSome result.report (λ report.
         ComesOf tale (given S.left S.faults words.now source.old source.new) report (PlaysExits ways left orders report)) }
 
-    // A sound script runs to its end, unless memory runs out.
+    // A sound script runs to its end, and so does a load, unless memory runs out.
     ensures complete { IsSound (given S.left S.faults words.now source.old source.new)
         → ¬ (Rose (K.faults sink.old) (K.faults sink.new))
         → (result.status ≡ Status.Done) ⊎ (result.status ≡ Status.NoMemory) }

@@ -13,6 +13,7 @@ returns-clause-safe g c =
       premises = c.make-3.result;
       shares = c.make-4.result;
       exits = c.make-5.result;
+      load = c.args.load;
     })
     c.args.scene.world.members (search rules) (search rules) g.met.P.Told.tells c.in_ok-tales.ensures.fixed (search rules) (search rules) (search rules)
 
@@ -27,6 +28,7 @@ returns-clause-kept g c =
       premises = c.make-3.result;
       shares = c.make-4.result;
       exits = c.make-5.result;
+      load = c.args.load;
     })
     c.args.scene.world.members (search rules) (search rules) g.met.P.Told.tells c.in_ok-tales.ensures.fixed (search rules) (search rules)
     g.P.Told.orders g.P.Told.named
