@@ -1,84 +1,43 @@
 //! What each call answers, by how the channel stands and by the turn that is given: below the recorded turn, which is
 //! 5, at it, and above it.
 
-ghost use Rattle.std.specs.Prelude.{◌≡◌, ◌<◌, ◌^◌, length, IfOk};
+ghost use Rattle.std.specs.Prelude.{◌<◌, ◌^◌};
 
+use crate::built::{PAIR, chain_of, fixed_of, state_of, states_of};
 use challenge_rules::{challenge_with, checkpoint_with, conclude_with, refute_with, respond_with};
 use channel_calls::{Refusal, Row};
 use channel_name::{channel_name, state_digest};
-use nitro_bytes::{Chain, Fixed, Listed, Mark, Name, Outcome, Signed, State};
+use nitro_bytes::{ByteFault, Chain, Fixed, Listed, Name, Signed, State};
 use std::alloc::Global;
-use std::test::Fail;
 
 /// The time of each call. A challenge stands open for 10.
 const NOW: u64 = 50;
 
+/// How a channel stands: without a row, or with the deadline of its row.
+type Mode = Option<Option<u64>>;
+
+const OPEN: Mode = Some(None);
+
 /// A deadline that is to come.
-const LATER: Option<u64> = Some(51);
+const LATER: Mode = Some(Some(51));
 
 /// A deadline that has come.
-const PAST: Option<u64> = Some(50);
+const PAST: Mode = Some(Some(50));
 
 /// The turn and the deadline of the new row, or the refusal.
-#[derive(Clone, Copy, Debug, PartialEq, Eq)]
-enum Answer {
-    New(u64, Option<u64>),
-    No(Refusal),
-}
+type Answer = Result<(u64, Option<u64>), Refusal>;
 
-fn told(answer: Result<Row, Refusal>) -> Answer {
-    match answer {
-        Ok(row) => Answer::New(row.turn, row.deadline),
-        Err(refusal) => Answer::No(refusal),
-    }
-}
+const IS_FINAL: Answer = Err(Refusal::IsFinal);
 
-/// Two people, whose outcome is fixed.
-fn fixed_part(alloc: Global) -> Result<Fixed, Fail> {
-    let keys = vec![in alloc; [1; 56], [2; 56]]?;
-    let fixed = Fixed::make(alloc, keys, 1, 2, 10)?;
-    Ok(fixed)
-}
+const NO_CHALLENGE: Answer = Err(Refusal::NoChallenge);
 
-fn state(alloc: Global, turn: u64, is_final: bool) -> Result<State, Fail> {
-    let outcome = Outcome::make(alloc, Vec::new(alloc))?;
-    let state = State::make(alloc, turn, is_final, outcome, Vec::new(alloc))?;
-    Ok(state)
-}
+const STALE: Answer = Err(Refusal::Stale(5));
 
-fn unsigned(alloc: Global) -> Listed<u8> {
-    Listed::make(Vec::new(alloc))
-}
+const NOT_NEWER: Answer = Err(Refusal::NotNewer(5));
 
-fn signed(alloc: Global, turn: u64) -> Result<Signed, Fail> {
-    let state = state(alloc, turn, false)?;
-    Ok(Signed {
-        state,
-        signature: unsigned(alloc),
-    })
-}
+const WRONG_TURN: Answer = Err(Refusal::WrongTurn(6));
 
-/// One state, on which the marks of both stand.
-fn chain(alloc: Global, turn: u64, is_final: bool) -> Result<Chain, Fail>
-    ensures { IfOk result (λ c. length c.marks ≡ 2) }
-{
-    let fixed = fixed_part(alloc)?;
-    let states = vec![in alloc; state(alloc, turn, is_final)?]?;
-    let first = Mark {
-        place: 0,
-        signature: unsigned(alloc),
-    };
-    let second = Mark {
-        place: 0,
-        signature: unsigned(alloc),
-    };
-    let marks = vec![in alloc; first, second]?;
-    Ok(Chain {
-        fixed,
-        states: Listed::make(states),
-        marks: Listed::make(marks),
-    })
-}
+const BAD_SIGNATURE: Answer = Err(Refusal::BadSignature);
 
 /// Turn 5 is recorded, and the first person challenged with the state of that turn.
 fn recorded(challenged: Name, deadline: Option<u64>) -> Row
@@ -93,123 +52,177 @@ fn recorded(challenged: Name, deadline: Option<u64>) -> Row
     }
 }
 
-const OPENED: Answer = Answer::New(6, None);
+fn told(answer: Result<Row, Refusal>) -> Answer {
+    match answer {
+        Ok(row) => Ok((row.turn, row.deadline)),
+        Err(refusal) => Err(refusal),
+    }
+}
 
-const IS_FINAL: Answer = Answer::No(Refusal::IsFinal);
+#[derive(Clone, Copy, PartialEq, Eq)]
+enum Call {
+    Challenge,
+    /// The challenger didn't sign.
+    Unsigned,
+    Checkpoint,
+    Conclude,
+    /// The state isn't final.
+    Early,
+}
 
-const NO_CHALLENGE: Answer = Answer::No(Refusal::NoChallenge);
+use Call::{Challenge, Checkpoint, Conclude, Early, Unsigned};
 
-const STALE: Answer = Answer::No(Refusal::Stale(5));
-
-const NOT_NEWER: Answer = Answer::No(Refusal::NotNewer(5));
-
-const WRONG_TURN: Answer = Answer::No(Refusal::WrongTurn(6));
-
-/// The deadline, the turn that is given, and the answers of challenge, checkpoint and conclude.
-const CHAINS: [(Option<u64>, u64, Answer, Answer, Answer); 9] = [
-    (None, 4, STALE, NOT_NEWER, Answer::New(4, PAST)),
-    (
-        None,
-        5,
-        Answer::New(5, Some(60)),
-        NOT_NEWER,
-        Answer::New(5, PAST),
-    ),
-    (
-        None,
-        6,
-        Answer::New(6, Some(60)),
-        OPENED,
-        Answer::New(6, PAST),
-    ),
-    (LATER, 4, STALE, NOT_NEWER, Answer::New(4, PAST)),
-    (LATER, 5, STALE, NOT_NEWER, Answer::New(5, PAST)),
-    (
-        LATER,
-        6,
-        Answer::New(6, Some(60)),
-        OPENED,
-        Answer::New(6, PAST),
-    ),
-    (PAST, 4, IS_FINAL, IS_FINAL, IS_FINAL),
-    (PAST, 5, IS_FINAL, IS_FINAL, IS_FINAL),
-    (PAST, 6, IS_FINAL, IS_FINAL, IS_FINAL),
+/// The call, how the channel stands, the turn of the only state, which both signed, and the answer.
+const BY_CHAIN: [(Call, Mode, u64, Answer); 30] = [
+    (Challenge, OPEN, 4, STALE),
+    (Challenge, OPEN, 5, Ok((5, Some(60)))),
+    (Challenge, OPEN, 6, Ok((6, Some(60)))),
+    (Challenge, LATER, 4, STALE),
+    (Challenge, LATER, 5, STALE),
+    (Challenge, LATER, 6, Ok((6, Some(60)))),
+    (Challenge, PAST, 4, IS_FINAL),
+    (Challenge, PAST, 5, IS_FINAL),
+    (Challenge, PAST, 6, IS_FINAL),
+    (Unsigned, LATER, 6, Err(Refusal::BadChallenger)),
+    (Checkpoint, OPEN, 4, NOT_NEWER),
+    (Checkpoint, OPEN, 5, NOT_NEWER),
+    (Checkpoint, OPEN, 6, Ok((6, None))),
+    (Checkpoint, LATER, 4, NOT_NEWER),
+    (Checkpoint, LATER, 5, NOT_NEWER),
+    (Checkpoint, LATER, 6, Ok((6, None))),
+    (Checkpoint, PAST, 4, IS_FINAL),
+    (Checkpoint, PAST, 5, IS_FINAL),
+    (Checkpoint, PAST, 6, IS_FINAL),
+    // A channel without a row is open at turn 0.
+    (Checkpoint, None, 1, Ok((1, None))),
+    (Conclude, OPEN, 4, Ok((4, Some(50)))),
+    (Conclude, OPEN, 5, Ok((5, Some(50)))),
+    (Conclude, OPEN, 6, Ok((6, Some(50)))),
+    (Conclude, LATER, 4, Ok((4, Some(50)))),
+    (Conclude, LATER, 5, Ok((5, Some(50)))),
+    (Conclude, LATER, 6, Ok((6, Some(50)))),
+    (Conclude, PAST, 4, IS_FINAL),
+    (Conclude, PAST, 5, IS_FINAL),
+    (Conclude, PAST, 6, IS_FINAL),
+    (Early, LATER, 6, Err(Refusal::NotFinalState(0))),
 ];
 
-#[test]
-fn calls_with_a_chain(rt: HostRuntime) -> Result<(), Fail> {
-    for (deadline, turn, by_challenge, by_checkpoint, by_conclude) in CHAINS {
-        let row = recorded([8; 32], deadline);
-        let open = chain(rt.alloc(), turn, false)?;
-        let ended = chain(rt.alloc(), turn, true)?;
-        let all = [true, true];
-        let challenged = challenge_with(Some(&row), NOW, &open, 1, &[], &[true; 3]);
-        let checkpointed = checkpoint_with(Some(&row), NOW, &open, &all);
-        let concluded = conclude_with(Some(&row), NOW, &ended, &all);
-        assert_eq!(rt; told(challenged), by_challenge, "challenge at {turn}");
-        assert_eq!(rt; told(checkpointed), by_checkpoint, "checkpoint at {turn}");
-        assert_eq!(rt; told(concluded), by_conclude, "conclude at {turn}");
+/// What a call answers. Each chain has two marks, which verify.
+fn called(call: Call, row: Option<&Row>, chain: &Chain) -> Result<Row, Refusal> {
+    if chain.marks.as_slice().len() != 2 {
+        return Err(Refusal::BadSignature);
     }
-    Ok(())
+    match call {
+        Challenge => challenge_with(row, NOW, chain, 1, &[], &[true; 3]),
+        Unsigned => challenge_with(row, NOW, chain, 1, &[], &[true, true, false]),
+        Checkpoint => checkpoint_with(row, NOW, chain, &[true; 2]),
+        Conclude | Early => conclude_with(row, NOW, chain, &[true; 2]),
+    }
 }
 
-/// The deadline, the turn that is given, and the answers of respond and refute.
-const NEXTS: [(Option<u64>, u64, Answer, Answer); 9] = [
-    (None, 4, NO_CHALLENGE, NO_CHALLENGE),
-    (None, 5, NO_CHALLENGE, NO_CHALLENGE),
-    (None, 6, NO_CHALLENGE, NO_CHALLENGE),
-    (LATER, 4, WRONG_TURN, NOT_NEWER),
-    (LATER, 5, WRONG_TURN, NOT_NEWER),
-    (LATER, 6, OPENED, Answer::New(5, None)),
-    (PAST, 4, NO_CHALLENGE, NO_CHALLENGE),
-    (PAST, 5, NO_CHALLENGE, NO_CHALLENGE),
-    (PAST, 6, NO_CHALLENGE, NO_CHALLENGE),
+fn by_chain(alloc: Global, call: Call, mode: Mode, turn: u64) -> Result<Answer, ByteFault> {
+    let states = [(turn, call == Conclude, 0, 5, 3)];
+    let chain = chain_of(alloc, PAIR, 2, &states, &[0, 0])?;
+    let answer = match mode {
+        None => called(call, None, &chain),
+        Some(deadline) => called(call, Some(&recorded([8; 32], deadline)), &chain),
+    };
+    Ok(told(answer))
+}
+
+#[test]
+fn calls_with_a_chain(rt: HostRuntime) {
+    for row in 0..BY_CHAIN.len() {
+        let (call, mode, turn, answer) = BY_CHAIN[row];
+        assert_eq!(rt;
+            by_chain(rt.alloc(), call, mode, turn),
+            Ok(answer),
+            "row {row}"
+        );
+    }
+}
+
+const OPENED: Answer = Ok((6, None));
+
+/// Whether it is a response and no refutation, the deadline, the turns of the state that is answered and of the new
+/// one, whether that is signed, and the answer.
+const BY_STATE: [(bool, Option<u64>, u64, u64, bool, Answer); 22] = [
+    (true, None, 5, 4, true, NO_CHALLENGE),
+    (true, None, 5, 5, true, NO_CHALLENGE),
+    (true, None, 5, 6, true, NO_CHALLENGE),
+    (true, Some(51), 5, 4, true, WRONG_TURN),
+    (true, Some(51), 5, 5, true, WRONG_TURN),
+    (true, Some(51), 5, 6, true, OPENED),
+    (true, Some(50), 5, 4, true, NO_CHALLENGE),
+    (true, Some(50), 5, 5, true, NO_CHALLENGE),
+    (true, Some(50), 5, 6, true, NO_CHALLENGE),
+    (true, Some(51), 5, 6, false, BAD_SIGNATURE),
+    (true, Some(51), 6, 6, true, Err(Refusal::WrongState)),
+    (false, None, 5, 4, true, NO_CHALLENGE),
+    (false, None, 5, 5, true, NO_CHALLENGE),
+    (false, None, 5, 6, true, NO_CHALLENGE),
+    (false, Some(51), 5, 4, true, NOT_NEWER),
+    (false, Some(51), 5, 5, true, NOT_NEWER),
+    (false, Some(51), 5, 6, true, Ok((5, None))),
+    (false, Some(50), 5, 4, true, NO_CHALLENGE),
+    (false, Some(50), 5, 5, true, NO_CHALLENGE),
+    (false, Some(50), 5, 6, true, NO_CHALLENGE),
+    (false, Some(51), 5, 6, false, BAD_SIGNATURE),
+    // The second person moves to turn 7.
+    (false, Some(51), 5, 7, true, Err(Refusal::NotChallengers)),
 ];
 
-#[test]
-fn answers_to_a_challenge(rt: HostRuntime) -> Result<(), Fail> {
-    let fixed = fixed_part(rt.alloc())?;
-    let from = state(rt.alloc(), 5, false)?;
-    let digest = state_digest(&channel_name(fixed.bytes()), from.bytes());
-    for (deadline, turn, by_respond, by_refute) in NEXTS {
-        let row = recorded(digest, deadline);
-        let next = signed(rt.alloc(), turn)?;
-        let responded = respond_with(Some(&row), NOW, &fixed, &from, &next, &[true]);
-        let refuted = refute_with(Some(&row), NOW, &fixed, &next, &[true]);
-        assert_eq!(rt; told(responded), by_respond, "respond at {turn}");
-        assert_eq!(rt; told(refuted), by_refute, "refute at {turn}");
+/// The answer to the challenge with the first state, where the second is said to be that.
+fn answered(
+    is_response: bool,
+    deadline: Option<u64>,
+    fixed: &Fixed,
+    states: &[State],
+    next: &Signed,
+    signed: bool,
+) -> Result<Row, Refusal> {
+    let [challenged, from] = states else {
+        return Err(Refusal::IsFinal);
+    };
+    let digest = state_digest(&channel_name(fixed.bytes()), challenged.bytes());
+    let row = recorded(digest, deadline);
+    if is_response {
+        respond_with(Some(&row), NOW, fixed, from, next, &[signed])
+    } else {
+        refute_with(Some(&row), NOW, fixed, next, &[signed])
     }
-    Ok(())
+}
+
+fn by_state(
+    alloc: Global,
+    is_response: bool,
+    deadline: Option<u64>,
+    from: u64,
+    turn: u64,
+    signed: bool,
+) -> Result<Answer, ByteFault> {
+    let states = states_of(alloc, &[(5, false, 0, 5, 3), (from, false, 0, 5, 3)])?;
+    let fixed = fixed_of(alloc, PAIR, 2)?;
+    let next = Signed {
+        state: state_of(alloc, &(turn, false, 0, 5, 3))?,
+        signature: Listed::make(Vec::new(alloc)),
+    };
+    let answer = answered(
+        is_response,
+        deadline,
+        &fixed,
+        states.as_slice(),
+        &next,
+        signed,
+    );
+    Ok(told(answer))
 }
 
 #[test]
-fn what_isnt_signed_is_refused(rt: HostRuntime) -> Result<(), Fail> {
-    let fixed = fixed_part(rt.alloc())?;
-    let from = state(rt.alloc(), 5, false)?;
-    let next = signed(rt.alloc(), 6)?;
-    let by_another = signed(rt.alloc(), 7)?;
-    let newest = chain(rt.alloc(), 6, false)?;
-    let digest = state_digest(&channel_name(fixed.bytes()), from.bytes());
-    let row = recorded(digest, LATER);
-    let respond = respond_with(Some(&row), NOW, &fixed, &from, &next, &[false]);
-    assert_eq!(rt; told(respond), Answer::No(Refusal::BadSignature));
-    let respond = respond_with(Some(&row), NOW, &fixed, &next.state, &next, &[true]);
-    assert_eq!(rt; told(respond), Answer::No(Refusal::WrongState));
-    let refute = refute_with(Some(&row), NOW, &fixed, &next, &[false]);
-    assert_eq!(rt; told(refute), Answer::No(Refusal::BadSignature));
-    let refute = refute_with(Some(&row), NOW, &fixed, &by_another, &[true]);
-    assert_eq!(rt; told(refute), Answer::No(Refusal::NotChallengers));
-    let challenge = challenge_with(Some(&row), NOW, &newest, 1, &[], &[true, true, false]);
-    assert_eq!(rt; told(challenge), Answer::No(Refusal::BadChallenger));
-    let conclude = conclude_with(Some(&row), NOW, &newest, &[true, true]);
-    assert_eq!(rt; told(conclude), Answer::No(Refusal::NotFinalState(0)));
-    Ok(())
-}
-
-#[test]
-fn a_channel_without_a_row_is_open_at_turn_0(rt: HostRuntime) -> Result<(), Fail> {
-    let first = chain(rt.alloc(), 1, false)?;
-    let checkpoint = checkpoint_with(None, NOW, &first, &[true, true]);
-    assert_eq!(rt; told(checkpoint), Answer::New(1, None));
-    Ok(())
+fn answers_to_a_challenge(rt: HostRuntime) {
+    for row in 0..BY_STATE.len() {
+        let (is_response, deadline, from, turn, signed, answer) = BY_STATE[row];
+        let told = by_state(rt.alloc(), is_response, deadline, from, turn, signed);
+        assert_eq!(rt; told, Ok(answer), "row {row}");
+    }
 }

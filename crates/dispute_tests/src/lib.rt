@@ -1,9 +1,19 @@
-//! Steps, support and challenges.
+//! Steps, support and challenges, worked out by hand.
 #![tactic(auto)]
 
 #[cfg(test)]
+mod built;
+#[cfg(test)]
+mod chains;
+#[cfg(test)]
 mod challenges;
 #[cfg(test)]
-mod moves;
+mod consensus;
 #[cfg(test)]
-mod support;
+mod payment;
+#[cfg(test)]
+mod signed;
+#[cfg(test)]
+mod steps;
+#[cfg(test)]
+mod toward;

@@ -8,8 +8,3 @@ mod sharing;
 mod told;
 
 pub use node::Node;
-
-#[cfg(test)]
-mod pair;
-#[cfg(test)]
-mod tests;

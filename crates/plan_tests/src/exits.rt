@@ -1,98 +1,66 @@
 //! The exit of one person from one channel.
 
-use channel_calls::{Call, ChannelView, HeldChain, WorldView};
+use crate::built::{A, Body, CHANNEL, TO_A, TO_B, held_with, outcome_of, plan_of, view_of};
+use channel_calls::{Call, ChannelView, WorldView};
 use exit_script::{ExitFault, exit_calls};
-use funding_value::{Part, Plan};
-use nitro_bytes::{AssetOutcome, Chain, Dest, Fixed, Item, Listed, Name, Outcome, Shape};
+use funding_value::Part;
+use nitro_bytes::{ByteFault, Listed, Name};
 use std::alloc::Global;
-use std::test::Fail;
 
-const A: Name = [1; 32];
+/// The place of the only item that is transferred, if any, or the channel that isn't final.
+type Answer = Result<Option<u8>, Name>;
 
-const B: Name = [2; 32];
+/// The time, and the answer. The deadline of the channel is 10.
+const EXITS: [(u64, Answer); 2] = [(9, Err(CHANNEL)), (10, Ok(Some(1)))];
 
-const CHANNEL: Name = [3; 32];
+/// B has 3, and A 5.
+const SETTLED: Body = Body::Items(&[(TO_B, 3), (TO_A, 5)]);
 
-#[derive(Clone, Copy, Debug, PartialEq, Eq)]
-enum Answer {
-    /// The place of the only item that is transferred.
-    Transfers(u8),
-    NotFinal(Name),
-    Other,
-}
-
-/// An outcome of one asset that gives the second person 3, and the first 5.
-fn outcome(alloc: Global) -> Result<Outcome, Fail> {
-    let second = Item {
-        to: Dest::Person(B),
-        amount: 3,
-    };
-    let first = Item {
-        to: Dest::Person(A),
-        amount: 5,
-    };
-    let asset = AssetOutcome {
-        asset: 0,
-        shape: Shape::Allocation(Listed::make(vec![in alloc; second, first]?)),
-    };
-    Ok(Outcome::make(alloc, vec![in alloc; asset]?)?)
-}
-
-/// A view of the channel, whose deadline is 10.
-fn view(alloc: Global, now: u64) -> Result<WorldView, Fail> {
-    let channel = ChannelView {
+fn channel_of(alloc: Global) -> Result<ChannelView, ByteFault> {
+    let held = Vec::from_array(alloc, [(0, 8)])?;
+    let settled = outcome_of(alloc, SETTLED)?;
+    let rest = outcome_of(alloc, SETTLED)?;
+    Ok(ChannelView {
         channel: CHANNEL,
         turn: 5,
         deadline: Some(10),
-        held: Listed::make(vec![in alloc; (0, 8)]?),
+        held: Listed::make(held),
         shown: None,
-        settled: Some(outcome(alloc)?),
-        rest: Some(outcome(alloc)?),
-    };
-    Ok(WorldView {
-        now,
-        count: 1,
-        channels: Listed::make(vec![in alloc; channel]?),
-        paid: Listed::make(Vec::new(alloc)),
+        settled: Some(settled),
+        rest: Some(rest),
     })
 }
 
-fn held(alloc: Global) -> Result<HeldChain, Fail> {
-    let chain = Chain {
-        fixed: Fixed::make(alloc, vec![in alloc; [1; 56], [2; 56]]?, 1, 1, 10)?,
-        states: Listed::make(Vec::new(alloc)),
-        marks: Listed::make(Vec::new(alloc)),
-    };
-    Ok(HeldChain {
-        channel: CHANNEL,
-        chain,
-    })
+fn seen_at(alloc: Global, now: u64) -> Result<WorldView, ByteFault> {
+    let channels = Vec::from_array(alloc, [channel_of(alloc)?])?;
+    Ok(view_of(alloc, now, channels))
+}
+
+fn called(calls: &[Call]) -> Option<u8> {
+    match calls {
+        [Call::Transfer { index, .. }] => Some(*index),
+        _ => None,
+    }
 }
 
 fn told(answer: Result<Vec<Call>, ExitFault>) -> Answer {
     match answer {
-        Ok(calls) => match calls.as_slice() {
-            [Call::Transfer { index, .. }] => Answer::Transfers(*index),
-            _ => Answer::Other,
-        },
-        Err(ExitFault::NotFinal(name)) => Answer::NotFinal(name),
-        Err(_) => Answer::Other,
+        Ok(calls) => Ok(called(&calls)),
+        Err(ExitFault::NotFinal(name)) => Err(name),
+        Err(ExitFault::NoMemory) => Ok(None),
     }
 }
 
-fn exits_at(alloc: Global, now: u64) -> Result<Answer, Fail> {
-    let plan = Plan {
-        me: A,
-        parts: Listed::make(vec![in alloc; Part::Root(CHANNEL)]?),
-    };
-    let chains = vec![in alloc; held(alloc)?]?;
-    Ok(told(exit_calls(alloc, &plan, &view(alloc, now)?, &chains)))
+fn exits_at(alloc: Global, now: u64) -> Result<Answer, ByteFault> {
+    let plan = plan_of(alloc, A, &[Part::Root(CHANNEL)])?;
+    let view = seen_at(alloc, now)?;
+    let chains = Vec::from_array(alloc, [held_with(alloc, Vec::new(alloc))?])?;
+    Ok(told(exit_calls(alloc, &plan, &view, &chains)))
 }
 
 #[test]
-fn a_final_channel_pays(rt: HostRuntime) -> Result<(), Fail> {
-    let alloc = rt.alloc();
-    assert!(rt; exits_at(alloc, 9)? == Answer::NotFinal(CHANNEL));
-    assert!(rt; exits_at(alloc, 10)? == Answer::Transfers(1));
-    Ok(())
+fn a_final_channel_pays(rt: HostRuntime) {
+    for (now, answer) in EXITS {
+        assert_eq!(rt; exits_at(rt.alloc(), now), Ok(answer), "at {now}");
+    }
 }

@@ -1,17 +1,13 @@
-//! What the tables of stages want and call, and what a plan is worth.
+//! What the tables of stages want and call, and what a plan is worth, worked out by hand.
 #![tactic(auto)]
 
 #[cfg(test)]
+mod built;
+#[cfg(test)]
 mod exits;
-#[cfg(test)]
-mod ledgers;
-#[cfg(test)]
-mod parts;
-#[cfg(test)]
-mod rules;
 #[cfg(test)]
 mod shares;
 #[cfg(test)]
-mod targets;
+mod stages;
 #[cfg(test)]
-mod virtuals;
+mod targets;

@@ -1,92 +1,113 @@
-//! Shares that were worked out by hand.
+//! What people have of plans, while they are funded and while ledgers hold less.
 
+use crate::built::{
+    A, B, Body, CHANNEL, GUARANTOR_A, GUARANTOR_B, I, JOINT, LEDGER_A, LEDGER_B, TO_A, TO_B, TO_I,
+    VIRTUAL, outcome_of, plan_of, state_of, view_of,
+};
 use channel_calls::{ChannelView, Known, WorldView};
 use funding_value::{Part, Plan, Virtual};
-use nitro_bytes::{AssetOutcome, Dest, Item, Listed, Name, Outcome, Shape, State};
+use nitro_bytes::{ByteFault, Dest, Listed, Name, NoMemory, State};
 use plan_share::{is_funded, is_owed, share};
 use std::alloc::Global;
-use std::test::Fail;
 
-const A: Name = [1; 32];
+const TO_CHANNEL: Dest = Dest::Channel(CHANNEL);
 
-const B: Name = [2; 32];
+const TO_GUARANTOR_A: Dest = Dest::Channel(GUARANTOR_A);
 
-const I: Name = [3; 32];
+const TO_GUARANTOR_B: Dest = Dest::Channel(GUARANTOR_B);
 
-const LEDGER_A: Name = [4; 32];
+/// A channel, and what its last state says.
+type Last = (Name, Body<'static>);
 
-const LEDGER_B: Name = [5; 32];
+const IN_A_LEDGER: &[Part] = &[Part::Root(LEDGER_A), Part::OnLedger(LEDGER_A, CHANNEL)];
 
-const CHILD: Name = [6; 32];
+/// The ledger set 2 and 3 aside of 5 and 5.
+const SET_ASIDE: &[Last] = &[
+    (
+        LEDGER_A,
+        Body::Items(&[(TO_A, 3), (TO_B, 2), (TO_CHANNEL, 5)]),
+    ),
+    (CHANNEL, Body::Items(&[(TO_A, 2), (TO_B, 3)])),
+];
 
-const GUARANTOR_A: Name = [7; 32];
+const IN_THE_MIDDLE: &[Part] = &[
+    Part::Root(LEDGER_A),
+    Part::Root(LEDGER_B),
+    Part::Middle(Virtual {
+        total: 10,
+        ..VIRTUAL
+    }),
+];
 
-const GUARANTOR_B: Name = [8; 32];
+/// The states that an intermediary signed last: its ledger with A set 10 aside, and that with B has 100 each.
+const SET_UP: &[Last] = &[
+    (
+        LEDGER_A,
+        Body::Items(&[(TO_A, 94), (TO_I, 96), (TO_GUARANTOR_A, 10)]),
+    ),
+    (GUARANTOR_A, Body::List(JOINT, &[TO_CHANNEL, TO_A, TO_I])),
+    (GUARANTOR_B, Body::List(JOINT, &[TO_CHANNEL, TO_B, TO_I])),
+    (JOINT, Body::Items(&[(TO_CHANNEL, 10), (TO_I, 10)])),
+];
 
-const JOINT: Name = [9; 32];
+const HUNDREDS: Body = Body::Items(&[(TO_I, 100), (TO_B, 100)]);
 
-const VIRTUAL: Virtual = Virtual {
-    ledger_a: LEDGER_A,
-    ledger_b: LEDGER_B,
-    guarantor_a: GUARANTOR_A,
-    guarantor_b: GUARANTOR_B,
-    joint: JOINT,
-    channel: CHILD,
-    asset: 0,
-    total: 10,
-    side_b: false,
-};
+const WHOLE: Body = Body::Items(&[(TO_I, 94), (TO_B, 96), (TO_GUARANTOR_B, 10)]);
 
-fn person(name: Name, amount: u64) -> Item {
-    Item {
-        to: Dest::Person(name),
-        amount,
+const SHORT: Body = Body::Items(&[(TO_I, 91), (TO_B, 96), (TO_GUARANTOR_B, 3)]);
+
+/// Whose plan it is, what each ledger holds, the outcome for which B's ledger votes in the middle of a set-up, or that
+/// the plan is a ledger with a channel on it, the share, whether the plan is funded, and whether a share is owed.
+const SHARES: [(Name, u64, Option<Body>, u128, bool, bool); 6] = [
+    (A, 10, None, 9, true, true),
+    (B, 10, None, 5, true, true),
+    (B, 7, None, 2, false, true),
+    (A, 0, None, 4, false, false),
+    // An intermediary gets the least of both outcomes.
+    (I, 200, Some(WHOLE), 196, true, true),
+    (I, 200, Some(SHORT), 190, false, true),
+];
+
+fn known_of(alloc: Global, rows: &[Last]) -> Result<Vec<Known>, ByteFault> {
+    let mut known = Vec::new(alloc);
+    for (channel, body) in rows {
+        let last = state_of(alloc, 2, false, *body, &[])?;
+        known.push(Known {
+            channel: *channel,
+            last,
+        })?;
     }
+    Ok(known)
 }
 
-fn channel(name: Name, amount: u64) -> Item {
-    Item {
-        to: Dest::Channel(name),
-        amount,
-    }
-}
-
-fn outcome_of(alloc: Global, shape: Shape) -> Result<Outcome, Fail> {
-    let asset = AssetOutcome { asset: 0, shape };
-    Ok(Outcome::make(alloc, vec![in alloc; asset]?)?)
-}
-
-fn paying(alloc: Global, items: &[Item]) -> Result<Outcome, Fail> {
-    let items = Vec::from_slice(alloc, items)?;
-    outcome_of(alloc, Shape::Allocation(Listed::make(items)))
-}
-
-/// What a guarantor of the joint channel promises to its end.
-fn guaranteeing(alloc: Global, end: Name) -> Result<Outcome, Fail> {
-    let list = vec![in alloc; Dest::Channel(CHILD), Dest::Person(end), Dest::Person(I)]?;
-    outcome_of(alloc, Shape::Guarantee(JOINT, Listed::make(list)))
-}
-
-/// A last state with an outcome and no data.
-fn ends(alloc: Global, channel: Name, outcome: Outcome) -> Result<Known, Fail> {
-    let last = State::make(alloc, 2, false, outcome, Vec::new(alloc))?;
-    Ok(Known { channel, last })
-}
-
-/// A last state that votes for another outcome.
-fn votes(alloc: Global, channel: Name, outcome: Outcome, next: &Outcome) -> Result<Known, Fail> {
-    let mut data = vec![in alloc; 1u8]?;
+/// A state of B's ledger that votes for another outcome.
+fn voting_for(alloc: Global, next: Body) -> Result<State, ByteFault> {
+    let next = outcome_of(alloc, next)?;
+    let mut data = Vec::from_array(alloc, [1])?;
     data.extend_from_slice(next.bytes())?;
-    let last = State::make(alloc, 2, false, outcome, data)?;
-    Ok(Known { channel, last })
+    state_of(alloc, 2, false, HUNDREDS, &data)
 }
 
-fn holding(alloc: Global, channel: Name, amount: u64) -> Result<ChannelView, Fail> {
+fn known_in(alloc: Global, next: Option<Body>) -> Result<Vec<Known>, ByteFault> {
+    let Some(next) = next else {
+        return known_of(alloc, SET_ASIDE);
+    };
+    let mut known = known_of(alloc, SET_UP)?;
+    let last = voting_for(alloc, next)?;
+    known.push(Known {
+        channel: LEDGER_B,
+        last,
+    })?;
+    Ok(known)
+}
+
+fn holding(alloc: Global, channel: Name, amount: u64) -> Result<ChannelView, ByteFault> {
+    let held = Vec::from_array(alloc, [(0, amount)])?;
     Ok(ChannelView {
         channel,
         turn: 0,
         deadline: None,
-        held: Listed::make(vec![in alloc; (0, amount)]?),
+        held: Listed::make(held),
         shown: None,
         settled: None,
         rest: None,
@@ -94,90 +115,51 @@ fn holding(alloc: Global, channel: Name, amount: u64) -> Result<ChannelView, Fai
 }
 
 /// A view in which both ledgers hold an amount, and A was paid 4.
-fn seen(alloc: Global, amount: u64) -> Result<WorldView, Fail> {
-    let a = holding(alloc, LEDGER_A, amount)?;
-    let b = holding(alloc, LEDGER_B, amount)?;
-    Ok(WorldView {
-        now: 0,
-        count: 0,
-        channels: Listed::make(vec![in alloc; a, b]?),
-        paid: Listed::make(vec![in alloc; (A, 0, 4)]?),
-    })
+fn seen(alloc: Global, amount: u64) -> Result<WorldView, ByteFault> {
+    let mut channels = Vec::new(alloc);
+    for ledger in [LEDGER_A, LEDGER_B] {
+        channels.push(holding(alloc, ledger, amount)?)?;
+    }
+    let mut view = view_of(alloc, 0, channels);
+    view.paid.push((A, 0, 4))?;
+    Ok(view)
 }
 
-fn plan(alloc: Global, me: Name, parts: &[Part]) -> Result<Plan, Fail> {
-    let parts = Vec::from_slice(alloc, parts)?;
-    Ok(Plan {
-        me,
-        parts: Listed::make(parts),
-    })
-}
+/// The share, whether the plan is funded, and whether a share is owed.
+type Worth = (u128, bool, bool);
 
-/// The share of a person in a ledger that set 2 and 3 aside of 5 and 5, whether its plan is funded, and whether it can
-/// still be paid.
-fn in_a_ledger(alloc: Global, me: Name, held: u64) -> Result<(u128, bool, bool), Fail> {
-    let ledger = paying(alloc, &[person(A, 3), person(B, 2), channel(CHILD, 5)])?;
-    let child = paying(alloc, &[person(A, 2), person(B, 3)])?;
-    let known = vec![in alloc; ends(alloc, LEDGER_A, ledger)?, ends(alloc, CHILD, child)?]?;
-    let parts = [Part::Root(LEDGER_A), Part::OnLedger(LEDGER_A, CHILD)];
-    let plan = plan(alloc, me, &parts)?;
-    let view = seen(alloc, held)?;
-    let share = share(alloc, &plan, &view, &known, 0)?;
-    let funded = is_funded(alloc, &plan, &view, &known, 0)?;
-    let owed = is_owed(alloc, &plan, &view, &known)?;
+fn worth_of(
+    alloc: Global,
+    plan: &Plan,
+    view: &WorldView,
+    known: &[Known],
+) -> Result<Worth, NoMemory> {
+    let share = share(alloc, plan, view, known, 0)?;
+    let funded = is_funded(alloc, plan, view, known, 0)?;
+    let owed = is_owed(alloc, plan, view, known)?;
     Ok((share, funded, owed))
 }
 
-#[test]
-fn a_ledger_pays_itself_and_its_child(rt: HostRuntime) -> Result<(), Fail> {
-    let alloc = rt.alloc();
-    assert!(rt; in_a_ledger(alloc, A, 10)? == (9, true, true));
-    assert!(rt; in_a_ledger(alloc, B, 10)? == (5, true, true));
-    assert!(rt; in_a_ledger(alloc, B, 7)? == (2, false, true));
-    assert!(rt; in_a_ledger(alloc, A, 0)? == (4, false, false));
-    Ok(())
-}
-
-/// The states that an intermediary signed last: its ledger with A set 10 aside, and that with B has an outcome of 100
-/// each and a vote for this one.
-fn set_up(alloc: Global, next: &Outcome) -> Result<Vec<Known>, Fail> {
-    let first = paying(
-        alloc,
-        &[person(A, 94), person(I, 96), channel(GUARANTOR_A, 10)],
-    )?;
-    let second = paying(alloc, &[person(I, 100), person(B, 100)])?;
-    let joint = paying(alloc, &[channel(CHILD, 10), person(I, 10)])?;
-    let known = vec![in alloc;
-        ends(alloc, LEDGER_A, first)?,
-        votes(alloc, LEDGER_B, second, next)?,
-        ends(alloc, GUARANTOR_A, guaranteeing(alloc, A)?)?,
-        ends(alloc, GUARANTOR_B, guaranteeing(alloc, B)?)?,
-        ends(alloc, JOINT, joint)?,
-    ]?;
-    Ok(known)
-}
-
-/// The intermediary's share in the middle of the set-up, where B's ledger votes for an outcome.
-fn in_the_middle(alloc: Global, next: &[Item]) -> Result<(u128, bool), Fail> {
-    let next = paying(alloc, next)?;
-    let known = set_up(alloc, &next)?;
-    let parts = [
-        Part::Root(LEDGER_A),
-        Part::Root(LEDGER_B),
-        Part::Middle(VIRTUAL),
-    ];
-    let plan = plan(alloc, I, &parts)?;
-    let view = seen(alloc, 200)?;
-    let share = share(alloc, &plan, &view, &known, 0)?;
-    Ok((share, is_funded(alloc, &plan, &view, &known, 0)?))
+fn worth(alloc: Global, me: Name, held: u64, next: Option<Body>) -> Result<Worth, ByteFault> {
+    let parts = if next.is_some() {
+        IN_THE_MIDDLE
+    } else {
+        IN_A_LEDGER
+    };
+    let plan = plan_of(alloc, me, parts)?;
+    let view = seen(alloc, held)?;
+    let known = known_in(alloc, next)?;
+    Ok(worth_of(alloc, &plan, &view, &known)?)
 }
 
 #[test]
-fn an_intermediary_gets_the_least_of_both_outcomes(rt: HostRuntime) -> Result<(), Fail> {
-    let alloc = rt.alloc();
-    let whole = [person(I, 94), person(B, 96), channel(GUARANTOR_B, 10)];
-    assert!(rt; in_the_middle(alloc, &whole)? == (196, true));
-    let short = [person(I, 91), person(B, 96), channel(GUARANTOR_B, 3)];
-    assert!(rt; in_the_middle(alloc, &short)? == (190, false));
-    Ok(())
+fn shares(rt: HostRuntime) {
+    for row in 0..SHARES.len() {
+        let (me, held, next, share, funded, owed) = SHARES[row];
+        assert_eq!(rt;
+            worth(rt.alloc(), me, held, next),
+            Ok((share, funded, owed)),
+            "row {row}"
+        );
+    }
 }

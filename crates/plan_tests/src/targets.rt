@@ -1,19 +1,9 @@
-//! Outcomes that were worked out by hand.
+//! Outcomes that are aimed at.
 
-use nitro_bytes::{AssetOutcome, Dest, Item, Listed, Name, Outcome, Shape};
+use crate::built::{A, B, Body, CHANNEL, I, JOINT, TO_A, TO_B, outcome_of};
+use nitro_bytes::{ByteFault, NoMemory, Outcome, Shape};
 use outcome_targets::{Aim, AimKind, Changed, Child, Terms};
 use std::alloc::Global;
-use std::test::Fail;
-
-const A: Name = [1; 32];
-
-const B: Name = [2; 32];
-
-const I: Name = [3; 32];
-
-const CHANNEL: Name = [4; 32];
-
-const JOINT: Name = [5; 32];
 
 const CHILD: Child = Child {
     asset: 0,
@@ -33,22 +23,10 @@ const TERMS: Terms = Terms {
     total: 500,
 };
 
-fn item(to: Dest, amount: u64) -> Item {
-    Item { to, amount }
-}
-
-/// A ledger in which both have 1000.
-fn ledger(alloc: Global) -> Result<Outcome, Fail> {
-    let items = vec![in alloc; item(Dest::Person(A), 1000), item(Dest::Person(B), 1000)]?;
-    let asset = AssetOutcome {
-        asset: 0,
-        shape: Shape::Allocation(Listed::make(items)),
-    };
-    Ok(Outcome::make(alloc, vec![in alloc; asset]?)?)
-}
-
 /// The amounts of two or three items.
-fn amounts(outcome: &Outcome) -> Option<[u64; 3]> {
+type Amounts = Option<[u64; 3]>;
+
+fn amounts(outcome: &Outcome) -> Amounts {
     let [first] = outcome.assets() else {
         return None;
     };
@@ -62,65 +40,83 @@ fn amounts(outcome: &Outcome) -> Option<[u64; 3]> {
     }
 }
 
-/// Whether the aim is built and then is its own spelling, and the amounts of what is built.
-fn built(alloc: Global, kind: AimKind) -> Result<(bool, Option<[u64; 3]>), Fail> {
-    let aim = Aim::make(kind);
+fn moved(
+    alloc: Global,
+    base: &Outcome,
+    is_up: bool,
+    a: u64,
+    b: u64,
+) -> Result<Option<Outcome>, NoMemory> {
+    let child = Child { a, b, ..CHILD };
+    Aim::make(AimKind::Moved(Changed { child, base, is_up })).build(alloc)
+}
+
+/// The amounts of what went up, and of that after it went down by other amounts.
+fn and_down(alloc: Global, higher: &Outcome) -> Result<[Amounts; 2], ByteFault> {
+    let up = amounts(higher);
+    match moved(alloc, higher, false, 350, 150)? {
+        Some(lower) => Ok([up, amounts(&lower)]),
+        None => Ok([up, None]),
+    }
+}
+
+/// The same of a ledger in which both have 1000.
+fn up_and_down(alloc: Global) -> Result<[Amounts; 2], ByteFault> {
+    let base = outcome_of(alloc, Body::Items(&[(TO_A, 1000), (TO_B, 1000)]))?;
+    match moved(alloc, &base, true, 400, 100)? {
+        Some(higher) => and_down(alloc, &higher),
+        None => Ok([None, None]),
+    }
+}
+
+#[test]
+fn a_ledger_goes_up_and_down(rt: HostRuntime) {
+    let wanted = [Some([600, 900, 500]), Some([950, 1050, 0])];
+    assert_eq!(rt; up_and_down(rt.alloc()), Ok(wanted));
+}
+
+#[derive(Clone, Copy)]
+enum Joint {
+    Together,
+    Apart(u64, u64),
+    Guaranteed,
+}
+
+/// An outcome of the joint channel or for it, the total, whether it is built and then is its own spelling, and the
+/// amounts of what is built.
+const BUILT: [(Joint, u64, bool, Amounts); 4] = [
+    (Joint::Together, 500, true, Some([500, 500, 0])),
+    (Joint::Apart(350, 150), 500, true, Some([350, 150, 500])),
+    (Joint::Guaranteed, 500, true, None),
+    // A total of which two are more than an outcome can have.
+    (Joint::Together, u64::MAX, false, None),
+];
+
+fn aim_at(joint: Joint, total: u64) -> AimKind<'static> {
+    let terms = Terms { total, ..TERMS };
+    match joint {
+        Joint::Together => AimKind::Together(terms),
+        Joint::Apart(a, b) => AimKind::Apart(terms, a, b),
+        Joint::Guaranteed => AimKind::Guaranteed(terms, JOINT, A),
+    }
+}
+
+fn built(alloc: Global, joint: Joint, total: u64) -> Result<(bool, Amounts), NoMemory> {
+    let aim = Aim::make(aim_at(joint, total));
     match aim.build(alloc)? {
         None => Ok((false, None)),
         Some(outcome) => Ok((aim.is_spelled(outcome.bytes()), amounts(&outcome))),
     }
 }
 
-fn up(base: &Outcome) -> AimKind {
-    AimKind::Moved(Changed {
-        child: CHILD,
-        base,
-        is_up: true,
-    })
-}
-
-/// The amounts of the ledger that went up, and then down by other amounts.
-fn up_and_down(alloc: Global) -> Result<[Option<[u64; 3]>; 2], Fail> {
-    let base = ledger(alloc)?;
-    let Some(higher) = Aim::make(up(&base)).build(alloc)? else {
-        return Ok([None, None]);
-    };
-    let mut child = CHILD;
-    child.a = 350;
-    child.b = 150;
-    let changed = Changed {
-        child,
-        base: &higher,
-        is_up: false,
-    };
-    let lower = built(alloc, AimKind::Moved(changed))?;
-    Ok([amounts(&higher), lower.1])
-}
-
 #[test]
-fn a_ledger_goes_up_and_down(rt: HostRuntime) -> Result<(), Fail> {
-    let alloc = rt.alloc();
-    let [higher, lower] = up_and_down(alloc)?;
-    assert!(rt; higher == Some([600, 900, 500]));
-    assert!(rt; lower == Some([950, 1050, 0]));
-    Ok(())
-}
-
-#[test]
-fn the_joint_channel_goes_together_and_apart(rt: HostRuntime) -> Result<(), Fail> {
-    let alloc = rt.alloc();
-    assert!(rt; built(alloc, AimKind::Together(TERMS))? == (true, Some([500, 500, 0])));
-    assert!(rt; built(alloc, AimKind::Apart(TERMS, 350, 150))? == (true, Some([350, 150, 500])));
-    assert!(rt; built(alloc, AimKind::Guaranteed(TERMS, JOINT, A))? == (true, None));
-    Ok(())
-}
-
-/// A total of which two are more than an outcome can have.
-#[test]
-fn what_is_no_outcome_is_not_built(rt: HostRuntime) -> Result<(), Fail> {
-    let alloc = rt.alloc();
-    let mut terms = TERMS;
-    terms.total = u64::MAX;
-    assert!(rt; built(alloc, AimKind::Together(terms))? == (false, None));
-    Ok(())
+fn the_joint_channel_goes_together_and_apart(rt: HostRuntime) {
+    for row in 0..BUILT.len() {
+        let (joint, total, is_built, amounts) = BUILT[row];
+        assert_eq!(rt;
+            built(rt.alloc(), joint, total),
+            Ok((is_built, amounts)),
+            "row {row}"
+        );
+    }
 }

@@ -14,6 +14,3 @@ mod text;
 
 pub use flows::assets_of;
 pub use report::{Judged, Load, Report, Share, text_of};
-
-#[cfg(test)]
-mod tests;

@@ -7,8 +7,6 @@ mod records;
 mod run;
 mod sink;
 mod standard;
-#[cfg(test)]
-mod tests;
 
 pub use laws::calm_runs_end_alike;
 pub use memory::{CalmSink, ListSink};

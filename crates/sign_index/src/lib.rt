@@ -6,8 +6,6 @@ pub mod laws;
 mod secret;
 mod signer;
 mod signing;
-#[cfg(test)]
-mod tests;
 mod tree;
 
 pub use fault::{NoMemory, SignFault};

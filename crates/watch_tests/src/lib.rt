@@ -1,6 +1,10 @@
-//! What a participant follows, keeps, answers and tells.
+//! What a participant follows, keeps, answers, tells and signs. Expected values were worked out by hand.
 #![tactic(auto)]
 
+#[cfg(test)]
+mod pair;
+#[cfg(test)]
+mod signing;
 #[cfg(test)]
 mod storing;
 #[cfg(test)]

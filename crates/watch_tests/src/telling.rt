@@ -1,244 +1,216 @@
-//! A dispute that runs out, and signatures under a key that signs outside of its journal. Answers were worked out by
-//! hand.
+//! A dispute that runs out, and signatures under a key that signs outside of its journal.
 
+use crate::pair::{Act, Pair, at, mark, pair_of};
 use channel_calls::{Call, Deed, Entry, Event, Op, Reply, write_message};
-use channel_name::{channel_name, person_name, state_digest, state_message};
-use nitro_bytes::{
-    AssetOutcome, Chain, Dest, Fixed, Item, Key, Listed, Mark, Name, Outcome, Shape, Signed, State,
-};
+use channel_name::person_name;
+use nitro_bytes::{Chain, Key, Listed};
 use premises::{Journal, distinct, in_time, unforged};
 use sign_index::Signer;
-use std::alloc::Global;
+use std::alloc::{AllocGlobal, Global};
+use std::process::Abort;
 use std::test::Fail;
 
-const OTHER: Key = [2; 56];
+const SECOND: Key = [2; 56];
 
-/// What a participant did: a look or a signing, after so many entries.
+/// What a participant did: a look, a signing, or the taking of a message, after so many entries.
 #[derive(Clone, Copy)]
-enum Did {
+enum Did<'a> {
     Look(u32),
     Sign(u32),
+    Take(&'a [u8]),
 }
 
-fn fixed_of(alloc: Global, key: &Key) -> Result<Fixed, Fail> {
-    let mut keys: Vec<Key> = Vec::new(alloc);
-    keys.push(*key)?;
-    keys.push(OTHER)?;
-    Ok(Fixed::make(alloc, keys, 1, 2, 10)?)
-}
-
-fn channel_of(alloc: Global, key: &Key) -> Result<Name, Fail> {
-    Ok(channel_name(fixed_of(alloc, key)?.bytes()))
-}
-
-fn state_of(alloc: Global, key: &Key) -> Result<State, Fail> {
-    let item = Item {
-        to: Dest::Person(person_name(key)),
-        amount: 5,
-    };
-    let asset = AssetOutcome {
-        asset: 0,
-        shape: Shape::Allocation(Listed::make(vec![in alloc; item]?)),
-    };
-    let outcome = Outcome::make(alloc, vec![in alloc; asset]?)?;
-    Ok(State::make(alloc, 1, false, outcome, Vec::new(alloc))?)
-}
-
-/// The state, with the signer's own signature.
-fn signed_by(alloc: Global, signer: &mut Signer) -> Result<Signed, Fail> {
-    let key = signer.public();
-    let state = state_of(alloc, &key)?;
-    let message = state_message(&state_digest(&channel_of(alloc, &key)?, state.bytes()));
-    let signature = Listed::make(signer.sign(&message)?);
-    Ok(Signed { state, signature })
-}
-
-fn event_of(alloc: Global, key: &Key, did: Did) -> Result<Event, Fail> {
+fn deed_of(pair: &Pair, did: Did) -> Result<Deed, Fail> {
+    let alloc = pair.alloc;
     Ok(match did {
-        Did::Look(seen) => Event {
-            seen,
-            deed: Deed::Watched(0, Listed::make(Vec::new(alloc))),
-        },
-        Did::Sign(seen) => Event {
-            seen,
-            deed: Deed::Signed(
-                channel_of(alloc, key)?,
-                state_of(alloc, key)?,
-                Listed::make(Vec::new(alloc)),
-            ),
-        },
+        Did::Look(_) => Deed::Watched(0, Listed::make(Vec::new(alloc))),
+        Did::Sign(_) => Deed::Signed(
+            pair.channel()?,
+            pair.state(at(1))?,
+            Listed::make(Vec::new(alloc)),
+        ),
+        Did::Take(bytes) => Deed::Handled(Listed::make(Vec::from_slice(alloc, bytes)?), None),
     })
 }
 
-fn events_of(alloc: Global, key: &Key, list: &[Did]) -> Result<Vec<Event>, Fail> {
-    let mut events = Vec::new(alloc);
+/// The journal of the pair's first person.
+fn journals_of(pair: &Pair, list: &[Did]) -> Result<Vec<Journal>, Fail> {
+    let mut events = Vec::new(pair.alloc);
     for did in list {
-        events.push(event_of(alloc, key, *did)?)?;
+        let seen = match did {
+            Did::Look(seen) | Did::Sign(seen) => *seen,
+            Did::Take(_) => 0,
+        };
+        events.push(Event {
+            seen,
+            deed: deed_of(pair, *did)?,
+        })?;
     }
-    Ok(events)
-}
-
-fn journals_of(alloc: Global, key: &Key, events: Vec<Event>) -> Result<Vec<Journal>, Fail> {
     let journal = Journal {
         number: 1,
-        key: *key,
+        key: pair.keys[0],
         events: Listed::make(events),
     };
-    Ok(vec![in alloc; journal]?)
+    Ok(vec![in pair.alloc; journal]?)
 }
 
-/// A call of entry 1, and the time at entry 2.
-fn history_of(alloc: Global, call: Call, reply: Reply, time: u64) -> Result<Vec<Entry>, Fail> {
-    let mut history = Vec::new(alloc);
-    history.push(Entry {
+/// An entry, and the time at entry 2.
+fn history_of(alloc: Global, op: Op, reply: Reply, time: u64) -> Result<Vec<Entry>, Fail> {
+    let first = Entry {
         number: 1,
         by: 9,
-        op: Op::Call(call),
+        op,
         reply,
-    })?;
-    history.push(Entry {
+    };
+    let second = Entry {
         number: 2,
         by: 0,
         op: Op::Time(time),
         reply: Reply::Now(time),
-    })?;
-    Ok(history)
+    };
+    Ok(vec![in alloc; first, second]?)
 }
 
 /// A challenge at time 0 with the deadline 10.
-fn challenged(alloc: Global, time: u64) -> Result<Vec<Entry>, Fail> {
-    let key = [1; 56];
-    let chain = Chain {
-        fixed: fixed_of(alloc, &key)?,
-        states: Listed::make(vec![in alloc; state_of(alloc, &key)?]?),
-        marks: Listed::make(Vec::new(alloc)),
-    };
-    let challenge = Call::Challenge {
-        chain,
-        challenger: 1,
-        signature: Listed::make(Vec::new(alloc)),
-    };
-    history_of(alloc, challenge, Reply::Until(10), time)
-}
-
-/// A checkpoint with a state that the signer signed.
-fn checkpointed(alloc: Global, signer: &mut Signer) -> Result<Vec<Entry>, Fail> {
-    let signed = signed_by(alloc, signer)?;
-    let mark = Mark {
-        place: 0,
-        signature: signed.signature,
-    };
-    let chain = Chain {
-        fixed: fixed_of(alloc, &signer.public())?,
-        states: Listed::make(vec![in alloc; signed.state]?),
-        marks: Listed::make(vec![in alloc; mark]?),
-    };
-    history_of(alloc, Call::Checkpoint { chain }, Reply::Opened(1), 1)
+fn challenged(pair: &Pair, time: u64) -> Result<Vec<Entry>, Fail> {
+    let op = pair.op(Act::Challenge(1, 1))?;
+    history_of(pair.alloc, op, Reply::Until(10), time)
 }
 
 fn timely(alloc: Global, time: u64, list: &[Did]) -> Result<bool, Fail> {
-    let key = [1; 56];
-    let history = challenged(alloc, time)?;
-    let journals = journals_of(alloc, &key, events_of(alloc, &key, list)?)?;
-    Ok(in_time(alloc, &history, &journals, &person_name(&key))?)
+    let pair = pair_of(alloc, 1);
+    let history = challenged(&pair, time)?;
+    let journals = journals_of(&pair, list)?;
+    Ok(in_time(alloc, &history, &journals, &person_name(&pair.keys[0]))?)
 }
 
-fn own(alloc: Global, history: &[Entry], key: &Key, list: &[Did]) -> Result<bool, Fail> {
-    let journals = journals_of(alloc, key, events_of(alloc, key, list)?)?;
-    Ok(unforged(alloc, history, &journals, &person_name(key))?)
-}
+/// The time at entry 2, what the first person did, and whether its looks are then in time: after what was signed, at the
+/// challenge, and before its end. Nothing is asked of a challenge that is still open.
+const TIMELY: [(u64, &[Did], bool); 6] = [
+    (10, &[], true),
+    (10, &[Did::Look(1), Did::Sign(0)], false),
+    (10, &[Did::Sign(0), Did::Look(0)], false),
+    (10, &[Did::Sign(0), Did::Look(2)], false),
+    (10, &[Did::Sign(0), Did::Look(1)], true),
+    (9, &[Did::Sign(0)], true),
+];
 
-/// A message with the bytes, and a signing before it or behind it.
-fn taken(alloc: Global, key: &Key, bytes: &[u8], before: bool) -> Result<bool, Fail> {
-    let mut events = Vec::new(alloc);
-    if before {
-        events.push(event_of(alloc, key, Did::Sign(0))?)?;
-    }
-    let copy = Vec::from_slice(alloc, bytes)?;
-    events.push(Event {
-        seen: 0,
-        deed: Deed::Handled(Listed::make(copy), None),
-    })?;
-    if !before {
-        events.push(event_of(alloc, key, Did::Sign(0))?)?;
-    }
-    let journals = journals_of(alloc, key, events)?;
-    Ok(unforged(alloc, &[], &journals, &person_name(key))?)
-}
-
-/// A look counts after what was signed, at the challenge, and before its end.
 #[test]
 fn looks_are_in_time_between_challenge_and_end(rt: HostRuntime) -> Result<(), Fail> {
-    let alloc = rt.alloc();
-    let nothing = timely(alloc, 10, &[])?;
-    assert!(rt; nothing);
-    let before = timely(alloc, 10, &[Did::Look(1), Did::Sign(0)])?;
-    assert!(rt; !before);
-    let early = timely(alloc, 10, &[Did::Sign(0), Did::Look(0)])?;
-    assert!(rt; !early);
-    let late = timely(alloc, 10, &[Did::Sign(0), Did::Look(2)])?;
-    assert!(rt; !late);
-    let good = timely(alloc, 10, &[Did::Sign(0), Did::Look(1)])?;
-    assert!(rt; good);
+    for (time, list, wanted) in TIMELY {
+        assert!(rt; timely(rt.alloc(), time, list)? == wanted, "at {time}");
+    }
     Ok(())
 }
 
-/// Nothing is asked of a challenge that is still open.
-#[test]
-fn an_open_challenge_asks_nothing(rt: HostRuntime) -> Result<(), Fail> {
-    let alloc = rt.alloc();
-    let open = timely(alloc, 9, &[Did::Sign(0)])?;
-    assert!(rt; open);
+/// The pair of a signer and the second person.
+fn pair_with(signer: &Signer, alloc: Global) -> Pair {
+    let keys = [signer.public(), SECOND];
+    Pair {
+        keys,
+        ..pair_of(alloc, 1)
+    }
+}
+
+/// A checkpoint with a state that the signer signed.
+fn checkpointed(pair: &Pair, signer: &mut Signer) -> Result<Vec<Entry>, Fail> {
+    let signed = pair.signed_by(signer, at(1))?;
+    let mark = mark(0, signed.signature);
+    let chain = Chain {
+        fixed: pair.fixed()?,
+        states: Listed::make(vec![in pair.alloc; signed.state]?),
+        marks: Listed::make(vec![in pair.alloc; mark]?),
+    };
+    history_of(
+        pair.alloc,
+        Op::Call(Call::Checkpoint { chain }),
+        Reply::Opened(1),
+        1,
+    )
+}
+
+/// Whether nothing is forged of the first person, who did this.
+fn own(pair: &Pair, history: &[Entry], list: &[Did]) -> Result<bool, Fail> {
+    let journals = journals_of(pair, list)?;
+    Ok(unforged(pair.alloc, history, &journals, &person_name(&pair.keys[0]))?)
+}
+
+/// Whether the journal is the signer's or the second person's, what it has, and whether it is then without a forgery.
+const OWN: [(bool, &[Did], bool); 4] = [
+    (true, &[], false),
+    (true, &[Did::Sign(1)], false),
+    (true, &[Did::Sign(0)], true),
+    (false, &[], true),
+];
+
+fn all_own(rt: &(impl AllocGlobal + Abort), pair: &Pair, history: &[Entry]) -> Result<(), Fail> {
+    for (is_own, list, wanted) in OWN {
+        let key = if is_own { pair.keys[0] } else { SECOND };
+        let one = Pair {
+            keys: [key, SECOND],
+            ..*pair
+        };
+        assert!(rt; own(&one, history, list)? == wanted, "own {is_own}");
+    }
     Ok(())
 }
 
 /// A state that was signed with one's own key outside of the journal stands in an entry.
 #[test]
 fn signatures_outside_of_the_journal_are_told(rt: HostRuntime) -> Result<(), Fail> {
-    let alloc = rt.alloc();
-    let mut signer = Signer::make(alloc, [1; 32], [1; 16], 5)?;
-    let key = signer.public();
-    let history = checkpointed(alloc, &mut signer)?;
-    let never = own(alloc, &history, &key, &[])?;
-    assert!(rt; !never);
-    let later = own(alloc, &history, &key, &[Did::Sign(1)])?;
-    assert!(rt; !later);
-    let by_then = own(alloc, &history, &key, &[Did::Sign(0)])?;
-    assert!(rt; by_then);
-    let others = own(alloc, &history, &OTHER, &[])?;
-    assert!(rt; others);
+    let mut signer = Signer::make(rt.alloc(), [1; 32], [1; 16], 5)?;
+    let pair = pair_with(&signer, rt.alloc());
+    let history = checkpointed(&pair, &mut signer)?;
+    all_own(&rt, &pair, &history)
+}
+
+/// The bytes of a message with a state that the signer signed.
+fn message_of(pair: &Pair, signer: &mut Signer) -> Result<Vec<u8>, Fail> {
+    let signed = pair.signed_by(signer, at(1))?;
+    let mut bytes = Vec::new(pair.alloc);
+    write_message(&pair.channel()?, &signed, &mut bytes)?;
+    Ok(bytes)
+}
+
+/// A message has such a state, and is taken after the signing or before it.
+#[test]
+fn messages_with_own_signatures_come_after_them(rt: HostRuntime) -> Result<(), Fail> {
+    let mut signer = Signer::make(rt.alloc(), [1; 32], [1; 16], 5)?;
+    let pair = pair_with(&signer, rt.alloc());
+    let bytes = message_of(&pair, &mut signer)?;
+    let message = Did::Take(&bytes);
+    for (list, wanted) in [
+        ([Did::Sign(0), message], true),
+        ([message, Did::Sign(0)], false),
+    ] {
+        assert!(rt; own(&pair, &[], &list)? == wanted, "wanted {wanted}");
+    }
     Ok(())
 }
 
-/// A message has such a state.
-#[test]
-fn messages_with_own_signatures_come_after_them(rt: HostRuntime) -> Result<(), Fail> {
-    let alloc = rt.alloc();
-    let mut signer = Signer::make(alloc, [1; 32], [1; 16], 5)?;
-    let key = signer.public();
-    let signed = signed_by(alloc, &mut signer)?;
-    assert!(rt; signed.signature.as_slice().len() <= 9004);
-    let mut bytes = Vec::new(alloc);
-    write_message(&channel_of(alloc, &key)?, &signed, &mut bytes)?;
-    let after = taken(alloc, &key, &bytes, true)?;
-    assert!(rt; after);
-    let ahead = taken(alloc, &key, &bytes, false)?;
-    assert!(rt; !ahead);
-    Ok(())
+/// Whether no strings collide, and what is answered of the second person, who has no journal.
+fn answers(
+    alloc: Global,
+    history: &[Entry],
+    journals: &[Journal],
+) -> Result<(bool, bool, bool), Fail> {
+    let stranger = person_name(&SECOND);
+    Ok((
+        distinct(alloc, history, journals)?,
+        unforged(alloc, history, journals, &stranger)?,
+        in_time(alloc, history, journals, &stranger)?,
+    ))
 }
 
 /// The strings of a small history don't collide; of a stranger nothing is answered.
 #[test]
 fn strings_are_distinct_and_strangers_have_no_journal(rt: HostRuntime) -> Result<(), Fail> {
-    let alloc = rt.alloc();
-    let key = [1; 56];
-    let history = challenged(alloc, 10)?;
-    let journals = journals_of(alloc, &key, events_of(alloc, &key, &[Did::Sign(0)])?)?;
-    let apart = distinct(alloc, &history, &journals)?;
-    assert!(rt; apart);
-    let stranger = unforged(alloc, &history, &journals, &person_name(&OTHER))?;
-    assert!(rt; !stranger);
-    let none = in_time(alloc, &history, &journals, &person_name(&OTHER))?;
-    assert!(rt; !none);
+    let pair = pair_of(rt.alloc(), 1);
+    let history = challenged(&pair, 10)?;
+    let journals = journals_of(&pair, &[Did::Sign(0)])?;
+    assert_eq!(rt;
+        answers(rt.alloc(), &history, &journals)?,
+        (true, false, false)
+    );
     Ok(())
 }

@@ -4,8 +4,6 @@
 mod asking;
 mod laws;
 mod number;
-#[cfg(test)]
-mod tests;
 mod words;
 
 pub use asking::Asked;

@@ -1,0 +1,11 @@
+//! What a person's node answers, step by step, and what a node signs that knows little.
+#![tactic(auto)]
+
+#[cfg(test)]
+mod desk;
+#[cfg(test)]
+mod messages;
+#[cfg(test)]
+mod nodes;
+#[cfg(test)]
+mod wishes;

@@ -1,0 +1,138 @@
+//! What a node answers, worked out by hand from the rules. Whole runs of two nodes are files, in `examples`.
+
+use crate::desk::{Desk, Said, Step, node_of};
+use channel_calls::NodeRefusal;
+use deadline_clock::Standing;
+use net_node::Node;
+use net_party::{NodeFault, Party};
+use std::alloc::Global;
+use std::test::Fail;
+
+/// Set-up states at turns 0 and 1, the deposits of 5 and then 3, and the states after them at turns 2 and 3.
+const OPENING: [(Step, Said); 10] = [
+    (Step::Open(1), Said::Quiet),
+    (Step::Tick, Said::Sends(0, 5, 3)),
+    (Step::Comes(1, (5, 3), 2), Said::Quiet),
+    (Step::Tick, Said::Deposits(0, 5)),
+    (Step::Deposit(0, 5, 5), Said::Quiet),
+    (Step::Tick, Said::Quiet),
+    (Step::Deposit(5, 3, 8), Said::Quiet),
+    (Step::Tick, Said::Sends(2, 5, 3)),
+    (Step::Comes(3, (5, 3), 2), Said::Quiet),
+    (Step::Tick, Said::Quiet),
+];
+
+/// Until the second's state of turn 1 comes nobody deposits, and no other channel is opened. It isn't taken twice.
+const LATE: [(Step, Said); 7] = [
+    (Step::Open(1), Said::Quiet),
+    (Step::Tick, Said::Sends(0, 5, 3)),
+    (Step::Tick, Said::Quiet),
+    (Step::Open(2), Said::No(NodeRefusal::NotWanted(0))),
+    (Step::Comes(1, (5, 3), 2), Said::Quiet),
+    (Step::Comes(1, (5, 3), 2), Said::No(NodeRefusal::NotNext(2))),
+    (Step::Tick, Said::Deposits(0, 5)),
+];
+
+/// After the first paid 2, the second is to sign turn 5, with at least 3 for the first.
+const MESSAGES: [(Step, Said); 7] = [
+    (Step::Pay(2), Said::Sends(4, 3, 5)),
+    (Step::Strange, Said::No(NodeRefusal::UnknownChannel)),
+    (Step::Comes(3, (2, 6), 3), Said::No(NodeRefusal::NotNext(5))),
+    (
+        Step::Comes(5, (2, 6), 1),
+        Said::No(NodeRefusal::BadSignature),
+    ),
+    (Step::Comes(5, (2, 6), 2), Said::No(NodeRefusal::NotAStep)),
+    (Step::Comes(5, (4, 4), 2), Said::Quiet),
+    (Step::Comes(5, (4, 4), 2), Said::No(NodeRefusal::NotNext(6))),
+];
+
+/// The second paid 4 back, and challenges with older states.
+const CHALLENGED: [(Step, Said); 6] = [
+    (Step::Pay(2), Said::Sends(4, 3, 5)),
+    (Step::Comes(5, (7, 1), 2), Said::Quiet),
+    (Step::Pay(0), Said::Sends(6, 7, 1)),
+    (Step::Challenge, Said::Quiet),
+    (Step::Pay(0), Said::NotOpen(Standing::Challenged)),
+    (
+        Step::Comes(3, (2, 6), 3),
+        Said::NotOpen(Standing::Challenged),
+    ),
+];
+
+/// The place of the first row with another answer, and that answer, if there is one.
+fn first_wrong(
+    desk: &Desk,
+    node: &mut Node,
+    rows: &[(Step, Said)],
+) -> Result<Option<(usize, Said)>, Fail> {
+    for (place, row) in rows.iter().enumerate() {
+        let said = desk.answer(node, &row.0)?;
+        if said != row.1 {
+            return Ok(Some((place, said)));
+        }
+    }
+    Ok(None)
+}
+
+/// The same of two tables, one after the other.
+fn wrong_of(
+    alloc: Global,
+    node: &mut Node,
+    before: &[(Step, Said)],
+    rows: &[(Step, Said)],
+) -> Result<Option<(usize, Said)>, Fail> {
+    let key = *node.key();
+    let desk = Desk::make(alloc, key)?;
+    match first_wrong(&desk, node, before)? {
+        None => first_wrong(&desk, node, rows),
+        wrong => Ok(wrong),
+    }
+}
+
+/// The same for a new node.
+fn wrong_in(
+    alloc: Global,
+    before: &[(Step, Said)],
+    rows: &[(Step, Said)],
+) -> Result<Option<(usize, Said)>, Fail> {
+    let mut node = node_of(alloc, 1)?;
+    wrong_of(alloc, &mut node, before, rows)
+}
+
+#[test]
+fn a_late_state_is_taken_once(rt: HostRuntime) -> Result<(), Fail> {
+    assert_eq!(rt; wrong_in(rt.alloc(), &[], &LATE)?, None);
+    Ok(())
+}
+
+#[test]
+fn messages_are_refused_in_order(rt: HostRuntime) -> Result<(), Fail> {
+    assert_eq!(rt; wrong_in(rt.alloc(), &OPENING, &MESSAGES)?, None);
+    Ok(())
+}
+
+#[test]
+fn a_challenged_channel_takes_nothing(rt: HostRuntime) -> Result<(), Fail> {
+    assert_eq!(rt; wrong_in(rt.alloc(), &OPENING, &CHALLENGED)?, None);
+    Ok(())
+}
+
+/// A new node: what it says of no bytes, whether it does nothing, how many entries it saw, and how many lines it has in its
+/// journal then.
+fn new_node(alloc: Global, number: u8) -> Result<(Option<NodeFault>, bool, u32, usize), Fail> {
+    let mut node = node_of(alloc, number)?;
+    let fault = node.handle(&[]).err();
+    let outs = node.tick()?;
+    let is_quiet = outs.calls.as_slice().is_empty() && outs.spent.is_none();
+    let is_numbered = node.number() == number as u32;
+    let lines = node.journal().len();
+    Ok((fault, is_quiet && is_numbered, node.seen(), lines))
+}
+
+#[test]
+fn a_new_node_answers(rt: HostRuntime) -> Result<(), Fail> {
+    let fault = Some(NodeFault::Refused(NodeRefusal::BadBytes));
+    assert_eq!(rt; new_node(rt.alloc(), 7)?, (fault, true, 0, 1));
+    Ok(())
+}
