@@ -1,109 +1,49 @@
-//! Reads calls and messages that a writer in another language spelled, copies them and writes them back.
+//! Reads calls and messages that a writer in another language spelled, copies the calls in entries, and writes all back.
 //!
 //! A line of the file is `NAME KIND HEX`: the kind is `call` or `message`, the bytes are in hex, `-` for none. Printed
-//! is a line `NAME same` where a copy is written back as the same bytes, `NAME other` where it isn't, and else
+//! is a line `NAME same` where the same bytes are written back, `NAME other` where others are, and else
 //! `NAME FAULT PLACE` with the first fault.
 #![tactic(auto)]
 
-ghost use Rattle.std.specs.Prelude.{◌≡◌, IfOk};
+ghost use Rattle.std.specs.Prelude.{◌≡◌};
+ghost use Rattle.channel_calls.specs.Limits.{KeepsCall};
+ghost use Rattle.channel_calls.specs.declared.call.Call.{Call as AnyCall};
+ghost use Rattle.channel_calls.specs.declared.call.Op.TheVariants as ops;
 
-use anyhow::{Context, Result, anyhow};
+use anyhow::{Context, Result};
 use channel_calls::{
-    Call, Deed, Entry, Event, Op, Reply, copy_call, copy_entry, copy_event, read_call,
-    read_message, write_call, write_message,
+    Entry, Op, Reply, copy_entry, read_call, read_message, write_call, write_message,
 };
 use nitro_bytes::{ByteFault, NoMemory};
-use std::alloc::Global;
 use std::{env, fs};
 
-/// What is said of bytes.
-#[derive(Clone, Copy)]
-enum Verdict {
-    Same,
-    Other,
-    Broken(ByteFault),
-}
-
-/// The bytes of a field.
-fn bytes_of(alloc: Global, field: &str) -> Result<Vec<u8>> {
-    if field == "-" {
-        return Ok(Vec::new(alloc));
-    }
-    let bytes = hex::decode(alloc, field)?;
-    Ok(bytes)
-}
-
-/// The call of an entry's copy.
-fn copied_in_entry(call: Call) -> Result<Call, NoMemory>
-    ensures { IfOk result (λ c. c ≡ call) }
+/// Appends the bytes of the call of an entry's copy.
+fn write_copy(entry: &Entry, out: &mut Vec<u8>) -> Result<(), NoMemory>
+    requires { (c : AnyCall) → entry.now.op ≡ ops.Call c → KeepsCall c }
 {
+    let copy = copy_entry(entry)?;
+    match &copy.op {
+        Op::Call(call) => write_call(call, out),
+        Op::Time(_) => Ok(()),
+    }
+}
+
+/// Appends what a copy of the call that the bytes spell is written as.
+fn call_again(bytes: &[u8], out: &mut Vec<u8>) -> Result<(), ByteFault> {
+    let call = read_call(*out.allocator(), bytes)?;
     let entry = Entry {
         number: 1,
         by: 2,
         op: Op::Call(call),
         reply: Reply::Held(3),
     };
-    let Entry { op, .. } = copy_entry(&entry)?;
-    match op {
-        Op::Call(call) => Ok(call),
-        Op::Time(_) => Err(NoMemory),
-    }
+    write_copy(&entry, out).map_err(|_| ByteFault::NoMemory)
 }
 
-/// The call of an event's copy.
-fn copied_in_event(call: Call) -> Result<Call, NoMemory>
-    ensures { IfOk result (λ c. c ≡ call) }
-{
-    let event = Event {
-        seen: 4,
-        deed: Deed::Called(call),
-    };
-    let Event { deed, .. } = copy_event(&event)?;
-    match deed {
-        Deed::Called(call) => Ok(call),
-        _ => Err(NoMemory),
-    }
-}
-
-/// A copy of a copy of a copy.
-fn copied(call: &Call) -> Result<Call, NoMemory>
-    ensures { IfOk result (λ c. c ≡ call.now) }
-{
-    let call = copy_call(call)?;
-    let call = copied_in_entry(call)?;
-    copied_in_event(call)
-}
-
-fn same_if(written: &[u8], bytes: &[u8]) -> Verdict {
-    if written == bytes {
-        Verdict::Same
-    } else {
-        Verdict::Other
-    }
-}
-
-fn judge_call(alloc: Global, bytes: &[u8]) -> Result<Verdict, NoMemory> {
-    match read_call(alloc, bytes) {
-        Err(fault) => Ok(Verdict::Broken(fault)),
-        Ok(call) => {
-            let copy = copied(&call)?;
-            let mut written = Vec::new(alloc);
-            write_call(&copy, &mut written)?;
-            Ok(same_if(&written, bytes))
-        }
-    }
-}
-
-fn judge_message(alloc: Global, bytes: &[u8]) -> Result<Verdict, NoMemory> {
-    match read_message(alloc, bytes) {
-        Err(fault) => Ok(Verdict::Broken(fault)),
-        Ok(message) => {
-            let (channel, signed) = message;
-            let mut written = Vec::new(alloc);
-            write_message(&channel, &signed, &mut written)?;
-            Ok(same_if(&written, bytes))
-        }
-    }
+/// Appends what the message that the bytes spell is written as.
+fn message_again(bytes: &[u8], out: &mut Vec<u8>) -> Result<(), ByteFault> {
+    let message = read_message(*out.allocator(), bytes)?;
+    write_message(&message.0, &message.1, out).map_err(|_| ByteFault::NoMemory)
 }
 
 /// The word of a fault, and its place.
@@ -120,11 +60,14 @@ fn told(fault: ByteFault) -> (&'static str, usize) {
     }
 }
 
-fn print(rt: &HostRuntime, name: &str, verdict: Verdict) -> Result<()> {
-    match verdict {
-        Verdict::Same => println!(rt; "{name} same")?,
-        Verdict::Other => println!(rt; "{name} other")?,
-        Verdict::Broken(fault) => {
+/// Prints what came of reading and writing, and whether what was written is what was read.
+fn print(rt: &HostRuntime, name: &str, read: Result<(), ByteFault>, same: bool) -> Result<()> {
+    match read {
+        Ok(()) => {
+            let word = if same { "same" } else { "other" };
+            println!(rt; "{name} {word}")?;
+        }
+        Err(fault) => {
             let (word, place) = told(fault);
             println!(rt; "{name} {word} {place}")?;
         }
@@ -137,14 +80,15 @@ fn judge(rt: &HostRuntime, line: &str) -> Result<()> {
     let mut fields = line.split(' ');
     let name = fields.next().context("a name is missing")?;
     let kind = fields.next().context("a kind is missing")?;
-    let bytes = bytes_of(rt.alloc(), fields.next().context("bytes are missing")?)?;
-    let judged = if kind == "call" {
-        judge_call(rt.alloc(), &bytes)
+    let digits = fields.next().context("bytes are missing")?;
+    let bytes = hex::decode(rt.alloc(), digits.trim_matches('-'))?;
+    let mut written = Vec::new(rt.alloc());
+    let read = if kind == "call" {
+        call_again(&bytes, &mut written)
     } else {
-        judge_message(rt.alloc(), &bytes)
+        message_again(&bytes, &mut written)
     };
-    let verdict = judged.map_err(|_| anyhow!("no memory was left"))?;
-    print(rt, name, verdict)
+    print(rt, name, read, written == bytes)
 }
 
 fn main(rt: HostRuntime) -> Result<()> {

@@ -5,8 +5,8 @@ use Rattle.std.proofs.lemmas.List.Elements.{filter_map-append}
 use Rattle.sign_index.specs.Signing.{Signing}
 use Rattle.script_reader.specs.Bounds.{signers_of}
 use Rattle.script_reader.specs.Conditions.{signer_of}
-use Rattle.script_reader.specs.declared.step.Step.{Step}
-use Rattle.script_reader.specs.declared.step.Step.TheVariants as steps
+use Rattle.script_reader.specs.step.Step.{Step}
+use Rattle.script_reader.specs.step.Step.TheVariants as steps
 use Rattle.load_script.specs.Load.{next, drawn, amount, payer, payment, payments, load_steps, load_signers, ending}
 
 -- the product and the sum, each cut to 64 bits

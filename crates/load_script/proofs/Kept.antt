@@ -21,11 +21,11 @@ use Rattle.script_reader.specs.Digests.{key_of}
 use Rattle.script_reader.specs.Reading.{Keeps}
 use Rattle.script_reader.specs.Rules.{◌>>=◌, holds}
 use Rattle.script_reader.specs.Script.{start, AreChecked}
-use Rattle.script_reader.specs.declared.context.Context.{Context}
-use Rattle.script_reader.specs.declared.step.Rule.{Rule}
-use Rattle.script_reader.specs.declared.step.Rule.TheVariants as rules
-use Rattle.script_reader.specs.declared.step.Step.{Step}
-use Rattle.script_reader.specs.declared.step.Step.TheVariants as steps
+use Rattle.script_reader.specs.context.Context.{Context}
+use Rattle.script_reader.specs.step.Rule.{Rule}
+use Rattle.script_reader.specs.step.Rule.TheVariants as rules
+use Rattle.script_reader.specs.step.Step.{Step}
+use Rattle.script_reader.specs.step.Step.TheVariants as steps
 use Rattle.load_script.specs.Load.{key_seed, digest_of, are_two, person, channel, payer, amount, payment, payments, beginning, ending, load_steps}
 use Rattle.load_script.proofs.Draws.{few_steps}
 

@@ -8,8 +8,8 @@ use Rattle.nitro_bytes.specs.declared.value.Item.{Item}
 use Rattle.nitro_bytes.specs.declared.value.Shape.TheVariants.{Allocation}
 use Rattle.sign_index.specs.Signing.{Signing}
 use Rattle.script_reader.specs.Digests.{fresh, person_name}
-use Rattle.script_reader.specs.declared.step.Step.{Step}
-use Rattle.script_reader.specs.declared.step.Step.TheVariants as steps
+use Rattle.script_reader.specs.step.Step.{Step}
+use Rattle.script_reader.specs.step.Step.TheVariants as steps
 
 -- ---- people
 

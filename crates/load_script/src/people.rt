@@ -4,7 +4,7 @@ ghost use Rattle.std.specs.Prelude.{◌≡◌, ℕ, true, false, IfOk};
 ghost use Rattle.std.specs.Str.{bytes_eq};
 ghost use Rattle.nitro_bytes.specs.Parts.{IsKey};
 ghost use Rattle.script_reader.specs.Digests.{key_of, fresh};
-ghost use Rattle.script_reader.specs.declared.step.Step.TheVariants as steps;
+ghost use Rattle.script_reader.specs.step.Step.TheVariants as steps;
 ghost use Rattle.load_script.specs.Load.{key_seed, digest_of, people, channel, stake, stakes, beginning};
 
 use channel_name::person_name;

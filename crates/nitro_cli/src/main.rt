@@ -2,8 +2,8 @@
 //! one that it makes from a seed.
 #![tactic(auto)]
 
+use byte_source::StdSource;
 use nitro_bytes::{Label, NoMemory};
-use script_reader::StdSource;
 use script_run::{StdSink, run_words};
 use std::process::ExitCode;
 use std::rt::Env;

@@ -1,10 +1,10 @@
 -- What a drawing comes to.
 use Rattle.std.specs.Prelude.{◌≡◌, ◌≤◌, ◌<◌, ℕ, List, [], ◌∷◌, length, Bool, true, false, Option, codes, ⊤}
 use Rattle.std.specs.Str.{bytes_eq}
-use Rattle.script_reader.specs.Outside.{Rose}
+use Rattle.byte_source.specs.Outside.{Rose}
 use Rattle.std.specs.Io.KnownBytes.{Consumes, IsAtEnd}
 use Rattle.run_text.specs.Lines.{line_feeds, IsInLines}
-use Rattle.run_text.specs.declared.fault.Unread.TheVariants.{Line}
+use Rattle.run_text.specs.Unread.TheVariants.{Line}
 use Rattle.nitro_picture.specs.declared.drawing.Status.{Status}
 use Rattle.nitro_picture.specs.declared.drawing.Status.TheVariants.{Done, NoMemory, Usage, Unread, ReadFault, WriteFault, TooLong}
 

@@ -6,10 +6,10 @@ ghost use Rattle.nitro_picture.specs.declared.drawing.Status.{Status};
 ghost use Rattle.run_text.specs.Lines.{line_feeds, IsInLines};
 ghost use Rattle.nitro_picture.specs.Drawing.{told, asks, code_of, EndsAs, puts_nothing};
 
+use byte_source::{ReadEnd, Source, read_all};
 use nitro_bytes::Label;
 use run_picture::picture_of;
 use run_text::{LineFault, Unread, read_run};
-use script_reader::{ReadEnd, Source, read_all};
 use std::alloc::Global;
 use std::io::Write;
 

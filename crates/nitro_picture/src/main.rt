@@ -3,9 +3,9 @@
 
 mod drawing;
 
+use byte_source::StdSource;
 use drawing::{Status, draw};
 use nitro_bytes::{Label, NoMemory};
-use script_reader::StdSource;
 use std::process::ExitCode;
 use std::rt::Env;
 use std::{env, io};

@@ -24,7 +24,7 @@ use Rattle.script_play.specs.declared.effect.Effect.{Effect}
 use Rattle.script_play.specs.declared.effect.Effect.TheVariants.{Nothing, Enter, Join, Tell, Post, Lose, Catch, Rounds}
 use Rattle.script_play.specs.declared.people.Person.{Person}
 use Rattle.script_reader.specs.Bounds.{Fits}
-use Rattle.script_reader.specs.declared.step.Step.{Step}
+use Rattle.script_reader.specs.step.Step.{Step}
 use Rattle.world_laws.specs.Standing.{AreKept, Follows, IsWorld}
 use Rattle.world_laws.proofs.Standing.{stays, honest}
 use Rattle.play_laws.specs.Plays.{PlaysAreKept}

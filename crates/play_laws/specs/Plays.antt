@@ -4,7 +4,7 @@ use Rattle.channel_calls.specs.declared.entry.Entry.{Entry}
 use Rattle.net_party.specs.Ways.{Ways}
 use Rattle.script_play.specs.Play.{play}
 use Rattle.script_reader.specs.Bounds.{Fits}
-use Rattle.script_reader.specs.declared.step.Step.{Step}
+use Rattle.script_reader.specs.step.Step.{Step}
 use Rattle.world_laws.specs.Standing.{IsWorld, AreHonest}
 
 -- the world of every play of steps within their limits has a legal history, and its journals are honest

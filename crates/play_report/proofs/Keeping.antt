@@ -8,7 +8,7 @@ use Rattle.report_text.specs.declared.report.Load.{Load}
 use Rattle.report_text.specs.declared.report.Report.{Report}
 use Rattle.script_play.specs.Play.{SceneOf, play}
 use Rattle.script_reader.specs.Bounds.{Fits}
-use Rattle.script_reader.specs.declared.step.Step.{Step}
+use Rattle.script_reader.specs.step.Step.{Step}
 use Rattle.share_model.specs.Places.{Order}
 use Rattle.told_party.specs.Telling.{Tale, KeepsIf, KeepsShares}
 use Rattle.world_laws.specs.Standing.{AreKept, IsWorld}

@@ -4,11 +4,11 @@
 #[cfg(test)]
 mod broken;
 #[cfg(test)]
-mod declared;
-#[cfg(test)]
 mod limits;
 #[cfg(test)]
 mod payouts;
+#[cfg(test)]
+mod races;
 #[cfg(test)]
 mod scripts;
 #[cfg(test)]

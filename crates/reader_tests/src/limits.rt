@@ -1,7 +1,6 @@
 //! Scripts that come to a limit and pass it.
 
-use crate::broken::breaks;
-use crate::declared::BEFORE;
+use crate::broken::{BEFORE, breaks};
 use script_reader::{Rule, read_script};
 use std::alloc::AllocError;
 use std::test::Fail;

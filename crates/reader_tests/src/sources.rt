@@ -1,8 +1,6 @@
 //! Sources that are read to their end, that fail on the way, and that give little at a time.
 
-use script_reader::{
-    CalmSource, ListSource, READ_LIMIT, ReadEnd, Source, StdSource, Took, read_all,
-};
+use byte_source::{CalmSource, ListSource, READ_LIMIT, ReadEnd, Source, StdSource, Took, read_all};
 use std::alloc::{AllocError, Global};
 use std::io;
 use std::test::Fail;

@@ -1,4 +1,4 @@
-pub mod Text
+pub use Rattle.report_lines.specs.Text
 pub mod People
 pub mod Shares
 pub mod Printed

@@ -3,40 +3,15 @@ use Rattle.std.specs.Prelude.{◌==◌, ℕ, List, [], ◌∷◌, Bool, true, fa
 use Rattle.std.specs.Fmt.{decimal}
 use Rattle.std.specs.Ordering.{nat_cmp}
 use Rattle.std.specs.BTreeSet.{insert_key}
-use Rattle.nitro_bytes.specs.declared.value.Dest.TheVariants.{Person}
 use Rattle.channel_name.specs.Digests.{name_of_person}
-use Rattle.deadline_clock.specs.declared.standing.Standing.{Standing}
-use Rattle.deadline_clock.specs.declared.standing.Standing.TheVariants as standings
 use Rattle.channel_calls.specs.declared.event.Deed.{Deed}
 use Rattle.channel_calls.specs.declared.event.Deed.TheVariants.{Commanded}
-use Rattle.channel_calls.specs.declared.event.NodeRefusal.{NodeRefusal}
-use Rattle.channel_calls.specs.declared.event.NodeRefusal.TheVariants as refusals
 use Rattle.premises.specs.declared.journal.Journal.{Journal}
-use Rattle.report_text.specs.Text.{Labels, ◌&◌, ended, dest_text, channel_text}
+use Rattle.report_lines.specs.Text.{Labels, ◌&◌, ended, person_text, node_refusal_text}
 use Rattle.report_text.specs.declared.commands.Refused.{Refused}
 use Rattle.report_text.specs.declared.report.Judged.{Judged}
 
-abbrev pub person_text : Labels → List ℕ → List ℕ
-person_text labels person = dest_text labels (Person person)
-
 -- ---- refused commands
-
-abbrev pub mode_text : Standing → List ℕ
-mode_text standings.Open = codes "open"
-mode_text standings.Challenged = codes "challenged"
-mode_text standings.Final = codes "final"
-
--- the number and the name of a node's refusal, and its values
-abbrev pub node_refusal_text : Labels → NodeRefusal → List ℕ
-node_refusal_text labels refusals.BadBytes = codes "1 BadBytes"
-node_refusal_text labels refusals.UnknownChannel = codes "2 UnknownChannel"
-node_refusal_text labels (refusals.NotOpen channel mode) = codes "3 NotOpen" & channel_text labels channel & mode_text mode
-node_refusal_text labels (refusals.NotNext wanted) = codes "4 NotNext" & decimal wanted
-node_refusal_text labels refusals.BadSignature = codes "5 BadSignature"
-node_refusal_text labels refusals.NotAStep = codes "6 NotAStep"
-node_refusal_text labels (refusals.NotWanted stage) = codes "7 NotWanted" & decimal stage
-node_refusal_text labels (refusals.KeySpent used) = codes "8 KeySpent" & decimal used
-node_refusal_text labels (refusals.TooMany count) = codes "9 TooMany" & decimal count
 
 -- the command of an event of this person, where it was refused
 abbrev pub refused_in : List ℕ → Deed → List Refused

@@ -4,7 +4,7 @@ use Rattle.std.specs.Fmt.{decimal}
 use Rattle.channel_calls.specs.History.{flows_of}
 use Rattle.report_text.specs.People.{all_refused, command_lines}
 use Rattle.report_text.specs.Shares.{person_lines}
-use Rattle.report_text.specs.Text.{◌&◌, ended, entry_line, end_line, balance_lines}
+use Rattle.report_lines.specs.Text.{◌&◌, ended, entry_line, end_line, balance_lines}
 use Rattle.report_text.specs.declared.report.Load.{Load}
 use Rattle.report_text.specs.declared.report.Report.{Report}
 

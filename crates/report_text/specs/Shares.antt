@@ -5,8 +5,8 @@ use Rattle.std.specs.Fmt.{decimal}
 use Rattle.std.specs.Str.{bytes_eq}
 use Rattle.channel_calls.specs.Flows.{paid_in}
 use Rattle.channel_calls.specs.declared.funds.Flow.{Flow}
-use Rattle.report_text.specs.People.{person_text, judged_line}
-use Rattle.report_text.specs.Text.{Labels, ◌&◌, ended}
+use Rattle.report_text.specs.People.{judged_line}
+use Rattle.report_lines.specs.Text.{Labels, ◌&◌, ended, person_text}
 use Rattle.report_text.specs.declared.report.Judged.{Judged}
 use Rattle.report_text.specs.declared.report.Share.{Share}
 

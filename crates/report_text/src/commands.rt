@@ -1,14 +1,13 @@
 //! The lines of refused commands.
 
 ghost use Rattle.std.specs.Prelude.{◌≡◌, ◌++◌, flat_map, IfOk, OnOk, string_bytes};
-ghost use Rattle.report_text.specs.People.{mode_text, node_refusal_text, refused_in, refused_of, all_refused, refused_steps, command_line, line_in, lines_of_step, command_lines};
+ghost use Rattle.report_text.specs.People.{refused_in, refused_of, all_refused, refused_steps, command_line, line_in, lines_of_step, command_lines};
 
-use crate::names::{channel_text, person_text};
 use channel_calls::{Deed, Event, NodeRefusal};
 use channel_name::person_name;
-use deadline_clock::Standing;
 use nitro_bytes::{Dest, Label, Name};
 use premises::Journal;
+use report_lines::{node_refusal_text, person_text};
 use std::alloc::{AllocError, Global};
 use std::collections::BTreeSet;
 
@@ -18,40 +17,6 @@ pub struct Refused {
     pub step: u32,
     pub who: Name,
     pub refusal: NodeRefusal,
-}
-
-fn mode_text(mode: &Standing) -> &'static str
-    ensures { result.now ≡ mode_text mode.now }
-{
-    match mode {
-        Standing::Open => "open",
-        Standing::Challenged => "challenged",
-        Standing::Final => "final",
-    }
-}
-
-fn node_refusal_text(
-    alloc: Global,
-    labels: &[(Dest, Label)],
-    refusal: &NodeRefusal,
-) -> Result<String, AllocError>
-    ensures { IfOk result (λ text. string_bytes text ≡ node_refusal_text labels.now refusal.now) }
-{
-    match refusal {
-        NodeRefusal::BadBytes => String::from_str(alloc, "1 BadBytes"),
-        NodeRefusal::UnknownChannel => String::from_str(alloc, "2 UnknownChannel"),
-        NodeRefusal::NotOpen(channel, mode) => {
-            let name = channel_text(alloc, labels, channel)?;
-            let mode = mode_text(mode);
-            format!(in alloc; "3 NotOpen {name} {mode}")
-        }
-        NodeRefusal::NotNext(wanted) => format!(in alloc; "4 NotNext {wanted}"),
-        NodeRefusal::BadSignature => String::from_str(alloc, "5 BadSignature"),
-        NodeRefusal::NotAStep => String::from_str(alloc, "6 NotAStep"),
-        NodeRefusal::NotWanted(stage) => format!(in alloc; "7 NotWanted {stage}"),
-        NodeRefusal::KeySpent(used) => format!(in alloc; "8 KeySpent {used}"),
-        NodeRefusal::TooMany(count) => format!(in alloc; "9 TooMany {count}"),
-    }
 }
 
 fn command_line(

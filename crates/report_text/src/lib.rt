@@ -3,11 +3,9 @@
 #![tactic(auto)]
 
 mod commands;
-mod entries;
 mod flows;
 mod judged;
 pub mod laws;
-mod names;
 mod people;
 mod report;
 mod text;

@@ -5,10 +5,10 @@ ghost use Rattle.channel_calls.specs.Flows.{AreWithinAmounts};
 ghost use Rattle.report_text.specs.Shares.{share_line, exit_line, share_line_of, exit_line_of, person_lines};
 
 use crate::judged::judged_line;
-use crate::names::person_text;
 use crate::report::{Judged, Report, Share};
 use flow_balances::Balances;
 use nitro_bytes::{Dest, Label, Name};
+use report_lines::person_text;
 use std::alloc::{AllocError, Global};
 
 /// What a person was paid of an asset, and its share.

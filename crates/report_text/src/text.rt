@@ -1,101 +1,23 @@
 //! The text of a whole report.
 
-ghost use Rattle.std.specs.Prelude.{◌≡◌, ◌++◌, flat_map, length, IfOk, OnOk, List, ℕ, string_bytes};
+ghost use Rattle.std.specs.Prelude.{◌≡◌, ◌++◌, flat_map, IfOk, OnOk, string_bytes};
 ghost use Rattle.channel_calls.specs.Flows.{AreWithinAmounts};
 ghost use Rattle.channel_calls.specs.History.{Legal, newest_first, time_set, or_before, now_of, flows_of};
-ghost use Rattle.channel_calls.specs.declared.entry.Entry.{Entry};
 ghost use Rattle.support_chain.specs.Real.{real};
 ghost use Rattle.flow_balances.specs.Receipts.{assets_of};
-ghost use Rattle.report_text.specs.Text.{entry_line, end_line, asset_line, balance_line, held_line, paid_line, balance_lines};
+ghost use Rattle.report_lines.specs.Text.{entry_line, asset_line, held_line, paid_line, balance_lines};
 ghost use Rattle.report_text.specs.Shares.{person_lines};
 ghost use Rattle.report_text.specs.Report.{load_line, deed_lines, text_of};
 
 use crate::commands::append_commands;
-use crate::entries::entry_line;
 use crate::flows::flows_of;
-use crate::names::{channel_text, person_text};
 use crate::people::append_people;
 use crate::report::{Load, Report};
 use channel_calls::{Entry, Op, Reply};
 use flow_balances::Balances;
 use nitro_bytes::{Dest, Label, NoMemory};
+use report_lines::{asset_line, end_line, entry_line, held_line, paid_line};
 use std::alloc::{AllocError, Global};
-
-fn end_line(alloc: Global, count: usize, now: u64) -> Result<String, AllocError>
-    ensures { (h : List Entry) → length h ≡ count → now_of (newest_first h) ≡ now
-        → IfOk result (λ text. string_bytes text ≡ end_line h) }
-{
-    format!(in alloc; "end entries {count} now {now}\n")
-}
-
-fn asset_line(alloc: Global, balances: &Balances, asset: u32) -> Result<String, AllocError>
-    requires { AreWithinAmounts balances.now }
-    ensures { IfOk result (λ text. string_bytes text ≡ asset_line balances.now asset) }
-{
-    let deposited = balances.deposited(asset);
-    let held = balances.held_by_all(asset);
-    let paid = balances.paid_to_all(asset);
-    format!(in alloc; "asset {asset} deposited {deposited} held {held} paid {paid}\n")
-}
-
-/// A line where the balance isn't 0.
-#[tactic(auto, unfolding(crate::specs::Text::balance_line))]
-fn balance_line(
-    alloc: Global,
-    word: &str,
-    name: &str,
-    asset: u32,
-    amount: u64,
-) -> Result<String, AllocError>
-    ensures { IfOk result (λ text. string_bytes text ≡ balance_line word.now name.now asset amount) }
-{
-    if amount == 0 {
-        return Ok(String::new(alloc));
-    }
-    format!(in alloc; "{word} {name} {asset} {amount}\n")
-}
-
-/// What a channel holds; nothing of a person.
-fn held_line(
-    alloc: Global,
-    labels: &[(Dest, Label)],
-    balances: &Balances,
-    pair: &(Dest, u32),
-) -> Result<String, AllocError>
-    requires { AreWithinAmounts balances.now }
-    ensures { IfOk result (λ text. string_bytes text ≡ held_line labels.now balances.now pair.now) }
-{
-    let (to, asset) = pair;
-    match to {
-        Dest::Person(_) => Ok(String::new(alloc)),
-        Dest::Channel(channel) => {
-            let name = channel_text(alloc, labels, channel)?;
-            let held = balances.held(channel, *asset);
-            balance_line(alloc, "held", name.as_str(), *asset, held)
-        }
-    }
-}
-
-/// What a person was paid; nothing of a channel.
-fn paid_line(
-    alloc: Global,
-    labels: &[(Dest, Label)],
-    balances: &Balances,
-    pair: &(Dest, u32),
-) -> Result<String, AllocError>
-    requires { AreWithinAmounts balances.now }
-    ensures { IfOk result (λ text. string_bytes text ≡ paid_line labels.now balances.now pair.now) }
-{
-    let (to, asset) = pair;
-    match to {
-        Dest::Channel(_) => Ok(String::new(alloc)),
-        Dest::Person(person) => {
-            let name = person_text(alloc, labels, person)?;
-            let paid = balances.paid(person, *asset);
-            balance_line(alloc, "paid", name.as_str(), *asset, paid)
-        }
-    }
-}
 
 /// The time after an entry.
 fn time_after(before: u64, entry: &Entry) -> u64

@@ -1,98 +1,58 @@
 //! The lines that are no entries.
 
-use crate::fault::Wanted;
+use crate::line::{ExitLine, Line, PersonLine, Premises};
 use crate::model::{AssetEnd, Balance, End, Load, Refused};
 use crate::refusals::read_node_refusal;
 use crate::words::Words;
-
-/// The premises of a person, as their line tells them.
-#[derive(Clone, Copy)]
-pub(crate) struct Premises<'a> {
-    pub(crate) name: &'a [u8],
-    pub(crate) unforged: bool,
-    pub(crate) distinct: bool,
-    pub(crate) in_time: bool,
-}
-
-/// What a person was paid, and its share, of an asset.
-#[derive(Clone, Copy)]
-pub(crate) struct PersonLine<'a> {
-    pub(crate) name: &'a [u8],
-    pub(crate) asset: u64,
-    pub(crate) paid: u64,
-    pub(crate) share: u128,
-}
-
-/// A person's share of an asset just after it was commanded to exit.
-#[derive(Clone, Copy)]
-pub(crate) struct ExitLine<'a> {
-    pub(crate) name: &'a [u8],
-    pub(crate) asset: u64,
-    pub(crate) share: u128,
-}
+use text_lines::Wanted;
 
 /// `seed S count N`.
-pub(crate) fn read_load(mut words: Words) -> Result<Load, Wanted> {
-    words.word("seed")?;
-    let seed = words.number()?;
-    words.word("count")?;
-    let count = words.number()?;
-    words.end()?;
-    Ok(Load { seed, count })
+fn read_load<'a>(words: &mut Words<'a>) -> Result<Line<'a>, Wanted> {
+    let seed = words.number_after("seed")?;
+    let count = words.number_after("count")?;
+    Ok(Line::Load(Load { seed, count }))
 }
 
 /// `STEP WHO no NUMBER NAME` and the refusal's values.
-pub(crate) fn read_command<'a>(
-    line: &'a [u8],
-    mut words: Words<'a>,
-) -> Result<Refused<'a>, Wanted> {
+fn read_command<'a>(line: &'a [u8], words: &mut Words<'a>) -> Result<Line<'a>, Wanted> {
     let step = words.number()?;
     let who = words.name()?;
     words.word("no")?;
-    let said = read_node_refusal(&mut words)?;
-    words.end()?;
-    Ok(Refused {
+    let said = read_node_refusal(words)?;
+    Ok(Line::Command(Refused {
         line,
         step,
         who,
         said,
-    })
+    }))
 }
 
 /// `entries N now T`.
-pub(crate) fn read_end(mut words: Words) -> Result<End, Wanted> {
-    words.word("entries")?;
-    let entries = words.number()?;
-    words.word("now")?;
-    let now = words.number()?;
-    words.end()?;
-    Ok(End { entries, now })
+fn read_end<'a>(words: &mut Words<'a>) -> Result<Line<'a>, Wanted> {
+    let entries = words.number_after("entries")?;
+    let now = words.number_after("now")?;
+    Ok(Line::End(End { entries, now }))
 }
 
 /// `K deposited D held H paid P`.
-pub(crate) fn read_asset(mut words: Words) -> Result<AssetEnd, Wanted> {
+fn read_asset<'a>(words: &mut Words<'a>) -> Result<Line<'a>, Wanted> {
     let asset = words.number()?;
-    words.word("deposited")?;
-    let deposited = words.number()?;
-    words.word("held")?;
-    let held = words.number()?;
-    words.word("paid")?;
-    let paid = words.number()?;
-    words.end()?;
-    Ok(AssetEnd {
+    let deposited = words.number_after("deposited")?;
+    let held = words.number_after("held")?;
+    let paid = words.number_after("paid")?;
+    Ok(Line::Asset(AssetEnd {
         asset,
         deposited,
         held,
         paid,
-    })
+    }))
 }
 
 /// `NAME K N`.
-pub(crate) fn read_balance<'a>(mut words: Words<'a>) -> Result<Balance<'a>, Wanted> {
+fn read_balance<'a>(words: &mut Words<'a>) -> Result<Balance<'a>, Wanted> {
     let name = words.name()?;
     let asset = words.number()?;
     let amount = words.number()?;
-    words.end()?;
     Ok(Balance {
         name,
         asset,
@@ -100,47 +60,64 @@ pub(crate) fn read_balance<'a>(mut words: Words<'a>) -> Result<Balance<'a>, Want
     })
 }
 
+fn read_held<'a>(words: &mut Words<'a>) -> Result<Line<'a>, Wanted> {
+    let held = read_balance(words)?;
+    Ok(Line::Held(held))
+}
+
+fn read_paid<'a>(words: &mut Words<'a>) -> Result<Line<'a>, Wanted> {
+    let paid = read_balance(words)?;
+    Ok(Line::Paid(paid))
+}
+
 /// `P unforged W distinct W intime W`.
-pub(crate) fn read_premises<'a>(mut words: Words<'a>) -> Result<Premises<'a>, Wanted> {
+fn read_premises<'a>(words: &mut Words<'a>) -> Result<Line<'a>, Wanted> {
     let name = words.name()?;
-    words.word("unforged")?;
-    let unforged = words.yes_or_no()?;
-    words.word("distinct")?;
-    let distinct = words.yes_or_no()?;
-    words.word("intime")?;
-    let in_time = words.yes_or_no()?;
-    words.end()?;
-    Ok(Premises {
+    let unforged = words.yes_or_no_after("unforged")?;
+    let distinct = words.yes_or_no_after("distinct")?;
+    let in_time = words.yes_or_no_after("intime")?;
+    Ok(Line::Premises(Premises {
         name,
         unforged,
         distinct,
         in_time,
-    })
+    }))
 }
 
 /// `P K paid N share S`.
-pub(crate) fn read_person<'a>(mut words: Words<'a>) -> Result<PersonLine<'a>, Wanted> {
+fn read_person<'a>(words: &mut Words<'a>) -> Result<Line<'a>, Wanted> {
     let name = words.name()?;
     let asset = words.number()?;
-    words.word("paid")?;
-    let paid = words.number()?;
-    words.word("share")?;
-    let share = words.share()?;
-    words.end()?;
-    Ok(PersonLine {
+    let paid = words.number_after("paid")?;
+    let share = words.share_after("share")?;
+    Ok(Line::Person(PersonLine {
         name,
         asset,
         paid,
         share,
-    })
+    }))
 }
 
 /// `P K share S`.
-pub(crate) fn read_exit<'a>(mut words: Words<'a>) -> Result<ExitLine<'a>, Wanted> {
+fn read_exit<'a>(words: &mut Words<'a>) -> Result<Line<'a>, Wanted> {
     let name = words.name()?;
     let asset = words.number()?;
-    words.word("share")?;
-    let share = words.share()?;
-    words.end()?;
-    Ok(ExitLine { name, asset, share })
+    let share = words.share_after("share")?;
+    Ok(Line::Exit(ExitLine { name, asset, share }))
+}
+
+/// What a line that is no entry tells: its first word, and the words behind it.
+pub(crate) fn read_ending<'a>(line: &'a [u8], words: &mut Words<'a>) -> Result<Line<'a>, Wanted> {
+    match words.keyword() {
+        "load" => read_load(words),
+        "command" => read_command(line, words),
+        "end" => read_end(words),
+        "asset" => read_asset(words),
+        "held" => read_held(words),
+        "paid" => read_paid(words),
+        "premises" => read_premises(words),
+        "person" => read_person(words),
+        "exit" => read_exit(words),
+        _ => Err(Wanted::AnyLine),
+    }
 }

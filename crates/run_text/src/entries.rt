@@ -1,9 +1,10 @@
 //! The lines of entries.
 
-use crate::fault::Wanted;
+use crate::line::Line;
 use crate::model::{Call, Entry, Reply, TurnCall};
 use crate::refusals::read_refusal;
 use crate::words::Words;
+use text_lines::Wanted;
 
 fn read_deposit<'a>(words: &mut Words<'a>) -> Result<Call<'a>, Wanted> {
     let channel = words.name()?;
@@ -52,17 +53,22 @@ fn read_claim<'a>(words: &mut Words<'a>) -> Result<Call<'a>, Wanted> {
     })
 }
 
+fn read_time<'a>(words: &mut Words<'a>) -> Result<Call<'a>, Wanted> {
+    let time = words.number()?;
+    Ok(Call::Time(time))
+}
+
 fn read_call<'a>(words: &mut Words<'a>) -> Result<Call<'a>, Wanted> {
-    match words.take() {
-        b"deposit" => read_deposit(words),
-        b"time" => Ok(Call::Time(words.number()?)),
-        b"challenge" => read_turn(words, TurnCall::Challenge),
-        b"respond" => read_turn(words, TurnCall::Respond),
-        b"refute" => read_turn(words, TurnCall::Refute),
-        b"checkpoint" => read_turn(words, TurnCall::Checkpoint),
-        b"conclude" => read_turn(words, TurnCall::Conclude),
-        b"transfer" => read_transfer(words),
-        b"claim" => read_claim(words),
+    match words.keyword() {
+        "deposit" => read_deposit(words),
+        "time" => read_time(words),
+        "challenge" => read_turn(words, TurnCall::Challenge),
+        "respond" => read_turn(words, TurnCall::Respond),
+        "refute" => read_turn(words, TurnCall::Refute),
+        "checkpoint" => read_turn(words, TurnCall::Checkpoint),
+        "conclude" => read_turn(words, TurnCall::Conclude),
+        "transfer" => read_transfer(words),
+        "claim" => read_claim(words),
         _ => Err(Wanted::Call),
     }
 }
@@ -94,31 +100,35 @@ fn ok_reply<'a>(call: &Call, value: u64) -> Reply<'a> {
     }
 }
 
+fn read_accepted<'a>(words: &mut Words<'a>, call: &Call) -> Result<Reply<'a>, Wanted> {
+    let value = words.number_after(ok_word(call))?;
+    Ok(ok_reply(call, value))
+}
+
+fn read_refused<'a>(words: &mut Words<'a>) -> Result<Reply<'a>, Wanted> {
+    let said = read_refusal(words)?;
+    Ok(Reply::No(said))
+}
+
 fn read_reply<'a>(words: &mut Words<'a>, call: &Call) -> Result<Reply<'a>, Wanted> {
-    match words.take() {
-        b"ok" => {
-            words.word(ok_word(call))?;
-            let value = words.number()?;
-            Ok(ok_reply(call, value))
-        }
-        b"no" => Ok(Reply::No(read_refusal(words)?)),
+    match words.keyword() {
+        "ok" => read_accepted(words, call),
+        "no" => read_refused(words),
         _ => Err(Wanted::OkOrNo),
     }
 }
 
 /// `NUMBER BY CALL REPLY`.
-pub(crate) fn read_entry(line: &[u8]) -> Result<Entry<'_>, Wanted> {
-    let mut words = Words::of(line);
+pub(crate) fn read_entry<'a>(line: &'a [u8], words: &mut Words<'a>) -> Result<Line<'a>, Wanted> {
     let number = words.number()?;
     let by = words.number()?;
-    let call = read_call(&mut words)?;
-    let reply = read_reply(&mut words, &call)?;
-    words.end()?;
-    Ok(Entry {
+    let call = read_call(words)?;
+    let reply = read_reply(words, &call)?;
+    Ok(Line::Entry(Entry {
         line,
         number,
         by,
         call,
         reply,
-    })
+    }))
 }

@@ -1,19 +1,20 @@
 //! The text that `nitro run` prints, as a model, and its reader.
 #![tactic(auto)]
 
+mod checks;
 mod draft;
 mod endings;
 mod entries;
-mod fault;
-mod lines;
+mod line;
 mod model;
 mod reading;
 mod refusals;
+mod stage;
 mod words;
 
-pub use fault::{LineFault, Unread, Wanted};
 pub use model::{
     AssetEnd, Balance, Call, End, Entry, Load, PersonAsset, PersonEnd, Refused, Reply, Run, Said,
     TurnCall,
 };
 pub use reading::read_run;
+pub use text_lines::{LineFault, Unread, Wanted};

@@ -22,7 +22,7 @@ pub struct Load {
 }
 
 /// The line of an entry, and what it says.
-#[derive(Clone, Copy, Debug, PartialEq, Eq)]
+#[derive(Clone, Copy, Debug)]
 pub struct Entry<'a> {
     pub line: &'a [u8],
     pub number: u64,
@@ -32,7 +32,7 @@ pub struct Entry<'a> {
 }
 
 /// What was entered.
-#[derive(Clone, Copy, Debug, PartialEq, Eq)]
+#[derive(Clone, Copy, Debug)]
 pub enum Call<'a> {
     Deposit {
         channel: &'a [u8],
@@ -70,7 +70,7 @@ pub enum TurnCall {
     Conclude,
 }
 
-#[derive(Clone, Copy, Debug, PartialEq, Eq)]
+#[derive(Clone, Copy, Debug)]
 pub enum Reply<'a> {
     Held(u64),
     Now(u64),
@@ -89,7 +89,7 @@ pub struct Said<'a> {
 }
 
 /// A command that a node refused.
-#[derive(Clone, Copy, Debug, PartialEq, Eq)]
+#[derive(Clone, Copy, Debug)]
 pub struct Refused<'a> {
     pub line: &'a [u8],
     pub step: u64,

@@ -1,8 +1,8 @@
 //! Refusals: their numbers, names and values.
 
-use crate::fault::Wanted;
 use crate::model::Said;
 use crate::words::Words;
+use text_lines::Wanted;
 
 /// What stands behind the name of a refusal.
 #[derive(Clone, Copy, PartialEq, Eq)]
@@ -63,11 +63,26 @@ fn of_node(number: u64) -> Option<(&'static str, Values)> {
     })
 }
 
+fn read_number(words: &mut Words) -> Result<(), Wanted> {
+    words.number()?;
+    Ok(())
+}
+
+fn read_name(words: &mut Words) -> Result<(), Wanted> {
+    words.name()?;
+    Ok(())
+}
+
 fn read_mode(words: &mut Words) -> Result<(), Wanted> {
-    match words.take() {
-        b"challenged" | b"final" => Ok(()),
+    match words.keyword() {
+        "challenged" | "final" => Ok(()),
         _ => Err(Wanted::Mode),
     }
+}
+
+fn read_name_and_mode(words: &mut Words) -> Result<(), Wanted> {
+    words.name()?;
+    read_mode(words)
 }
 
 fn read_step_fault(words: &mut Words) -> Result<(), Wanted> {
@@ -77,38 +92,29 @@ fn read_step_fault(words: &mut Words) -> Result<(), Wanted> {
     }
 }
 
+fn read_number_and_step_fault(words: &mut Words) -> Result<(), Wanted> {
+    words.number()?;
+    read_step_fault(words)
+}
+
 fn read_support_fault(words: &mut Words) -> Result<(), Wanted> {
     match words.number()? {
         1 => Ok(()),
-        2 | 4 => {
-            words.number()?;
-            Ok(())
-        }
-        3 => {
-            words.number()?;
-            read_step_fault(words)
-        }
+        2 | 4 => read_number(words),
+        3 => read_number_and_step_fault(words),
         _ => Err(Wanted::FaultNumber),
     }
 }
 
 fn read_values(words: &mut Words, values: Values) -> Result<(), Wanted> {
     match values {
-        Values::Nothing => {}
-        Values::Number => {
-            words.number()?;
-        }
-        Values::Name => {
-            words.name()?;
-        }
-        Values::NameAndMode => {
-            words.name()?;
-            read_mode(words)?;
-        }
-        Values::StepFault => read_step_fault(words)?,
-        Values::SupportFault => read_support_fault(words)?,
+        Values::Nothing => Ok(()),
+        Values::Number => read_number(words),
+        Values::Name => read_name(words),
+        Values::NameAndMode => read_name_and_mode(words),
+        Values::StepFault => read_step_fault(words),
+        Values::SupportFault => read_support_fault(words),
     }
-    Ok(())
 }
 
 fn read_named<'a>(

@@ -1,6 +1,6 @@
 //! The words of a line, which are parted by one space.
 
-use crate::fault::Wanted;
+use text_lines::Wanted;
 
 /// The words that are left of a line: none after the last one was taken.
 #[derive(Clone, Copy)]
@@ -81,6 +81,11 @@ impl<'a> Words<'a> {
         word
     }
 
+    /// The next word, where it is UTF-8; else an empty one.
+    pub(crate) fn keyword(&mut self) -> &'a str {
+        str::from_utf8(self.take()).unwrap_or("")
+    }
+
     pub(crate) fn number(&mut self) -> Result<u64, Wanted> {
         number_of(self.take()).ok_or(Wanted::Number)
     }
@@ -93,12 +98,10 @@ impl<'a> Words<'a> {
     /// A number, or `-` for none.
     pub(crate) fn number_or_dash(&mut self) -> Result<Option<u64>, Wanted> {
         let word = self.take();
-        match word {
-            b"-" => Ok(None),
-            _ => match number_of(word) {
-                Some(number) => Ok(Some(number)),
-                None => Err(Wanted::Number),
-            },
+        match number_of(word) {
+            Some(number) => Ok(Some(number)),
+            None if matches!(word, b"-") => Ok(None),
+            None => Err(Wanted::Number),
         }
     }
 
@@ -120,11 +123,29 @@ impl<'a> Words<'a> {
     }
 
     pub(crate) fn yes_or_no(&mut self) -> Result<bool, Wanted> {
-        match self.take() {
-            b"yes" => Ok(true),
-            b"no" => Ok(false),
+        match self.keyword() {
+            "yes" => Ok(true),
+            "no" => Ok(false),
             _ => Err(Wanted::YesOrNo),
         }
+    }
+
+    /// The number behind a word.
+    pub(crate) fn number_after(&mut self, word: &'static str) -> Result<u64, Wanted> {
+        self.word(word)?;
+        self.number()
+    }
+
+    /// The share behind a word.
+    pub(crate) fn share_after(&mut self, word: &'static str) -> Result<u128, Wanted> {
+        self.word(word)?;
+        self.share()
+    }
+
+    /// What is said behind a word.
+    pub(crate) fn yes_or_no_after(&mut self, word: &'static str) -> Result<bool, Wanted> {
+        self.word(word)?;
+        self.yes_or_no()
     }
 
     pub(crate) fn end(self) -> Result<(), Wanted> {

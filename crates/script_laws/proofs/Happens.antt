@@ -19,9 +19,9 @@ use Rattle.sign_index.specs.Made.{made_bytes}
 use Rattle.sign_index.specs.Signing.{Signing}
 use Rattle.script_reader.specs.Conditions as reader
 use Rattle.script_reader.specs.Context as context
-use Rattle.script_reader.specs.declared.context.Channel.{Channel as KnownChannel}
-use Rattle.script_reader.specs.declared.context.Context.{Context}
-use Rattle.script_reader.specs.declared.context.Person.{Person as KnownPerson}
+use Rattle.script_reader.specs.context.Channel.{Channel as KnownChannel}
+use Rattle.script_reader.specs.context.Context.{Context}
+use Rattle.script_reader.specs.context.Person.{Person as KnownPerson}
 use Rattle.std.proofs.lemmas.List.Elements.{All-nil, All-cons, All-head, All-tail}
 use Rattle.hex.proofs.HexLemmas.{decode_pairs-digits}
 use Rattle.hex.proofs.Pairs.{decode_sized-pairs}
@@ -35,19 +35,19 @@ use Rattle.channel_calls.specs.declared.call.Call.TheVariants as calls
 use Rattle.net_party.specs.Ways.{Ways}
 use Rattle.net_world.specs.Worlds.{journal}
 use Rattle.script_reader.specs.Digests.{key_of, person_name}
-use Rattle.script_reader.specs.Kinds.{is_hex, is_lower_digit}
+use Rattle.script_reader.specs.Digits.{is_hex, is_lower_digit}
 use Rattle.script_reader.specs.Reading.{Keeps}
 use Rattle.script_reader.specs.Rules as rules
 use Rattle.script_reader.specs.Script.{start, AreChecked}
-use Rattle.script_reader.specs.declared.step.Rule.TheVariants as broken
-use Rattle.script_reader.specs.declared.step.Step.{Step}
-use Rattle.script_reader.specs.declared.step.Step.TheVariants as steps
+use Rattle.script_reader.specs.step.Rule.TheVariants as broken
+use Rattle.script_reader.specs.step.Step.{Step}
+use Rattle.script_reader.specs.step.Step.TheVariants as steps
 use Rattle.script_laws.specs.Happens.{catches, IsCaught, HasCaught, EachHappens, HasOutcomes}
 use Rattle.script_play.specs.Meanings.{Meaning, learning, calling, valid_fixed, valid_state, hand_of, with_person, with_channel, names_by, both_by, message_by, signing, meant, meaning, nameless}
 use Rattle.script_play.specs.Chains.{state_by, listed, chain_of}
 use Rattle.script_play.specs.Names.{◌>>=◌, SignedBy, person_by, key_by, keys_by, fixed_by, name_of, digest_or_digits, position_of, sign, sign_state, sign_challenge}
 use Rattle.script_play.specs.Play.{SceneOf, caught, naming, numbered, done, played, empty}
-use Rattle.script_play.specs.declared.chains.NamedState.{NamedState}
+use Rattle.script_play.specs.Chains.{NamedState}
 use Rattle.script_play.specs.declared.effect.Effect.{Effect}
 use Rattle.script_play.specs.declared.effect.Effect.TheVariants.{Nothing, Enter, Join, Tell, Post, Lose, Catch, Rounds}
 use Rattle.script_play.specs.declared.names.NamedChannel.{NamedChannel}

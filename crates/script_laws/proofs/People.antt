@@ -9,8 +9,8 @@ use Rattle.nitro_bytes.specs.Outcomes.{AreApart}
 use Rattle.sign_index.specs.Made.{made_bytes}
 use Rattle.sign_index.specs.Signing.{Signing}
 use Rattle.script_reader.specs.Conditions as reader
-use Rattle.script_reader.specs.declared.context.Context.{Context}
-use Rattle.script_reader.specs.declared.context.Person.{Person as KnownPerson}
+use Rattle.script_reader.specs.context.Context.{Context}
+use Rattle.script_reader.specs.context.Person.{Person as KnownPerson}
 use Rattle.script_play.specs.Chains.{or_none}
 use Rattle.script_play.specs.Names.{keys_by, used_once, sign}
 use Rattle.script_play.specs.declared.people.Person.{Person}

@@ -5,12 +5,12 @@ use Rattle.std.specs.Prelude.{nat_le, IsSome, is_some}
 use Rattle.std.specs.List.{find, list_any}
 use Rattle.std.specs.Str.{bytes_eq}
 use Rattle.channel_calls.specs.Spelling.{message}
-use Rattle.script_reader.specs.declared.step.Step.{Step}
-use Rattle.script_reader.specs.declared.step.Step.TheVariants as steps
+use Rattle.script_reader.specs.step.Step.{Step}
+use Rattle.script_reader.specs.step.Step.TheVariants as steps
 use Rattle.script_play.specs.Chains.{state_by}
 use Rattle.script_play.specs.Meanings.{message_by}
 use Rattle.script_play.specs.Names.{◌>>=◌}
-use Rattle.script_play.specs.declared.chains.NamedState.{NamedState}
+use Rattle.script_play.specs.Chains.{NamedState}
 use Rattle.script_laws.specs.Happens.{catches}
 use Rattle.script_laws.proofs.Finding.{same_bytes, bytes_themselves, none_more, any_before, find_push, find_last}
 

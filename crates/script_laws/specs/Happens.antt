@@ -6,8 +6,8 @@ use Rattle.std.specs.Str.{bytes_eq}
 use Rattle.nitro_bytes.specs.Outcomes.{AreBytes, IsOutcome}
 use Rattle.nitro_bytes.specs.Spelling.{outcome}
 use Rattle.net_party.specs.Ways.{Ways}
-use Rattle.script_reader.specs.declared.step.Step.{Step}
-use Rattle.script_reader.specs.declared.step.Step.TheVariants as steps
+use Rattle.script_reader.specs.step.Step.{Step}
+use Rattle.script_reader.specs.step.Step.TheVariants as steps
 use Rattle.script_play.specs.Chains.{state_by}
 use Rattle.script_play.specs.Meanings.{meant, message_by}
 use Rattle.script_play.specs.Play.{play}

@@ -3,7 +3,7 @@
 
 ghost use Rattle.std.specs.Prelude.{Bool, List, All};
 ghost use Rattle.script_reader.specs.Script.{start, AreChecked};
-ghost use Rattle.script_reader.specs.declared.step.Step.{Step};
+ghost use Rattle.script_reader.specs.step.Step.{Step};
 ghost use Rattle.script_laws.specs.Happens.{EachHappens, HasOutcomes};
 
 use net_party::Party;

@@ -16,11 +16,11 @@ use Rattle.net_party.specs.declared.command.Command.{Command}
 use Rattle.script_play.specs.declared.effect.Effect.TheVariants.{Enter, Tell, Post, Lose, Catch, Rounds}
 use Rattle.script_play.specs.Meanings.{Meaning, learning, doing, meant, meaning}
 use Rattle.script_play.specs.Names.{◌>>=◌, SignedBy, sign, sign_challenge}
-use Rattle.script_play.specs.declared.chains.NamedState.{NamedState}
+use Rattle.script_play.specs.Chains.{NamedState}
 use Rattle.script_play.specs.declared.names.Names.{Names}
 use Rattle.script_play.specs.declared.people.Person.{Person}
-use Rattle.script_reader.specs.declared.step.Step.{Step}
-use Rattle.script_reader.specs.declared.step.Step.TheVariants as steps
+use Rattle.script_reader.specs.step.Step.{Step}
+use Rattle.script_reader.specs.step.Step.TheVariants as steps
 use Rattle.nitro_bytes.specs.Parts.{FixedParts}
 
 -- ---- who signs stays

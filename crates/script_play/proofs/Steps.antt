@@ -6,7 +6,7 @@ use Rattle.net_party.specs.Ways.{Ways}
 use Rattle.script_reader.specs.Bounds.{signers_of}
 use Rattle.script_reader.specs.Conditions.{signer_of}
 use Rattle.script_play.specs.Play.{SceneOf, numbered, played}
-use Rattle.script_reader.specs.declared.step.Step.{Step}
+use Rattle.script_reader.specs.step.Step.{Step}
 
 pub goes_on : {P : Type 0} (ways : Ways P) (s : SceneOf P) (number : ℕ) (steps : List Step) (i : ℕ) (d : Step) → i < length steps
     → fold (played ways) s (numbered number (drop i steps)) ≡ fold (played ways) (played ways s (number, get_or steps i d)) (numbered (number + 1) (drop (i + 1) steps))

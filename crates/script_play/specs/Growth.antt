@@ -3,8 +3,8 @@ use Rattle.std.specs.Prelude.{ℕ, ◌*◌, List, sum_by}
 use Rattle.net_party.specs.Ways.{IsFresh}
 use Rattle.script_play.specs.declared.effect.Effect.{Effect}
 use Rattle.script_play.specs.declared.effect.Effect.TheVariants as effects
-use Rattle.script_reader.specs.declared.step.Step.{Step}
-use Rattle.script_reader.specs.declared.step.Step.TheVariants as steps
+use Rattle.script_reader.specs.step.Step.{Step}
+use Rattle.script_reader.specs.step.Step.TheVariants as steps
 
 -- a node joins with a signer that has not signed
 abbrev pub FitsEffect : Effect → Type 0

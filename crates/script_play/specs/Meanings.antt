@@ -17,13 +17,13 @@ use Rattle.net_party.specs.declared.command.Command.TheVariants as commands
 use Rattle.script_reader.specs.Digests.{key_of, fresh, person_name}
 use Rattle.script_play.specs.Chains.{state_by, listed, chain_of}
 use Rattle.script_play.specs.Names.{◌>>=◌, person_by, key_by, keys_by, numbers_by, who_of, fixed_by, name_of, digest_or_digits, position_of, sign_state, sign_challenge}
-use Rattle.script_play.specs.declared.chains.NamedState.{NamedState}
+use Rattle.script_play.specs.Chains.{NamedState}
 use Rattle.script_play.specs.declared.effect.Effect.{Effect}
 use Rattle.script_play.specs.declared.effect.Effect.TheVariants.{Nothing, Enter, Join, Tell, Post, Lose, Catch, Rounds}
 use Rattle.script_play.specs.declared.names.NamedChannel.{NamedChannel}
 use Rattle.script_play.specs.declared.names.Names.{Names}
-use Rattle.script_reader.specs.declared.step.Step.{Step}
-use Rattle.script_reader.specs.declared.step.Step.TheVariants as steps
+use Rattle.script_reader.specs.step.Step.{Step}
+use Rattle.script_reader.specs.step.Step.TheVariants as steps
 
 -- what a step means: what names stand for after it, and what is to be done
 pub record Meaning : Type 0 where

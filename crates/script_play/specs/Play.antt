@@ -18,7 +18,7 @@ use Rattle.script_play.specs.declared.effect.Effect.{Effect}
 use Rattle.script_play.specs.declared.effect.Effect.TheVariants.{Nothing, Enter, Join, Tell, Post, Lose, Catch, Rounds}
 use Rattle.script_play.specs.declared.names.Names.{Names}
 use Rattle.script_play.specs.declared.people.Person.{Person}
-use Rattle.script_reader.specs.declared.step.Step.{Step}
+use Rattle.script_reader.specs.step.Step.{Step}
 
 -- a message, with the person that it is for
 abbrev pub Letter : Type 0

@@ -1,7 +1,7 @@
 //! The calls that steps make.
 
 ghost use Rattle.std.specs.Prelude.{◌≡◌, ◌≤◌, length, IfOk};
-ghost use Rattle.script_reader.specs.declared.step.Step.TheVariants as steps;
+ghost use Rattle.script_reader.specs.step.Step.TheVariants as steps;
 ghost use Rattle.script_play.specs.Meanings.{doing, meaning};
 
 use crate::chains::{chain_of, listed};

@@ -11,7 +11,7 @@ ghost use Rattle.nitro_bytes.specs.declared.value.Dest.TheVariants as dests;
 ghost use Rattle.app_rules.specs.Ballots.{data_of};
 ghost use Rattle.channel_name.specs.Digests.{digest_of_state};
 ghost use Rattle.script_reader.specs.Digests.{key_of, fresh};
-ghost use Rattle.script_reader.specs.declared.step.Step.TheVariants as steps;
+ghost use Rattle.script_reader.specs.step.Step.TheVariants as steps;
 ghost use Rattle.script_play.specs.Chains.{state_by, listed, chain_of};
 ghost use Rattle.script_play.specs.Names.{person_by, fixed_by, name_of, who_of, digest_or_digits, position_of, sign_state, sign_challenge};
 ghost use Rattle.script_play.specs.Meanings.{valid_fixed, valid_state, with_state, signing, signed_if, learning, doing, meaning, nameless};

@@ -1,7 +1,7 @@
 //! The messages and the commands of steps.
 
 ghost use Rattle.std.specs.Prelude.{◌≡◌, length, IfOk};
-ghost use Rattle.script_reader.specs.declared.step.Step.TheVariants as steps;
+ghost use Rattle.script_reader.specs.step.Step.TheVariants as steps;
 ghost use Rattle.script_play.specs.Meanings.{doing, telling, meaning, message_by, names_by, both_by};
 
 use crate::chains::state_by;

@@ -4,9 +4,9 @@ use Rattle.std.proofs.lemmas.List.{at_drop_more}
 use Rattle.serde_json.specs.Data.{Data}
 use Rattle.serde_json.specs.declared.value.Value.{Value}
 use Rattle.serde_json.specs.View.{view, items_view}
-use Rattle.script_reader.specs.Rules.{◌>>=◌}
+use Rattle.script_rules.specs.Rules.{◌>>=◌}
 use Rattle.script_reader.specs.Kinds.{many_in}
-use Rattle.script_reader.specs.declared.step.Rule.{Rule}
+use Rattle.script_rules.specs.declared.step.Rule.{Rule}
 
 -- what is read of the values that are left, behind those seen
 abbrev pub many_left : {X : Type 0} → (Data → Result X Rule) → List X → List Value → Result (List X) Rule

@@ -6,11 +6,11 @@ use Rattle.serde_json.specs.declared.value.Value.{Value}
 use Rattle.serde_json.specs.View.{view, items_view}
 use Rattle.sign_index.specs.Signing.{Signing}
 use Rattle.script_reader.specs.Bounds.{signers_of}
-use Rattle.script_reader.specs.Conditions.{after, signer_of}
+use Rattle.script_rules.specs.Conditions.{after, signer_of}
 use Rattle.script_reader.specs.Reading.{step_of}
 use Rattle.script_reader.specs.Script.{◌>>=◌, at_step, steps_from}
-use Rattle.script_reader.specs.declared.context.Context.{Context}
-use Rattle.script_reader.specs.declared.step.Step.{Step}
+use Rattle.script_rules.specs.declared.context.Context.{Context}
+use Rattle.script_rules.specs.declared.step.Step.{Step}
 use Rattle.script_reader.specs.declared.script.ScriptFault.{ScriptFault}
 
 -- what is read of the values that are left, behind the steps seen

@@ -2,9 +2,9 @@
 use Rattle.std.specs.Prelude.{ℕ, ◌<◌, ◌≤◌, ◌^◌, ◌==◌, ◌||◌, IsTrue, List, length, sum_by}
 use Rattle.std.specs.List.{filter_map}
 use Rattle.sign_index.specs.Signing.{Signing}
-use Rattle.script_reader.specs.Conditions.{signer_of}
-use Rattle.script_reader.specs.declared.step.Step.{Step}
-use Rattle.script_reader.specs.declared.step.Step.TheVariants as steps
+use Rattle.script_rules.specs.Conditions.{signer_of}
+use Rattle.script_rules.specs.declared.step.Step.{Step}
+use Rattle.script_rules.specs.declared.step.Step.TheVariants as steps
 
 -- each value is within its limit
 abbrev pub Fits : Step → Type 0

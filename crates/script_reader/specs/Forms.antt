@@ -3,13 +3,13 @@ use Rattle.std.specs.Prelude.{ℕ, List, [], ◌∷◌, Bool, Result, Ok, Err, c
 use Rattle.std.specs.List.{list_any}
 use Rattle.std.specs.Str.{bytes_eq}
 use Rattle.serde_json.specs.Data.{Data}
-use Rattle.script_reader.specs.Rules.{◌>>=◌}
+use Rattle.script_rules.specs.Rules.{◌>>=◌}
 use Rattle.script_reader.specs.Kinds.{keys, number_at, flag_at, name_at, place_at, names_at, numbers_at, seed_at, app_at}
 use Rattle.script_reader.specs.Written.{outcome_at}
-use Rattle.script_reader.specs.declared.step.Rule.{Rule}
-use Rattle.script_reader.specs.declared.step.Rule.TheVariants as rules
-use Rattle.script_reader.specs.declared.step.Step.{Step}
-use Rattle.script_reader.specs.declared.step.Step.TheVariants.{Deposit, Time, Person, Channel, Catch, Send, Drop, Challenge, Respond, Refute, Checkpoint, Conclude, Transfer, Claim, Pay, Close, Exit, Rounds}
+use Rattle.script_rules.specs.declared.step.Rule.{Rule}
+use Rattle.script_rules.specs.declared.step.Rule.TheVariants as rules
+use Rattle.script_rules.specs.declared.step.Step.{Step}
+use Rattle.script_rules.specs.declared.step.Step.TheVariants.{Deposit, Time, Person, Channel, Catch, Send, Drop, Challenge, Respond, Refute, Checkpoint, Conclude, Transfer, Claim, Pay, Close, Exit, Rounds}
 use Rattle.script_reader.specs.declared.written.Written.{Written}
 use Rattle.script_reader.specs.declared.written.Written.TheVariants as written
 

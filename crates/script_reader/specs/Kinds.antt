@@ -6,9 +6,10 @@ use Rattle.std.specs.Str.{bytes_eq}
 use Rattle.hex.specs.Hex.{decode_sized}
 use Rattle.serde_json.specs.Data.{Data, Items, no_items, item, Members, no_members, member}
 use Rattle.serde_json.specs.Find.{get, as_array, as_object, as_str, as_bool, as_number, as_u64}
-use Rattle.script_reader.specs.Rules.{◌>>=◌, given}
-use Rattle.script_reader.specs.declared.step.Rule.{Rule}
-use Rattle.script_reader.specs.declared.step.Rule.TheVariants as rules
+use Rattle.script_rules.specs.Digits.{is_hex}
+use Rattle.script_rules.specs.Rules.{◌>>=◌, given}
+use Rattle.script_rules.specs.declared.step.Rule.{Rule}
+use Rattle.script_rules.specs.declared.step.Rule.TheVariants as rules
 
 abbrev pub member_count : Members → ℕ
 member_count no_members = 0
@@ -55,14 +56,6 @@ item_count (item d ds) = suc (item_count ds)
 abbrev pub many_in : {X : Type 0} → (Data → Result X Rule) → List X → Items → Result (List X) Rule
 many_in one seen no_items = Ok seen
 many_in one seen (item d ds) = one d >>= λ x. many_in one (seen ++ x ∷ []) ds
-
--- 0-9 a-f
-abbrev pub is_lower_digit : ℕ → Bool
-is_lower_digit b = (nat_le 48 b && nat_le b 57) || (nat_le 97 b && nat_le b 102)
-
--- 64 digits 0-9 a-f
-abbrev pub is_hex : List ℕ → Bool
-is_hex text = length text == 64 && list_all is_lower_digit text
 
 -- A-Z a-z
 abbrev pub is_letter : ℕ → Bool

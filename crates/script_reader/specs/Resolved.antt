@@ -9,16 +9,16 @@ use Rattle.nitro_bytes.specs.declared.value.Shape.TheVariants.{Allocation, Guara
 use Rattle.nitro_bytes.specs.declared.value.AssetOutcome.{AssetOutcome}
 use Rattle.nitro_bytes.specs.Spelling.{outcome}
 use Rattle.nitro_bytes.specs.Reading.{outcome_of}
-use Rattle.script_reader.specs.Context.{person_by, channel_by, knows}
-use Rattle.script_reader.specs.Rules.{◌>>=◌, given, holds}
-use Rattle.script_reader.specs.declared.context.Channel.{Channel}
-use Rattle.script_reader.specs.declared.context.Context.{Context}
-use Rattle.script_reader.specs.declared.context.Kind.TheVariants as kinds
-use Rattle.script_reader.specs.declared.context.Person.{Person}
-use Rattle.script_reader.specs.declared.step.Rule.{Rule}
-use Rattle.script_reader.specs.declared.step.Rule.TheVariants as rules
-use Rattle.script_reader.specs.declared.step.Step.{Step}
-use Rattle.script_reader.specs.declared.step.Step.TheVariants as steps
+use Rattle.script_rules.specs.Context.{person_by, channel_by, knows}
+use Rattle.script_rules.specs.Rules.{◌>>=◌, given, holds}
+use Rattle.script_rules.specs.declared.context.Channel.{Channel}
+use Rattle.script_rules.specs.declared.context.Context.{Context}
+use Rattle.script_rules.specs.declared.context.Kind.TheVariants as kinds
+use Rattle.script_rules.specs.declared.context.Person.{Person}
+use Rattle.script_rules.specs.declared.step.Rule.{Rule}
+use Rattle.script_rules.specs.declared.step.Rule.TheVariants as rules
+use Rattle.script_rules.specs.declared.step.Step.{Step}
+use Rattle.script_rules.specs.declared.step.Step.TheVariants as steps
 use Rattle.script_reader.specs.declared.written.Holding.{Holding}
 use Rattle.script_reader.specs.declared.written.OpenKeys.{OpenKeys}
 use Rattle.script_reader.specs.declared.written.OpenOnKeys.{OpenOnKeys}

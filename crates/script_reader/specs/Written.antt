@@ -2,10 +2,10 @@
 use Rattle.std.specs.Prelude.{ℕ, ◌==◌, Bool, false, Option, Some, None, List, [], Result, Ok, Err, codes, if◌then◌else◌}
 use Rattle.serde_json.specs.Data.{Data, Items}
 use Rattle.serde_json.specs.Find.{as_array, at}
-use Rattle.script_reader.specs.Rules.{◌>>=◌, given, holds}
+use Rattle.script_rules.specs.Rules.{◌>>=◌, given, holds}
 use Rattle.script_reader.specs.Kinds.{item_count, has_keys, many_in, name_of, number_of, name_at, names_at, number_at, array_at}
-use Rattle.script_reader.specs.declared.step.Rule.{Rule}
-use Rattle.script_reader.specs.declared.step.Rule.TheVariants as rules
+use Rattle.script_rules.specs.declared.step.Rule.{Rule}
+use Rattle.script_rules.specs.declared.step.Rule.TheVariants as rules
 use Rattle.script_reader.specs.declared.written.Holding.{Holding}
 use Rattle.script_reader.specs.declared.written.WrittenShape.{WrittenShape}
 use Rattle.script_reader.specs.declared.written.WrittenShape.TheVariants as shapes

@@ -24,75 +24,61 @@ mod time;
 mod transfer;
 
 ghost use Rattle.std.specs.Prelude.{◌≡◌};
+ghost use Rattle.std.specs.List.{list_any};
+ghost use Rattle.std.specs.Str.{bytes_eq};
 ghost use Rattle.serde_json.specs.View.{view};
-ghost use Rattle.script_reader.specs.Rules.{Gives};
+ghost use Rattle.script_rules.specs.Rules.{Gives};
 ghost use Rattle.script_reader.specs.Forms.{is_word, is_built, plain_by, is_indirect, indirect_by, plain_written, written_by};
 
-use crate::step::{Rule, Step, StepFault};
 use crate::written::Written;
+use script_rules::{Rule, Step, StepFault};
 use serde_json::Value;
 use std::alloc::Global;
+
+/// The words of all forms.
+const WORDS: [&str; 22] = [
+    "deposit",
+    "time",
+    "person",
+    "channel",
+    "sign",
+    "catch",
+    "send",
+    "drop",
+    "challenge",
+    "respond",
+    "refute",
+    "checkpoint",
+    "conclude",
+    "transfer",
+    "claim",
+    "open",
+    "open_on",
+    "open_virtual",
+    "pay",
+    "close",
+    "exit",
+    "rounds",
+];
+
+fn is_among(word: &str, words: &[&str]) -> bool
+    ensures { result ≡ list_any (λ w. bytes_eq word.now w.now) words.now }
+{
+    words.iter().any(|w| word == *w)
+}
 
 /// Whether a step can begin with this word.
 pub(crate) fn is_word(word: &str) -> bool
     ensures { result ≡ is_word word.now }
 {
-    matches!(
-        word,
-        "deposit"
-            | "time"
-            | "person"
-            | "channel"
-            | "sign"
-            | "catch"
-            | "send"
-            | "drop"
-            | "challenge"
-            | "respond"
-            | "refute"
-            | "checkpoint"
-            | "conclude"
-            | "transfer"
-            | "claim"
-            | "open"
-            | "open_on"
-            | "open_virtual"
-            | "pay"
-            | "close"
-            | "exit"
-            | "rounds"
-    )
+    is_among(word, &WORDS)
 }
 
-/// Whether the steps of this word are played yet.
+/// Whether the steps of this word are played yet: at present those of all words are.
 pub(crate) fn is_built(word: &str) -> bool
     ensures { result ≡ is_built word.now }
 {
-    matches!(
-        word,
-        "deposit"
-            | "time"
-            | "person"
-            | "channel"
-            | "sign"
-            | "catch"
-            | "send"
-            | "drop"
-            | "challenge"
-            | "respond"
-            | "refute"
-            | "checkpoint"
-            | "conclude"
-            | "transfer"
-            | "claim"
-            | "open"
-            | "open_on"
-            | "open_virtual"
-            | "pay"
-            | "close"
-            | "exit"
-            | "rounds"
-    )
+    is_word(word)
 }
 
 /// Reads a step that has neither outcomes nor amounts by the form of its word.

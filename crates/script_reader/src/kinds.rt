@@ -3,12 +3,12 @@
 ghost use Rattle.std.specs.Prelude.{◌≡◌, [], option_map};
 ghost use Rattle.std.specs.List.{list_all};
 ghost use Rattle.serde_json.specs.View.{view, items_view};
-ghost use Rattle.script_reader.specs.Rules.{Gives};
-ghost use Rattle.script_reader.specs.Kinds.{has_keys, keys, text_in, word_at, number_of, number_at, flag_at, many_in, is_lower_digit, is_hex, is_letter, is_name_byte, is_name, name_of, name_at, names_at, numbers_at, place_at, array_at, seed_of, seed_at, app_of, app_at};
+ghost use Rattle.script_rules.specs.Rules.{Gives};
+ghost use Rattle.script_reader.specs.Kinds.{has_keys, keys, text_in, word_at, number_of, number_at, flag_at, many_in, is_letter, is_name_byte, is_name, name_of, name_at, names_at, numbers_at, place_at, array_at, seed_of, seed_at, app_of, app_at};
 
-use crate::step::{Rule, StepFault};
 use hex::FromHex;
 use nitro_bytes::{Label, Listed};
+use script_rules::{Rule, StepFault, is_hex};
 use serde_json::Value;
 use std::alloc::Global;
 
@@ -87,25 +87,6 @@ pub(crate) fn array_at<'v>(value: &'v Value, key: &str) -> Result<&'v [Value], S
         Some(values) => Ok(values.as_slice()),
         None => Err(StepFault::Broken(Rule::Shape)),
     }
-}
-
-fn is_lower_digit(b: u8) -> bool
-    ensures { result ≡ is_lower_digit b }
-{
-    matches!(b, b'0'..=b'9' | b'a'..=b'f')
-}
-
-fn are_lower_digits(bytes: &[u8]) -> bool
-    ensures { result ≡ list_all is_lower_digit bytes.now }
-{
-    bytes.iter().all(|b| is_lower_digit(*b))
-}
-
-/// Whether the text is 64 digits 0-9 a-f.
-pub(crate) fn is_hex(text: &str) -> bool
-    ensures { result ≡ is_hex text.now }
-{
-    text.len() == 64 && are_lower_digits(text.as_bytes())
 }
 
 fn is_letter(b: u8) -> bool

@@ -2,18 +2,15 @@
 
 ghost use Rattle.std.specs.Prelude.{◌≡◌, IfOk};
 ghost use Rattle.serde_json.specs.View.{view};
-ghost use Rattle.script_reader.specs.Rules.{Gives};
-ghost use Rattle.script_reader.specs.Conditions.{after, signer_of};
+ghost use Rattle.script_rules.specs.Rules.{Gives};
+ghost use Rattle.script_rules.specs.Conditions.{after, signer_of};
 ghost use Rattle.script_reader.specs.Reading.{plays, written_of, knows_names, named_of, led, limited, step_of};
 
-use crate::context::Context;
-use crate::entering::enter;
 use crate::forms::{is_built, is_word, written_by};
 use crate::kinds::word_at;
-use crate::limits::runs_in_race;
 use crate::resolve::{knows_outcome, resolved};
-use crate::step::{Rule, Step, StepFault};
 use crate::written::Written;
+use script_rules::{Context, Rule, Step, StepFault, enter, runs_in_race};
 use serde_json::Value;
 use sign_index::Signer;
 use std::alloc::Global;

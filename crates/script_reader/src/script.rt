@@ -2,20 +2,18 @@
 
 ghost use Rattle.std.specs.Prelude.{◌≡◌, ◌≤◌, [], length, nat_le, IfOk, All};
 ghost use Rattle.serde_json.specs.View.{view, items_view};
-ghost use Rattle.script_reader.specs.Rules.{Gives};
+ghost use Rattle.script_rules.specs.Rules.{Gives};
 ghost use Rattle.script_reader.specs.Listed.{few_items, listed};
-ghost use Rattle.script_reader.specs.Conditions.{after, signer_of};
+ghost use Rattle.script_rules.specs.Conditions.{after, signer_of};
 ghost use Rattle.script_reader.specs.Bounds.{Fits, persons_of, rounds_of, signers_of};
 ghost use Rattle.script_reader.specs.Reading.{step_of};
 ghost use Rattle.script_reader.specs.Script.{Ends, fault_at, at_step, start, steps_from, script_of, IsReading, IsReadingIn, AreChecked};
 ghost use Rattle.script_reader.specs.declared.script.ScriptFault.TheVariants.{NoMemory as NoMemoryLeft};
 
-use crate::context::Context;
 use crate::kinds::{array_at, keys};
-use crate::name_list::NameList;
 use crate::reading::step_of;
-use crate::step::{Rule, Step, StepFault};
 use nitro_bytes::{Listed, NoMemory};
+use script_rules::{Context, NameList, Rule, Step, StepFault};
 use serde_json::Value;
 use sign_index::Signer;
 use std::alloc::{AllocFailed, Global};

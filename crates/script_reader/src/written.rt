@@ -2,13 +2,13 @@
 
 ghost use Rattle.std.specs.Prelude.{◌≡◌, []};
 ghost use Rattle.serde_json.specs.View.{view, items_view};
-ghost use Rattle.script_reader.specs.Rules.{Gives};
+ghost use Rattle.script_rules.specs.Rules.{Gives};
 ghost use Rattle.script_reader.specs.Kinds.{many_in};
 ghost use Rattle.script_reader.specs.Written.{has_items, holding_of, items_of, list_of, shape_of, asset_of, outcome_at};
 
 use crate::kinds::{array_at, has_keys, name_at, name_of, names_at, number_at, number_of};
-use crate::step::{Rule, Step, StepFault};
 use nitro_bytes::{Label, Listed};
+use script_rules::{Rule, Step, StepFault};
 use serde_json::Value;
 use std::alloc::Global;
 

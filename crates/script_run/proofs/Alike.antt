@@ -8,8 +8,8 @@ use Rattle.report_text.specs.declared.report.Load.{Load as Note}
 use Rattle.report_text.specs.declared.report.Report.{Report}
 use Rattle.script_play.specs.Play.{play}
 use Rattle.script_reader.specs.Script.{IsScript, Breaks}
-use Rattle.script_reader.specs.declared.step.Rule.{Rule}
-use Rattle.script_reader.specs.declared.step.Step.{Step}
+use Rattle.script_reader.specs.step.Rule.{Rule}
+use Rattle.script_reader.specs.step.Step.{Step}
 use Rattle.script_reader.proofs.OneReading.{one_script, script_breaks_none, one_fault}
 use Rattle.script_run.specs.Run.{Given, IsCalm, EndsAlike, EndsAs, Comes, wanted, made_from}
 use Rattle.word_reader.specs.declared.asking.Asked.{Asked}

@@ -3,9 +3,9 @@ use Rattle.std.proofs.Common.{◌≡◌, ℕ, ◌≤◌, ◌<◌, List, [], ◌+
 use Rattle.std.specs.Prelude.{false}
 use Rattle.std.specs.Io.KnownBytes.{Keeps, Consumes, IsAtEnd}
 use Rattle.script_reader.specs.Script.{Breaks}
-use Rattle.script_reader.specs.declared.step.Rule.{Rule}
+use Rattle.script_reader.specs.step.Rule.{Rule}
 use Rattle.script_reader.proofs.OneReading.{script_breaks_none}
-use Rattle.script_reader.specs.Outside.{Rose}
+use Rattle.byte_source.specs.Outside.{Rose}
 use Rattle.script_run.specs.Run.{Given, wanted, Runs, Takes, Reads, HasScript, IsSound, EndsAs}
 use Rattle.script_run.specs.declared.run.Status.{Status}
 use Rattle.script_run.specs.declared.run.Status.TheVariants.{Done, NoMemory, Usage, Script, ReadFault, WriteFault, TooLong}

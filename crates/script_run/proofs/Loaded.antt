@@ -6,7 +6,7 @@ use Rattle.share_model.specs.Places.{Order}
 use Rattle.told_party.specs.Telling.{Tale}
 use Rattle.play_report.specs.Reported.{IsPlayed, PlaysHonestly, PlaysSafely, PlaysKept, PlaysShares, PlaysExits}
 use Rattle.report_text.specs.declared.report.Report.{Report}
-use Rattle.script_reader.specs.declared.step.Step.{Step}
+use Rattle.script_reader.specs.step.Step.{Step}
 use Rattle.word_reader.specs.declared.asking.Asked.TheVariants.{Load}
 use Rattle.load_script.specs.Load.{load_steps}
 use Rattle.script_run.specs.Run.{Given, IsUnread, RunsTo, made_from, wanted}

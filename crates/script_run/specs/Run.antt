@@ -3,11 +3,11 @@ use Rattle.std.specs.Prelude.{◌≡◌, ◌≤◌, ◌<◌, ℕ, List, [], ◌�
 use Rattle.std.specs.Fmt.{decimal}
 use Rattle.std.specs.Io.KnownBytes.{Keeps, Consumes, IsAtEnd}
 use Rattle.nitro_bytes.specs.Parts.{FixedParts}
-use Rattle.script_reader.specs.Outside.{Rose}
+use Rattle.byte_source.specs.Outside.{Rose}
 use Rattle.script_reader.specs.Script.{IsScript, Breaks}
-use Rattle.script_reader.specs.declared.step.Rule.{Rule}
-use Rattle.script_reader.specs.declared.step.Rule.TheVariants as rules
-use Rattle.script_reader.specs.declared.step.Step.{Step}
+use Rattle.script_reader.specs.step.Rule.{Rule}
+use Rattle.script_reader.specs.step.Rule.TheVariants as rules
+use Rattle.script_reader.specs.step.Step.{Step}
 use Rattle.net_model.specs.Journals.{Line}
 use Rattle.play_report.specs.Reported.{IsPlayed, PlaysHonestly, PlaysSafely, PlaysKept, PlaysShares, PlaysExits}
 use Rattle.report_text.specs.Report.{text_of}

@@ -1,7 +1,7 @@
 //! Sinks in memory, for tests and for programs that keep the text.
 
 ghost use Rattle.std.specs.Prelude.{◌≡◌, ◌≤◌, ◌<◌, ◌+◌, ◌-◌, ◌^◌, ◌⊎◌, ℕ, Some, None, [], IfOk, Contains, length, max, min, vec_capacity};
-ghost use Rattle.script_reader.specs.Outside.{Rose};
+ghost use Rattle.byte_source.specs.Outside.{Rose};
 ghost use Rattle.script_run.specs.Outside.{PutGives};
 
 use crate::sink::{Gave, Sink};

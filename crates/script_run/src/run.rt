@@ -5,7 +5,7 @@ ghost use Rattle.std.specs.Io.KnownBytes.{Keeps, Consumes, Appends, IsAtEnd};
 ghost use Rattle.channel_calls.specs.Flows.{AreConserved};
 ghost use Rattle.channel_calls.specs.History.{Legal, newest_first, flows_of};
 ghost use Rattle.support_chain.specs.Real.{real};
-ghost use Rattle.script_reader.specs.Outside.{Rose};
+ghost use Rattle.byte_source.specs.Outside.{Rose};
 ghost use Rattle.script_run.specs.Outside.{AppendsPart};
 ghost use Rattle.word_reader.specs.Words.{asked};
 ghost use Rattle.word_reader.specs.declared.asking.Asked.{Asked};
@@ -18,12 +18,13 @@ ghost use Rattle.script_run.specs.Run.{Given, IsSound, IsUnread, given, code_of,
 
 use crate::records::Records;
 use crate::sink::{Sink, put_all};
+use byte_source::{ReadEnd, Source, read_all};
 use load_script::{LoadFault, load_script};
 use net_node::Node;
 use nitro_bytes::{Label, NoMemory};
 use play_report::report_play;
 use report_text::{Load, Report, text_of};
-use script_reader::{ReadEnd, Rule, ScriptFault, Source, read_all, read_script_with_signers};
+use script_reader::{Rule, ScriptFault, read_script_with_signers};
 use std::alloc::{AllocError, Global};
 use told_party::Told;
 use word_reader::{Asked, asked};

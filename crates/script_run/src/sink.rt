@@ -2,7 +2,7 @@
 
 ghost use Rattle.std.specs.Prelude.{◌≡◌, ◌≤◌, ℕ, List, Option, OnOk, OnErr};
 ghost use Rattle.std.specs.Io.KnownBytes.{Appends};
-ghost use Rattle.script_reader.specs.Outside.{Rose};
+ghost use Rattle.byte_source.specs.Outside.{Rose};
 ghost use Rattle.script_run.specs.Outside.{PutGives, AppendsPart};
 
 use std::error::Error;

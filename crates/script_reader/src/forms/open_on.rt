@@ -2,12 +2,12 @@
 
 ghost use Rattle.std.specs.Prelude.{◌≡◌};
 ghost use Rattle.serde_json.specs.View.{view};
-ghost use Rattle.script_reader.specs.Rules.{Gives};
+ghost use Rattle.script_rules.specs.Rules.{Gives};
 ghost use Rattle.script_reader.specs.Forms.{open_on_of};
 
 use crate::kinds::{keys, name_at, names_at, number_at, numbers_at};
-use crate::step::StepFault;
 use crate::written::{OpenOnKeys, Written};
+use script_rules::StepFault;
 use serde_json::Value;
 use std::alloc::Global;
 

@@ -2,11 +2,11 @@
 
 ghost use Rattle.std.specs.Prelude.{◌≡◌};
 ghost use Rattle.serde_json.specs.View.{view};
-ghost use Rattle.script_reader.specs.Rules.{Gives};
+ghost use Rattle.script_rules.specs.Rules.{Gives};
 ghost use Rattle.script_reader.specs.Forms.{rounds_of};
 
 use crate::kinds::{keys, number_at};
-use crate::step::{Step, StepFault};
+use script_rules::{Step, StepFault};
 use serde_json::Value;
 
 pub(crate) fn rounds_of(step: &Value) -> Result<Step, StepFault>

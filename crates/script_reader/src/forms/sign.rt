@@ -2,12 +2,12 @@
 
 ghost use Rattle.std.specs.Prelude.{◌≡◌};
 ghost use Rattle.serde_json.specs.View.{view};
-ghost use Rattle.script_reader.specs.Rules.{Gives};
+ghost use Rattle.script_rules.specs.Rules.{Gives};
 ghost use Rattle.script_reader.specs.Forms.{sign_of};
 
 use crate::kinds::{flag_at, keys, name_at, number_at};
-use crate::step::StepFault;
 use crate::written::{SignKeys, Written, outcome_at};
+use script_rules::StepFault;
 use serde_json::Value;
 use std::alloc::Global;
 

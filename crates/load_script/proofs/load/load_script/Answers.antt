@@ -1,6 +1,6 @@
 use Rattle.std.proofs.Common.{rules, ◌≡◌, ◌++◌, ◌∙◌, List, [], ◌∷◌, ap, append_assoc, sym}
 use Rattle.script_reader.specs.Bounds.{signers_of}
-use Rattle.script_reader.specs.declared.step.Step.{Step}
+use Rattle.script_reader.specs.step.Step.{Step}
 use Rattle.load_script.specs.Load.{beginning, payments, ending}
 use Rattle.load_script.proofs.Draws.{two_signers}
 use Rattle.load_script.proofs.Kept.{load_is_kept}

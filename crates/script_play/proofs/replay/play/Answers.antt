@@ -8,7 +8,7 @@ use Rattle.script_play.specs.Growth.{weight}
 use Rattle.script_reader.specs.Conditions.{signer_of}
 use Rattle.script_play.proofs.Weights.{has_room}
 use Rattle.script_play.specs.Play.{SceneOf, numbered, played}
-use Rattle.script_reader.specs.declared.step.Step.{Step}
+use Rattle.script_reader.specs.step.Step.{Step}
 use Rattle.script_play.proofs.Steps.{goes_on, signers_go_on}
 use Rattle.script_play.proofs.replay.play.Goals as goal
 

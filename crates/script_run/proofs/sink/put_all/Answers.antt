@@ -1,6 +1,6 @@
 use Rattle.std.proofs.Common.{◌≡◌, ℕ, ◌≤◌, ◌++◌, List, take, drop, length, arith}
 use Rattle.std.proofs.lemmas.Grind.{common_steps}
-use Rattle.script_reader.proofs.Known.{Appends-more}
+use Rattle.byte_source.proofs.Known.{Appends-more}
 use Rattle.script_run.proofs.sink.put_all.Goals as goal
 
 split_again : (part rest text : List ℕ) (n : ℕ) → n ≤ length rest → part ++ rest ≡ text → (part ++ take n rest) ++ drop n rest ≡ text

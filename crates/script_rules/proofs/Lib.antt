@@ -1,0 +1,2 @@
+mod Index
+pub mod Lists

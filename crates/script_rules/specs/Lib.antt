@@ -1,0 +1,7 @@
+pub mod Conditions
+pub mod Context
+pub mod Digests
+pub mod Digits
+pub mod Index
+pub mod Messages
+pub mod Rules
