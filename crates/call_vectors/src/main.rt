@@ -1,4 +1,4 @@
-//! Reads calls and messages that a writer in another language spelled, copies the calls in entries, and writes all back.
+//! Reads calls and messages that a writer in another language spelled, copies calls in entries, and writes all back.
 //!
 //! A line of the file is `NAME KIND HEX`: the kind is `call` or `message`, the bytes are in hex, `-` for none. Printed
 //! is a line `NAME same` where the same bytes are written back, `NAME other` where others are, and else

@@ -104,8 +104,9 @@ pub(super) fn state_of(alloc: Global, parts: &Parts) -> Result<State, ByteFault>
         (Dest::Person(person_name(&[2; 56])), second),
     ];
     let bodies = [(0, Body::Items(&pays))];
-    let app_bytes: &[u8] = if data > 0 { &[data] } else { &[] };
-    state_with(alloc, turn, is_final, &bodies, app_bytes)
+    let bytes = [data];
+    let count = if data > 0 { 1 } else { 0 };
+    state_with(alloc, turn, is_final, &bodies, &bytes[..count])
 }
 
 pub(super) fn states_of(alloc: Global, rows: &[Parts]) -> Result<Listed<State>, ByteFault> {

@@ -35,7 +35,7 @@ fn key_seed(letter: u8, seed: u64) -> [u8; 32]
 }
 
 /// The person whose name is this letter. It takes 2^10 one-time keys.
-#[tactic(auto, unfolding(script_reader::specs::Digests::key_of))]
+#[tactic(auto, unfolding(script_rules::specs::Digests::key_of))]
 pub(crate) fn party_of(alloc: Global, letter: u8, seed: u64) -> Result<Party, NoMemory>
     ensures seed { IfOk result (λ p. p.seed ≡ key_seed letter seed) }
     ensures signer { IfOk result (λ p. p.signer ≡ fresh (key_seed letter seed) 10) }

@@ -2,34 +2,54 @@
 
 use channel_calls::Flow;
 use flow_balances::Balances;
-use nitro_bytes::{Dest, Name};
+use nitro_bytes::{Dest, Name, NoMemory};
+use std::alloc::Global;
 use std::test::Fail;
 
-fn flow_of(from: Option<Name>, to: Dest, asset: u32, amount: u64) -> Flow {
-    Flow {
-        from,
-        to,
-        asset,
-        amount,
-    }
-}
+const FIRST: Dest = Dest::Channel([1; 32]);
+
+const SECOND: Dest = Dest::Channel([2; 32]);
+
+const PERSON: Dest = Dest::Person([1; 32]);
 
 /// Two deposits, and what the first channel pays to a person, to the other channel and to itself.
+const FLOWS: [(Option<Name>, Dest, u32, u64); 5] = [
+    (None, FIRST, 3, 10),
+    (None, SECOND, 1, 5),
+    (Some([1; 32]), PERSON, 3, 4),
+    (Some([1; 32]), SECOND, 3, 2),
+    (Some([1; 32]), FIRST, 3, 1),
+];
+
+const RECEIVERS: [(Dest, u32); 4] = [(FIRST, 3), (SECOND, 1), (PERSON, 3), (SECOND, 3)];
+
+fn balances(alloc: Global) -> Result<Balances, NoMemory> {
+    let mut flows = Vec::new(alloc);
+    for (from, to, asset, amount) in FLOWS {
+        flows.push(Flow {
+            from,
+            to,
+            asset,
+            amount,
+        })?;
+    }
+    Balances::of(alloc, flows)
+}
+
+/// Whether the receivers are those wanted, how many assets there are, and whether 1 and 3 are among them.
+fn seen(balances: &Balances) -> (bool, usize, bool, bool) {
+    let assets = balances.assets();
+    (
+        balances.receivers() == RECEIVERS.as_slice(),
+        assets.len(),
+        assets.contains(&1),
+        assets.contains(&3),
+    )
+}
+
 #[test]
 fn each_receiver_comes_once_in_the_order_of_first_receipt(rt: HostRuntime) -> Result<(), Fail> {
-    let (first, second) = (Dest::Channel([1; 32]), Dest::Channel([2; 32]));
-    let person = Dest::Person([1; 32]);
-    let mut flows = Vec::new(rt.alloc());
-    flows.push(flow_of(None, first, 3, 10))?;
-    flows.push(flow_of(None, second, 1, 5))?;
-    flows.push(flow_of(Some([1; 32]), person, 3, 4))?;
-    flows.push(flow_of(Some([1; 32]), second, 3, 2))?;
-    flows.push(flow_of(Some([1; 32]), first, 3, 1))?;
-    let balances = Balances::of(rt.alloc(), flows)?;
-    let receivers = [(first, 3), (second, 1), (person, 3), (second, 3)];
-    assert!(rt; balances.receivers() == receivers.as_slice());
-    assert_eq!(rt; balances.assets().len(), 2);
-    assert!(rt; balances.assets().contains(&1));
-    assert!(rt; balances.assets().contains(&3));
+    let balances = balances(rt.alloc())?;
+    assert_eq!(rt; seen(&balances), (true, 2, true, true));
     Ok(())
 }

@@ -78,47 +78,30 @@ fn reply_checked<R: Threads + Sync>(
     Ok(adjudicator.apply_checked(&op))
 }
 
-fn refused(fault: SupportFault) -> Reply {
-    Reply::No(Refusal::NotSupported(fault))
-}
+const CHANGED: SupportFault = SupportFault::Step(1, StepFault::Outcome);
+
+/// The turns and amounts of a chain's states, and its first break. Of the last chain neither mark was signed.
+const WRONG: [(&[(u64, u64)], SupportFault); 4] = [
+    (&[(0, 5)], SupportFault::Length),
+    (&[(1, 5), (0, 5)], SupportFault::Turn(1)),
+    (&[(0, 5), (1, 4)], CHANGED),
+    (&[(0, 5), (1, 5)], SupportFault::Signature(0)),
+];
 
 #[test]
 fn wrong_chains(rt: HostRuntime) -> Result<(), Fail> {
-    let alloc = rt.alloc();
-    let changed = SupportFault::Step(1, StepFault::Outcome);
-    assert_eq!(rt; reply(alloc, &[(0, 5)])?, refused(SupportFault::Length));
-    assert_eq!(rt;
-        reply(alloc, &[(1, 5), (0, 5)])?,
-        refused(SupportFault::Turn(1))
-    );
-    assert_eq!(rt; reply(alloc, &[(0, 5), (1, 4)])?, refused(changed));
-    // Neither mark was signed.
-    assert_eq!(rt;
-        reply(alloc, &[(0, 5), (1, 5)])?,
-        refused(SupportFault::Signature(0))
-    );
+    for (parts, fault) in WRONG {
+        let wanted = Reply::No(Refusal::NotSupported(fault));
+        assert_eq!(rt; reply(rt.alloc(), parts)?, wanted);
+    }
     Ok(())
 }
 
 #[test]
 fn wrong_chains_that_were_checked(rt: HostRuntime) -> Result<(), Fail> {
-    let alloc = rt.alloc();
-    let changed = SupportFault::Step(1, StepFault::Outcome);
-    assert_eq!(rt;
-        reply_checked(&rt, alloc, &[(0, 5)])?,
-        refused(SupportFault::Length)
-    );
-    assert_eq!(rt;
-        reply_checked(&rt, alloc, &[(1, 5), (0, 5)])?,
-        refused(SupportFault::Turn(1))
-    );
-    assert_eq!(rt;
-        reply_checked(&rt, alloc, &[(0, 5), (1, 4)])?,
-        refused(changed)
-    );
-    assert_eq!(rt;
-        reply_checked(&rt, alloc, &[(0, 5), (1, 5)])?,
-        refused(SupportFault::Signature(0))
-    );
+    for (parts, fault) in WRONG {
+        let wanted = Reply::No(Refusal::NotSupported(fault));
+        assert_eq!(rt; reply_checked(&rt, rt.alloc(), parts)?, wanted);
+    }
     Ok(())
 }

@@ -1,6 +1,7 @@
 //! The channels whose deadline has come.
 
 use deadline_table::{Deadlines, Name, NoMemory};
+use std::alloc::Global;
 use std::test::Fail;
 
 const A: Name = [1; 32];
@@ -17,17 +18,35 @@ fn put(deadlines: &mut Deadlines, channel: Name, deadline: u64) -> Result<(), No
     Ok(())
 }
 
-#[test]
-fn channels_are_due_by_deadline_and_name(rt: HostRuntime) -> Result<(), Fail> {
-    let mut deadlines = Deadlines::make(rt.alloc());
+/// Whether at that time these are due of C with 10, B with 9 and A with 10, where perhaps B was removed.
+fn are_due(
+    alloc: Global,
+    is_removed: bool,
+    now: u64,
+    wanted: &[(u64, Name)],
+) -> Result<bool, NoMemory> {
+    let mut deadlines = Deadlines::make(alloc);
     put(&mut deadlines, C, 10)?;
     put(&mut deadlines, B, 9)?;
     put(&mut deadlines, A, 10)?;
-    assert!(rt; deadlines.due(8).is_empty());
-    assert_eq!(rt; deadlines.due(9), [(9, B)].as_slice());
-    // A checkpoint of B.
-    deadlines.remove(&B);
-    assert!(rt; deadlines.due(9).is_empty());
-    assert_eq!(rt; deadlines.due(10), [(10, A), (10, C)].as_slice());
+    if is_removed {
+        deadlines.remove(&B);
+    }
+    Ok(deadlines.due(now) == wanted)
+}
+
+/// Whether there was a checkpoint of B, the time, and the rows that are due.
+const DUE: [(bool, u64, &[(u64, Name)]); 4] = [
+    (false, 8, &[]),
+    (false, 9, &[(9, B)]),
+    (true, 9, &[]),
+    (true, 10, &[(10, A), (10, C)]),
+];
+
+#[test]
+fn channels_are_due_by_deadline_and_name(rt: HostRuntime) -> Result<(), Fail> {
+    for (is_removed, now, wanted) in DUE {
+        assert!(rt; are_due(rt.alloc(), is_removed, now, wanted)?, "at {now}");
+    }
     Ok(())
 }

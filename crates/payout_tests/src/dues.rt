@@ -20,313 +20,307 @@ const X: Dest = Dest::Channel([7; 32]);
 
 const MOST: u64 = u64::MAX;
 
-fn allocation(alloc: Global, asset: u32, items: &[Item]) -> Result<AssetOutcome, NoMemory> {
-    let items = Vec::from_slice(alloc, items)?;
-    Ok(AssetOutcome {
-        asset,
-        shape: Shape::Allocation(Listed::make(items)),
-    })
+/// How an asset is paid out: items in their order, or what a target has for destinations.
+#[derive(Clone, Copy)]
+enum Part {
+    Items(&'static [(Dest, u64)]),
+    Promise(Name, &'static [Dest]),
 }
 
-fn guarantee(
-    alloc: Global,
-    asset: u32,
-    target: Name,
-    list: &[Dest],
-) -> Result<AssetOutcome, NoMemory> {
-    let list = Vec::from_slice(alloc, list)?;
-    Ok(AssetOutcome {
-        asset,
-        shape: Shape::Guarantee(target, Listed::make(list)),
-    })
+/// An asset, and how it is paid out.
+type Asset = (u32, Part);
+
+/// What was paid of an item: its channel, asset and place, and the amount.
+type Paid = (Name, u32, u8, u64);
+
+/// Whom a call pays, of which place, how much; or why it doesn't.
+type Answer = Result<(Dest, u8, u64), Refusal>;
+
+fn shape(alloc: Global, part: &Part) -> Result<Shape, NoMemory> {
+    match part {
+        Part::Items(rows) => {
+            let mut items = Vec::new(alloc);
+            for (to, amount) in *rows {
+                items.push(Item {
+                    to: *to,
+                    amount: *amount,
+                })?;
+            }
+            Ok(Shape::Allocation(Listed::make(items)))
+        }
+        Part::Promise(target, list) => {
+            let list = Vec::from_slice(alloc, list)?;
+            Ok(Shape::Guarantee(*target, Listed::make(list)))
+        }
+    }
 }
 
-/// An outcome of asset 0.
-fn only(alloc: Global, first: AssetOutcome) -> Result<Outcome, ByteFault> {
+fn outcome(alloc: Global, rows: &[Asset]) -> Result<Outcome, ByteFault> {
     let mut assets = Vec::new(alloc);
-    assets.push(first)?;
+    for (asset, part) in rows {
+        let shape = shape(alloc, part)?;
+        assets.push(AssetOutcome {
+            asset: *asset,
+            shape,
+        })?;
+    }
     Outcome::make(alloc, assets)
 }
 
-/// An outcome of assets 0 and 1.
-fn both(alloc: Global, first: AssetOutcome, second: AssetOutcome) -> Result<Outcome, ByteFault> {
-    let mut assets = Vec::new(alloc);
-    assets.push(first)?;
-    assets.push(second)?;
-    Outcome::make(alloc, assets)
-}
-
-fn item(to: Dest, amount: u64) -> Item {
-    Item { to, amount }
-}
-
-/// More was paid, unless it wouldn't fit.
-fn note(
-    paid: &mut PaidItems,
-    channel: Name,
-    asset: u32,
-    place: u8,
-    amount: u64,
-) -> Result<bool, NoMemory> {
+/// More was paid of an item, unless it wouldn't fit.
+fn note(paid: &mut PaidItems, payment: &Paid) -> Result<bool, NoMemory> {
+    let (channel, asset, place, amount) = *payment;
     paid.reserve()?;
-    if amount > u64::MAX - paid.paid_of(&channel, asset, place) {
+    if amount > MOST - paid.paid_of(&channel, asset, place) {
         return Ok(false);
     }
     paid.add(channel, asset, place, amount);
     Ok(true)
 }
 
-fn due(to: Dest, place: u8, amount: u64) -> Result<Due, Refusal> {
-    Ok(Due { to, place, amount })
+/// What was paid of items, and whether all of it fits.
+fn paid_items(alloc: Global, payments: &[Paid]) -> Result<(PaidItems, bool), NoMemory> {
+    let mut paid = PaidItems::make(alloc);
+    let mut fits = true;
+    for payment in payments {
+        fits = note(&mut paid, payment)? && fits;
+    }
+    Ok((paid, fits))
 }
+
+fn told(due: Result<Due, Refusal>) -> Answer {
+    match due {
+        Ok(due) => Ok((due.to, due.place, due.amount)),
+        Err(refusal) => Err(refusal),
+    }
+}
+
+const PAYMENTS: [Paid; 4] = [(J, 0, 1, 5), (J, 0, 1, 2), (J, 1, 1, MOST), (G, 0, 1, 1)];
+
+/// What was paid of the item, and whether the payments fit.
+fn sum(alloc: Global, payments: &[Paid], item: (Name, u32, u8)) -> Result<(u64, bool), NoMemory> {
+    let (channel, asset, place) = item;
+    let (paid, fits) = paid_items(alloc, payments)?;
+    Ok((paid.paid_of(&channel, asset, place), fits))
+}
+
+/// Payments, an item, and what was paid of it.
+const SUMS: [(&[Paid], (Name, u32, u8), u64); 6] = [
+    (&[], (J, 0, 0), 0),
+    (&PAYMENTS, (J, 0, 0), 0),
+    (&PAYMENTS, (J, 0, 1), 7),
+    (&PAYMENTS, (J, 1, 1), MOST),
+    (&PAYMENTS, (G, 0, 1), 1),
+    (&PAYMENTS, (G, 1, 1), 0),
+];
 
 #[test]
 fn payments_add_up_for_each_item(rt: HostRuntime) -> Result<(), Fail> {
-    let mut paid = PaidItems::make(rt.alloc());
-    assert_eq!(rt; paid.paid_of(&J, 0, 0), 0);
-    assert!(rt; note(&mut paid, J, 0, 1, 5)?);
-    assert!(rt; note(&mut paid, J, 0, 1, 2)?);
-    assert!(rt; note(&mut paid, J, 1, 1, MOST)?);
-    assert!(rt; note(&mut paid, G, 0, 1, 1)?);
-    assert_eq!(rt; paid.paid_of(&J, 0, 0), 0);
-    assert_eq!(rt; paid.paid_of(&J, 0, 1), 7);
-    assert_eq!(rt; paid.paid_of(&J, 1, 1), MOST);
-    assert_eq!(rt; paid.paid_of(&G, 0, 1), 1);
-    assert_eq!(rt; paid.paid_of(&G, 1, 1), 0);
+    for (payments, item, wanted) in SUMS {
+        assert_eq!(rt; sum(rt.alloc(), payments, item)?, (wanted, true));
+    }
     Ok(())
 }
+
+/// What was paid, what the channel holds, the channel, and the asset and the place of the item.
+type Transfer = (&'static [Paid], u64, Name, u32, u8);
+
+/// What a transfer pays, and whether the payments before it fit.
+fn transferred(
+    alloc: Global,
+    assets: &[Asset],
+    transfer: &Transfer,
+) -> Result<(Answer, bool), Fail> {
+    let (payments, held, channel, asset, index) = *transfer;
+    let outcome = outcome(alloc, assets)?;
+    let (paid, fits) = paid_items(alloc, payments)?;
+    let due = transfer_due(&paid, held, &channel, &outcome, asset, index);
+    Ok((told(due), fits))
+}
+
+const IN_ORDER: [Asset; 2] = [
+    (0, Part::Items(&[(A, 5), (X, 3), (B, 2)])),
+    (1, Part::Items(&[(B, MOST), (A, 0)])),
+];
+
+/// Of the first item 4 was paid, and of the second all of it.
+const BEGUN: [Paid; 2] = [(J, 0, 0, 4), (J, 0, 1, 3)];
+
+/// More than the first item was paid, where another outcome has the same digest.
+const ABOVE: [Paid; 3] = [(J, 0, 0, 4), (J, 0, 1, 3), (J, 0, 0, 9)];
+
+/// Of the other asset's first item all but 1 was paid too.
+const OTHER: [Paid; 4] = [
+    (J, 0, 0, 4),
+    (J, 0, 1, 3),
+    (J, 0, 0, 9),
+    (J, 1, 0, MOST - 1),
+];
+
+const TRANSFERS: [(Transfer, Answer); 16] = [
+    ((&[], 10, J, 0, 2), Ok((B, 2, 2))),
+    ((&[], 9, J, 0, 2), Ok((B, 2, 1))),
+    ((&[], 8, J, 0, 2), Err(Refusal::NothingDue(8))),
+    ((&[], 6, J, 0, 1), Ok((X, 1, 1))),
+    ((&[], 6, J, 0, 0), Ok((A, 0, 5))),
+    ((&[], 0, J, 0, 0), Err(Refusal::NothingDue(0))),
+    ((&BEGUN, 3, J, 0, 0), Ok((A, 0, 1))),
+    ((&BEGUN, 3, J, 0, 1), Err(Refusal::NothingDue(3))),
+    ((&BEGUN, 3, J, 0, 2), Ok((B, 2, 2))),
+    ((&BEGUN, 1, J, 0, 2), Err(Refusal::NothingDue(1))),
+    // Payments of another channel's items don't count.
+    ((&BEGUN, 8, G, 0, 2), Err(Refusal::NothingDue(8))),
+    ((&ABOVE, 2, J, 0, 0), Err(Refusal::NothingDue(2))),
+    ((&ABOVE, 2, J, 0, 2), Ok((B, 2, 2))),
+    // The other asset.
+    ((&ABOVE, MOST, J, 1, 0), Ok((B, 0, MOST))),
+    ((&ABOVE, MOST, J, 1, 1), Err(Refusal::NothingDue(MOST))),
+    ((&OTHER, MOST, J, 1, 0), Ok((B, 0, 1))),
+];
 
 #[test]
 fn earlier_items_are_paid_first(rt: HostRuntime) -> Result<(), Fail> {
-    let alloc = rt.alloc();
-    let first = allocation(alloc, 0, &[item(A, 5), item(X, 3), item(B, 2)])?;
-    let second = allocation(alloc, 1, &[item(B, MOST), item(A, 0)])?;
-    let outcome = both(alloc, first, second)?;
-    let mut paid = PaidItems::make(alloc);
-
-    // Nothing was paid yet.
-    assert_eq!(rt; transfer_due(&paid, 10, &J, &outcome, 0, 2), due(B, 2, 2));
-    assert_eq!(rt; transfer_due(&paid, 9, &J, &outcome, 0, 2), due(B, 2, 1));
-    assert_eq!(rt;
-        transfer_due(&paid, 8, &J, &outcome, 0, 2),
-        Err(Refusal::NothingDue(8))
-    );
-    assert_eq!(rt; transfer_due(&paid, 6, &J, &outcome, 0, 1), due(X, 1, 1));
-    assert_eq!(rt; transfer_due(&paid, 6, &J, &outcome, 0, 0), due(A, 0, 5));
-    assert_eq!(rt;
-        transfer_due(&paid, 0, &J, &outcome, 0, 0),
-        Err(Refusal::NothingDue(0))
-    );
-
-    // Of the first item 4 was paid, and of the second all of it.
-    assert!(rt; note(&mut paid, J, 0, 0, 4)?);
-    assert!(rt; note(&mut paid, J, 0, 1, 3)?);
-    assert_eq!(rt; transfer_due(&paid, 3, &J, &outcome, 0, 0), due(A, 0, 1));
-    assert_eq!(rt;
-        transfer_due(&paid, 3, &J, &outcome, 0, 1),
-        Err(Refusal::NothingDue(3))
-    );
-    assert_eq!(rt; transfer_due(&paid, 3, &J, &outcome, 0, 2), due(B, 2, 2));
-    assert_eq!(rt;
-        transfer_due(&paid, 1, &J, &outcome, 0, 2),
-        Err(Refusal::NothingDue(1))
-    );
-
-    // Payments of another channel's items don't count.
-    assert_eq!(rt;
-        transfer_due(&paid, 8, &G, &outcome, 0, 2),
-        Err(Refusal::NothingDue(8))
-    );
-    // More than the item was paid, where another outcome has the same digest.
-    assert!(rt; note(&mut paid, J, 0, 0, 9)?);
-    assert_eq!(rt;
-        transfer_due(&paid, 2, &J, &outcome, 0, 0),
-        Err(Refusal::NothingDue(2))
-    );
-    assert_eq!(rt; transfer_due(&paid, 2, &J, &outcome, 0, 2), due(B, 2, 2));
-
-    // The other asset.
-    assert_eq!(rt;
-        transfer_due(&paid, MOST, &J, &outcome, 1, 0),
-        due(B, 0, MOST)
-    );
-    assert_eq!(rt;
-        transfer_due(&paid, MOST, &J, &outcome, 1, 1),
-        Err(Refusal::NothingDue(MOST))
-    );
-    assert!(rt; note(&mut paid, J, 1, 0, MOST - 1)?);
-    assert_eq!(rt; transfer_due(&paid, MOST, &J, &outcome, 1, 0), due(B, 0, 1));
+    for (transfer, wanted) in TRANSFERS {
+        assert_eq!(rt;
+            transferred(rt.alloc(), &IN_ORDER, &transfer)?,
+            (wanted, true)
+        );
+    }
     Ok(())
 }
+
+const PROMISED: [Asset; 2] = [(0, Part::Promise(J, &[A])), (1, Part::Items(&[(A, 5)]))];
+
+const REFUSED_TRANSFERS: [(Transfer, Answer); 6] = [
+    ((&[], 0, G, 2, 9), Err(Refusal::NoAsset)),
+    ((&[], 0, G, 0, 9), Err(Refusal::WrongKind)),
+    ((&[], 0, G, 1, 1), Err(Refusal::NoItem)),
+    ((&[], 0, G, 1, 255), Err(Refusal::NoItem)),
+    ((&[], 0, G, 1, 0), Err(Refusal::NothingDue(0))),
+    ((&[], 7, G, 1, 0), Ok((A, 0, 5))),
+];
 
 #[test]
 fn transfers_are_refused_in_order(rt: HostRuntime) -> Result<(), Fail> {
-    let alloc = rt.alloc();
-    let promise = guarantee(alloc, 0, J, &[A])?;
-    let items = allocation(alloc, 1, &[item(A, 5)])?;
-    let outcome = both(alloc, promise, items)?;
-    let paid = PaidItems::make(alloc);
-    assert_eq!(rt;
-        transfer_due(&paid, 0, &G, &outcome, 2, 9),
-        Err(Refusal::NoAsset)
-    );
-    assert_eq!(rt;
-        transfer_due(&paid, 0, &G, &outcome, 0, 9),
-        Err(Refusal::WrongKind)
-    );
-    assert_eq!(rt;
-        transfer_due(&paid, 0, &G, &outcome, 1, 1),
-        Err(Refusal::NoItem)
-    );
-    assert_eq!(rt;
-        transfer_due(&paid, 0, &G, &outcome, 1, 255),
-        Err(Refusal::NoItem)
-    );
-    assert_eq!(rt;
-        transfer_due(&paid, 0, &G, &outcome, 1, 0),
-        Err(Refusal::NothingDue(0))
-    );
-    assert_eq!(rt; transfer_due(&paid, 7, &G, &outcome, 1, 0), due(A, 0, 5));
+    for (transfer, wanted) in REFUSED_TRANSFERS {
+        assert_eq!(rt;
+            transferred(rt.alloc(), &PROMISED, &transfer)?,
+            (wanted, true)
+        );
+    }
     Ok(())
 }
+
+/// The outcomes of the guarantor and of the target.
+type Outcomes = (&'static [Asset], &'static [Asset]);
+
+/// What was paid, what the guarantor holds, the target, and the asset and the position of the destination.
+type Claim = (&'static [Paid], u64, Name, u32, u8);
+
+/// What a claim pays, and whether the payments before it fit.
+fn claimed(alloc: Global, outcomes: &Outcomes, claim: &Claim) -> Result<(Answer, bool), Fail> {
+    let (payments, held, target, asset, position) = *claim;
+    let promise = outcome(alloc, outcomes.0)?;
+    let joint = outcome(alloc, outcomes.1)?;
+    let (paid, fits) = paid_items(alloc, payments)?;
+    let due = claim_due(&paid, held, &promise, &target, &joint, asset, position);
+    Ok((told(due), fits))
+}
+
+/// I has no item, and so takes nothing.
+const LISTED: Outcomes = (
+    &[(0, Part::Promise(J, &[X, I, A]))],
+    &[(0, Part::Items(&[(A, 4), (B, 6), (X, 10)]))],
+);
+
+const CLAIMS: [(Claim, Answer); 8] = [
+    ((&[], 12, J, 0, 0), Ok((X, 2, 10))),
+    ((&[], 12, J, 0, 1), Err(Refusal::NoItem)),
+    ((&[], 12, J, 0, 2), Ok((A, 0, 2))),
+    ((&[], 10, J, 0, 2), Err(Refusal::NothingDue(10))),
+    // The claim for X paid all of its item, and left 2: the same claim has nothing due, and A gets what is left.
+    ((&[(J, 0, 2, 10)], 2, J, 0, 0), Err(Refusal::NothingDue(2))),
+    ((&[(J, 0, 2, 10)], 2, J, 0, 2), Ok((A, 0, 2))),
+    ((&[(J, 0, 2, 10), (J, 0, 0, 3)], 2, J, 0, 2), Ok((A, 0, 1))),
+    // What was paid of the guarantor's places doesn't count.
+    ((&[(G, 0, 2, 10)], 12, J, 0, 0), Ok((X, 2, 10))),
+];
 
 #[test]
 fn claims_are_paid_in_the_order_of_the_list(rt: HostRuntime) -> Result<(), Fail> {
-    let alloc = rt.alloc();
-    let joint = allocation(alloc, 0, &[item(A, 4), item(B, 6), item(X, 10)])?;
-    let joint = only(alloc, joint)?;
-    let promise = guarantee(alloc, 0, J, &[X, I, A])?;
-    let promise = only(alloc, promise)?;
-    let mut paid = PaidItems::make(alloc);
-
-    // Nothing was paid yet; I has no item, and so takes nothing.
-    assert_eq!(rt;
-        claim_due(&paid, 12, &promise, &J, &joint, 0, 0),
-        due(X, 2, 10)
-    );
-    assert_eq!(rt;
-        claim_due(&paid, 12, &promise, &J, &joint, 0, 1),
-        Err(Refusal::NoItem)
-    );
-    assert_eq!(rt;
-        claim_due(&paid, 12, &promise, &J, &joint, 0, 2),
-        due(A, 0, 2)
-    );
-    assert_eq!(rt;
-        claim_due(&paid, 10, &promise, &J, &joint, 0, 2),
-        Err(Refusal::NothingDue(10))
-    );
-
-    // The claim for X paid all of its item, and left 2: the same claim has nothing due, and A gets what is left.
-    assert!(rt; note(&mut paid, J, 0, 2, 10)?);
-    assert_eq!(rt;
-        claim_due(&paid, 2, &promise, &J, &joint, 0, 0),
-        Err(Refusal::NothingDue(2))
-    );
-    assert_eq!(rt;
-        claim_due(&paid, 2, &promise, &J, &joint, 0, 2),
-        due(A, 0, 2)
-    );
-    assert!(rt; note(&mut paid, J, 0, 0, 3)?);
-    assert_eq!(rt;
-        claim_due(&paid, 2, &promise, &J, &joint, 0, 2),
-        due(A, 0, 1)
-    );
-
-    // What was paid of the guarantor's places doesn't count.
-    let mut others = PaidItems::make(alloc);
-    assert!(rt; note(&mut others, G, 0, 2, 10)?);
-    assert_eq!(rt;
-        claim_due(&others, 12, &promise, &J, &joint, 0, 0),
-        due(X, 2, 10)
-    );
+    for (claim, wanted) in CLAIMS {
+        assert_eq!(rt; claimed(rt.alloc(), &LISTED, &claim)?, (wanted, true));
+    }
     Ok(())
 }
+
+const JOINT: [Asset; 2] = [(0, Part::Items(&[(A, 4)])), (1, Part::Promise(J, &[A]))];
+
+const PROMISE: [Asset; 2] = [(0, Part::Promise(J, &[A, B])), (1, Part::Promise(J, &[A]))];
+
+const SHORT: [Asset; 1] = [(1, Part::Promise(J, &[A]))];
+
+const REFUSED_CLAIMS: [(Outcomes, Claim, Answer); 11] = [
+    ((&PROMISE, &JOINT), (&[], 0, G, 2, 9), Err(Refusal::NoAsset)),
+    ((&SHORT, &JOINT), (&[], 0, G, 0, 9), Err(Refusal::NoAsset)),
+    ((&PROMISE, &SHORT), (&[], 0, G, 0, 9), Err(Refusal::NoAsset)),
+    (
+        (&PROMISE, &PROMISE),
+        (&[], 0, G, 0, 9),
+        Err(Refusal::WrongKind),
+    ),
+    ((&JOINT, &JOINT), (&[], 0, G, 0, 9), Err(Refusal::WrongKind)),
+    (
+        (&PROMISE, &JOINT),
+        (&[], 0, G, 1, 9),
+        Err(Refusal::WrongKind),
+    ),
+    (
+        (&PROMISE, &JOINT),
+        (&[], 0, G, 0, 9),
+        Err(Refusal::WrongTarget),
+    ),
+    (
+        (&PROMISE, &JOINT),
+        (&[], 0, J, 0, 2),
+        Err(Refusal::NotListed),
+    ),
+    ((&PROMISE, &JOINT), (&[], 0, J, 0, 1), Err(Refusal::NoItem)),
+    (
+        (&PROMISE, &JOINT),
+        (&[], 0, J, 0, 0),
+        Err(Refusal::NothingDue(0)),
+    ),
+    ((&PROMISE, &JOINT), (&[], 3, J, 0, 0), Ok((A, 0, 3))),
+];
 
 #[test]
 fn claims_are_refused_in_order(rt: HostRuntime) -> Result<(), Fail> {
-    let alloc = rt.alloc();
-    let joint = allocation(alloc, 0, &[item(A, 4)])?;
-    let other = guarantee(alloc, 1, J, &[A])?;
-    let joint = both(alloc, joint, other)?;
-    let promise = guarantee(alloc, 0, J, &[A, B])?;
-    let also = guarantee(alloc, 1, J, &[A])?;
-    let promise = both(alloc, promise, also)?;
-    let short = guarantee(alloc, 1, J, &[A])?;
-    let short = only(alloc, short)?;
-    let paid = PaidItems::make(alloc);
-
-    assert_eq!(rt;
-        claim_due(&paid, 0, &promise, &G, &joint, 2, 9),
-        Err(Refusal::NoAsset)
-    );
-    assert_eq!(rt;
-        claim_due(&paid, 0, &short, &G, &joint, 0, 9),
-        Err(Refusal::NoAsset)
-    );
-    assert_eq!(rt;
-        claim_due(&paid, 0, &promise, &G, &short, 0, 9),
-        Err(Refusal::NoAsset)
-    );
-    assert_eq!(rt;
-        claim_due(&paid, 0, &promise, &G, &promise, 0, 9),
-        Err(Refusal::WrongKind)
-    );
-    assert_eq!(rt;
-        claim_due(&paid, 0, &joint, &G, &joint, 0, 9),
-        Err(Refusal::WrongKind)
-    );
-    assert_eq!(rt;
-        claim_due(&paid, 0, &promise, &G, &joint, 1, 9),
-        Err(Refusal::WrongKind)
-    );
-    assert_eq!(rt;
-        claim_due(&paid, 0, &promise, &G, &joint, 0, 9),
-        Err(Refusal::WrongTarget)
-    );
-    assert_eq!(rt;
-        claim_due(&paid, 0, &promise, &J, &joint, 0, 2),
-        Err(Refusal::NotListed)
-    );
-    assert_eq!(rt;
-        claim_due(&paid, 0, &promise, &J, &joint, 0, 1),
-        Err(Refusal::NoItem)
-    );
-    assert_eq!(rt;
-        claim_due(&paid, 0, &promise, &J, &joint, 0, 0),
-        Err(Refusal::NothingDue(0))
-    );
-    assert_eq!(rt;
-        claim_due(&paid, 3, &promise, &J, &joint, 0, 0),
-        due(A, 0, 3)
-    );
+    for (outcomes, claim, wanted) in REFUSED_CLAIMS {
+        assert_eq!(rt; claimed(rt.alloc(), &outcomes, &claim)?, (wanted, true));
+    }
     Ok(())
 }
 
+const LARGEST: Outcomes = (
+    &[(0, Part::Promise(J, &[B, A]))],
+    &[(0, Part::Items(&[(A, MOST - 1), (B, 1)]))],
+);
+
+const LARGEST_CLAIMS: [(Claim, Answer); 4] = [
+    ((&[], MOST, J, 0, 1), Ok((A, 0, MOST - 1))),
+    ((&[], MOST - 1, J, 0, 1), Ok((A, 0, MOST - 2))),
+    (
+        (&[(J, 0, 0, MOST - 1)], MOST, J, 0, 1),
+        Err(Refusal::NothingDue(MOST)),
+    ),
+    ((&[(J, 0, 0, MOST - 1)], MOST, J, 0, 0), Ok((B, 1, 1))),
+];
+
 #[test]
 fn claims_of_the_largest_amounts(rt: HostRuntime) -> Result<(), Fail> {
-    let alloc = rt.alloc();
-    let joint = allocation(alloc, 0, &[item(A, MOST - 1), item(B, 1)])?;
-    let joint = only(alloc, joint)?;
-    let promise = guarantee(alloc, 0, J, &[B, A])?;
-    let promise = only(alloc, promise)?;
-    let mut paid = PaidItems::make(alloc);
-    assert_eq!(rt;
-        claim_due(&paid, MOST, &promise, &J, &joint, 0, 1),
-        due(A, 0, MOST - 1)
-    );
-    assert_eq!(rt;
-        claim_due(&paid, MOST - 1, &promise, &J, &joint, 0, 1),
-        due(A, 0, MOST - 2)
-    );
-    assert!(rt; note(&mut paid, J, 0, 0, MOST - 1)?);
-    assert_eq!(rt;
-        claim_due(&paid, MOST, &promise, &J, &joint, 0, 1),
-        Err(Refusal::NothingDue(MOST))
-    );
-    assert_eq!(rt;
-        claim_due(&paid, MOST, &promise, &J, &joint, 0, 0),
-        due(B, 1, 1)
-    );
+    for (claim, wanted) in LARGEST_CLAIMS {
+        assert_eq!(rt; claimed(rt.alloc(), &LARGEST, &claim)?, (wanted, true));
+    }
     Ok(())
 }

@@ -3,6 +3,7 @@
 use asset_holdings::Holdings;
 use channel_calls::Refusal;
 use nitro_bytes::{Dest, Name, NoMemory};
+use std::alloc::Global;
 use std::test::Fail;
 
 const A: Name = [1; 32];
@@ -50,66 +51,75 @@ fn balances(holdings: &Holdings, asset: u32) -> [u64; 4] {
     ]
 }
 
-/// The answers to three deposits, of which the second expects what the first brought.
-fn three_deposits(holdings: &mut Holdings) -> Result<[Result<u64, Refusal>; 3], NoMemory> {
-    Ok([
-        deposit(holdings, C, 0, 0, 5)?,
-        deposit(holdings, C, 0, 5, 3)?,
-        deposit(holdings, D, 0, 0, 4)?,
-    ])
+/// What is asked, and the answer. All of it is of asset 0.
+#[derive(Clone, Copy)]
+enum Step {
+    /// A deposit into a channel: what it expects, and how much it brings.
+    Deposit(Name, u64, u64, Result<u64, Refusal>),
+    /// A payment out of C: to whom, how much, and whether C held as much.
+    Pay(Dest, u64, bool),
 }
+
+/// Whether the step is answered as it says.
+fn has_answered(holdings: &mut Holdings, step: &Step) -> Result<bool, NoMemory> {
+    match step {
+        Step::Deposit(channel, expected, amount, wanted) => {
+            let answer = deposit(holdings, *channel, 0, *expected, *amount)?;
+            Ok(answer == *wanted)
+        }
+        Step::Pay(to, amount, wanted) => {
+            let paid = pay(holdings, C, *to, 0, *amount)?;
+            Ok(paid == *wanted)
+        }
+    }
+}
+
+/// How many steps are answered as they say, and the balances of assets 0 and 1 then.
+fn played(alloc: Global, steps: &[Step]) -> Result<(usize, [u64; 4], [u64; 4]), NoMemory> {
+    let mut holdings = Holdings::make(alloc);
+    let mut count: usize = 0;
+    for one in steps {
+        if has_answered(&mut holdings, one)? {
+            count = count.saturating_add(1);
+        }
+    }
+    Ok((count, balances(&holdings, 0), balances(&holdings, 1)))
+}
+
+/// The second deposit expects what the first brought.
+const DEPOSITS: [Step; 3] = [
+    Step::Deposit(C, 0, 5, Ok(5)),
+    Step::Deposit(C, 5, 3, Ok(8)),
+    Step::Deposit(D, 0, 4, Ok(4)),
+];
+
+/// Deposits of nothing, of one that expects more than is held, and of more than there may be of an asset.
+const REFUSED: [Step; 4] = [
+    Step::Deposit(C, 9, 0, Err(Refusal::Zero)),
+    Step::Deposit(C, 1, 1, Err(Refusal::Underheld(0))),
+    Step::Deposit(C, 0, MOST - 1, Ok(MOST - 1)),
+    Step::Deposit(D, 0, 2, Err(Refusal::AssetFull(MOST - 1))),
+];
+
+/// C pays A, D and itself.
+const PAYMENTS: [Step; 4] = [
+    Step::Deposit(C, 0, 10, Ok(10)),
+    Step::Pay(Dest::Person(A), 3, true),
+    Step::Pay(Dest::Channel(D), 5, true),
+    Step::Pay(Dest::Channel(C), 2, true),
+];
+
+/// Steps, their count, and the balances of asset 0 then.
+const PLAYS: [(&[Step], usize, [u64; 4]); 3] = [
+    (&DEPOSITS, 3, [8, 4, 0, 12]),
+    (&REFUSED, 4, [MOST - 1, 0, 0, MOST - 1]),
+    (&PAYMENTS, 4, [2, 5, 3, 10]),
+];
 
 #[test]
-fn deposits_add_up(rt: HostRuntime) -> Result<(), Fail> {
-    let mut h = Holdings::make(rt.alloc());
-    assert_eq!(rt; three_deposits(&mut h)?, [Ok(5), Ok(8), Ok(4)]);
-    assert_eq!(rt; balances(&h, 0), [8, 4, 0, 12]);
-    assert_eq!(rt; balances(&h, 1), [0, 0, 0, 0]);
-    Ok(())
-}
-
-/// The answers to deposits of nothing, to one that expects more than is held, and to more than there may be of an asset.
-fn refused_deposits(holdings: &mut Holdings) -> Result<[Result<u64, Refusal>; 4], NoMemory> {
-    Ok([
-        deposit(holdings, C, 0, 9, 0)?,
-        deposit(holdings, C, 0, 1, 1)?,
-        deposit(holdings, C, 0, 0, MOST - 1)?,
-        deposit(holdings, D, 0, 0, 2)?,
-    ])
-}
-
-#[test]
-fn the_first_refusal_of_a_deposit(rt: HostRuntime) -> Result<(), Fail> {
-    let mut h = Holdings::make(rt.alloc());
-    let full = Err(Refusal::AssetFull(MOST - 1));
-    let answers = refused_deposits(&mut h)?;
-    assert_eq!(rt;
-        answers,
-        [
-            Err(Refusal::Zero),
-            Err(Refusal::Underheld(0)),
-            Ok(MOST - 1),
-            full
-        ]
-    );
-    assert_eq!(rt; balances(&h, 0), [MOST - 1, 0, 0, MOST - 1]);
-    Ok(())
-}
-
-/// Pays A and D out of C, and C to itself: whether each was held.
-fn three_payments(holdings: &mut Holdings) -> Result<[bool; 3], NoMemory> {
-    Ok([
-        pay(holdings, C, Dest::Person(A), 0, 3)?,
-        pay(holdings, C, Dest::Channel(D), 0, 5)?,
-        pay(holdings, C, Dest::Channel(C), 0, 2)?,
-    ])
-}
-
-#[test]
-fn funds_move_to_persons_and_channels(rt: HostRuntime) -> Result<(), Fail> {
-    let mut h = Holdings::make(rt.alloc());
-    assert_eq!(rt; deposit(&mut h, C, 0, 0, 10)?, Ok(10));
-    assert_eq!(rt; three_payments(&mut h)?, [true; 3]);
-    assert_eq!(rt; balances(&h, 0), [2, 5, 3, 10]);
+fn deposits_and_payments_move_funds(rt: HostRuntime) -> Result<(), Fail> {
+    for (steps, count, balances) in PLAYS {
+        assert_eq!(rt; played(rt.alloc(), steps)?, (count, balances, [0; 4]));
+    }
     Ok(())
 }

@@ -3,15 +3,13 @@
 use nitro_bytes::{Dest, Item};
 use outcome_alloc::{affordable, lower};
 
-fn person(name: u8) -> Dest {
-    Dest::Person([name; 32])
-}
+const MOST: u64 = u64::MAX;
 
 fn items(amounts: [u64; 3]) -> [Item; 3] {
     let [first, second, third] = amounts;
     [
         Item {
-            to: person(1),
+            to: Dest::Person([1; 32]),
             amount: first,
         },
         Item {
@@ -19,7 +17,7 @@ fn items(amounts: [u64; 3]) -> [Item; 3] {
             amount: second,
         },
         Item {
-            to: person(3),
+            to: Dest::Person([3; 32]),
             amount: third,
         },
     ]
@@ -35,36 +33,35 @@ fn afforded(amounts: [u64; 3], balance: u64) -> [u64; 3] {
     ]
 }
 
+/// The amounts of three items, a balance, and what each item is afforded of it.
+const AFFORDED: [([u64; 3], u64, [u64; 3]); 14] = [
+    ([5, 3, 2], 10, [5, 3, 2]),
+    ([5, 3, 2], 20, [5, 3, 2]),
+    ([5, 3, 2], 9, [5, 3, 1]),
+    ([5, 3, 2], 8, [5, 3, 0]),
+    ([5, 3, 2], 6, [5, 1, 0]),
+    ([5, 3, 2], 5, [5, 0, 0]),
+    ([5, 3, 2], 4, [4, 0, 0]),
+    ([5, 3, 2], 0, [0, 0, 0]),
+    // An item of nothing takes nothing.
+    ([0, 3, 2], 4, [0, 3, 1]),
+    ([0, 0, 2], 1, [0, 0, 1]),
+    // The largest amounts.
+    ([MOST, MOST, 1], MOST, [MOST, 0, 0]),
+    ([MOST - 1, 1, 1], MOST, [MOST - 1, 1, 0]),
+    ([0, MOST, 1], MOST, [0, MOST, 0]),
+    ([1, MOST, 1], MOST, [1, MOST - 1, 0]),
+];
+
 #[test]
 fn earlier_items_are_served_first(rt: HostRuntime) {
-    assert_eq!(rt; afforded([5, 3, 2], 10), [5, 3, 2]);
-    assert_eq!(rt; afforded([5, 3, 2], 20), [5, 3, 2]);
-    assert_eq!(rt; afforded([5, 3, 2], 9), [5, 3, 1]);
-    assert_eq!(rt; afforded([5, 3, 2], 8), [5, 3, 0]);
-    assert_eq!(rt; afforded([5, 3, 2], 6), [5, 1, 0]);
-    assert_eq!(rt; afforded([5, 3, 2], 5), [5, 0, 0]);
-    assert_eq!(rt; afforded([5, 3, 2], 4), [4, 0, 0]);
-    assert_eq!(rt; afforded([5, 3, 2], 0), [0, 0, 0]);
-}
-
-#[test]
-fn an_item_of_nothing_takes_nothing(rt: HostRuntime) {
-    assert_eq!(rt; afforded([0, 3, 2], 4), [0, 3, 1]);
-    assert_eq!(rt; afforded([0, 0, 2], 1), [0, 0, 1]);
-}
-
-#[test]
-fn the_largest_amounts(rt: HostRuntime) {
-    assert_eq!(rt;
-        afforded([u64::MAX, u64::MAX, 1], u64::MAX),
-        [u64::MAX, 0, 0]
-    );
-    assert_eq!(rt;
-        afforded([u64::MAX - 1, 1, 1], u64::MAX),
-        [u64::MAX - 1, 1, 0]
-    );
-    assert_eq!(rt; afforded([0, u64::MAX, 1], u64::MAX), [0, u64::MAX, 0]);
-    assert_eq!(rt; afforded([1, u64::MAX, 1], u64::MAX), [1, u64::MAX - 1, 0]);
+    for (amounts, balance, wanted) in AFFORDED {
+        assert_eq!(rt;
+            afforded(amounts, balance),
+            wanted,
+            "{amounts:?} of {balance}"
+        );
+    }
 }
 
 /// The items after one of them is lowered, unless that is more than it has.
@@ -76,11 +73,18 @@ fn lowered(mut items: [Item; 3], index: usize, amount: u64) -> Option<[Item; 3]>
     Some(items)
 }
 
+/// Which item is lowered, by how much, and the amounts then.
+const LOWERED: [(usize, u64, [u64; 3]); 4] = [
+    (1, 1, [5, MOST - 1, 2]),
+    (1, MOST, [5, 0, 2]),
+    (0, 0, [5, MOST, 2]),
+    (2, 2, [5, MOST, 0]),
+];
+
 #[test]
 fn one_item_falls_and_the_others_stay(rt: HostRuntime) {
-    let some = items([5, u64::MAX, 2]);
-    assert_eq!(rt; lowered(some, 1, 1), Some(items([5, u64::MAX - 1, 2])));
-    assert_eq!(rt; lowered(some, 1, u64::MAX), Some(items([5, 0, 2])));
-    assert_eq!(rt; lowered(some, 0, 0), Some(some));
-    assert_eq!(rt; lowered(some, 2, 2), Some(items([5, u64::MAX, 0])));
+    for (index, amount, amounts) in LOWERED {
+        let items_then = lowered(items([5, MOST, 2]), index, amount);
+        assert_eq!(rt; items_then, Some(items(amounts)), "{index} by {amount}");
+    }
 }

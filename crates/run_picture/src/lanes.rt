@@ -133,17 +133,6 @@ fn fits(text: &str, width: u64) -> bool {
     plus((text.len() as u64).saturating_mul(6), 8) < width
 }
 
-/// The first of the texts that fits.
-fn fitting<'a>(texts: [&'a str; 2], width: u64) -> Option<&'a str> {
-    if fits(texts[0], width) {
-        Some(texts[0])
-    } else if fits(texts[1], width) {
-        Some(texts[1])
-    } else {
-        None
-    }
-}
-
 fn draw_band(
     sketch: &mut Sketch,
     frame: Frame,
@@ -153,17 +142,24 @@ fn draw_band(
     let from = frame.middle(band.from);
     let to = frame.middle(band.to).min(RIGHT);
     let text = band_text(sketch, band)?;
-    let turn = turn_text(sketch, band)?;
+    let title = format!(in sketch.alloc(); "{text}")?;
     let look = look_of(band.standing.mode);
-    let corners = ((from, lane.band.0), (to, lane.band.1));
-    sketch.bar(look, corners.0, corners.1, text.as_bytes())?;
-    match fitting([text.as_str(), turn.as_str()], minus(to, from)) {
-        None => Ok(()),
-        Some(text) => {
-            let at = (plus(from, 4), plus(lane.band.0, 11));
-            sketch.text(Look::Plain, at, Runs::Right, &[text.as_bytes()])
-        }
+    sketch.bar(
+        look,
+        (from, lane.band.0),
+        (to, lane.band.1),
+        title.as_bytes(),
+    )?;
+    let at = (plus(from, 4), plus(lane.band.0, 11));
+    let width = minus(to, from);
+    if fits(text.as_str(), width) {
+        return sketch.text(Look::Plain, at, Runs::Right, &[text.as_bytes()]);
     }
+    let turn = turn_text(sketch, band)?;
+    if fits(turn.as_str(), width) {
+        return sketch.text(Look::Plain, at, Runs::Right, &[turn.as_bytes()]);
+    }
+    Ok(())
 }
 
 fn draw_bands(

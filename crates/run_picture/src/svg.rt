@@ -10,13 +10,6 @@ fn put(out: &mut Vec<u8>, text: &str) -> Result<(), AllocError> {
     Ok(())
 }
 
-fn put_all(out: &mut Vec<u8>, pieces: &[&str]) -> Result<(), AllocError> {
-    for piece in pieces {
-        out.extend_from_slice(piece.as_bytes())?;
-    }
-    Ok(())
-}
-
 /// The colour of a caller: the script has its own.
 fn colour_of(by: u64) -> u64 {
     match by {
@@ -25,12 +18,29 @@ fn colour_of(by: u64) -> u64 {
     }
 }
 
-/// The class of a look, but for its colour and its fill.
-fn class_of(look: Look) -> &'static str {
-    match look {
-        Look::Mark { .. } => "mark",
-        Look::InMark(_) => "in",
-        Look::Held(_) | Look::Paid(_) => "layer",
+fn put_class(alloc: Global, out: &mut Vec<u8>, look: Look) -> Result<(), AllocError> {
+    let name = match look {
+        Look::Mark { by, fill } => {
+            let colour = colour_of(by);
+            let fill = fill.name();
+            let class = format!(in alloc; "mark k{colour} {fill}")?;
+            return put(out, class.as_str());
+        }
+        Look::InMark(fill) => {
+            let fill = fill.name();
+            let class = format!(in alloc; "in {fill}")?;
+            return put(out, class.as_str());
+        }
+        Look::Held(layer) => {
+            let colour = layer % 4;
+            let class = format!(in alloc; "layer h{colour}")?;
+            return put(out, class.as_str());
+        }
+        Look::Paid(layer) => {
+            let colour = layer % 4;
+            let class = format!(in alloc; "layer p{colour}")?;
+            return put(out, class.as_str());
+        }
         Look::Plain => "plain",
         Look::Heading => "heading",
         Look::Word => "word",
@@ -45,31 +55,8 @@ fn class_of(look: Look) -> &'static str {
         Look::Arrow => "arrow",
         Look::ArrowUntold => "arrow untold",
         Look::Untold => "layer untold",
-    }
-}
-
-/// The classes of the colour and the fill of a look.
-fn colours_of(alloc: Global, look: Look) -> Result<String, AllocError> {
-    match look {
-        Look::Mark { by, fill } => {
-            let colour = colour_of(by);
-            let fill = fill.name();
-            format!(in alloc; " k{colour} {fill}")
-        }
-        Look::InMark(fill) => {
-            let fill = fill.name();
-            format!(in alloc; " {fill}")
-        }
-        Look::Held(layer) => {
-            let colour = layer % 4;
-            format!(in alloc; " h{colour}")
-        }
-        Look::Paid(layer) => {
-            let colour = layer % 4;
-            format!(in alloc; " p{colour}")
-        }
-        _ => Ok(String::new(alloc)),
-    }
+    };
+    put(out, name)
 }
 
 fn tag_of(form: &Form) -> &'static str {
@@ -103,32 +90,24 @@ fn run_text(alloc: Global, x: u64, y: u64, run: Run) -> Result<String, AllocErro
     }
 }
 
-/// The attributes that say where a form is, but for an area's.
-fn attributes_of(alloc: Global, form: &Form) -> Result<String, AllocError> {
-    match form {
+fn put_attributes(alloc: Global, out: &mut Vec<u8>, form: &Form) -> Result<(), AllocError> {
+    let text = match form {
         Form::Line { x, y, to_x, to_y } => {
-            format!(in alloc; " x1=\"{x}\" y1=\"{y}\" x2=\"{to_x}\" y2=\"{to_y}\"")
+            format!(in alloc; " x1=\"{x}\" y1=\"{y}\" x2=\"{to_x}\" y2=\"{to_y}\"")?
         }
         Form::Bar {
             x,
             y,
             width,
             height,
-        } => format!(in alloc; " x=\"{x}\" y=\"{y}\" width=\"{width}\" height=\"{height}\""),
-        Form::Dot { x, y, radius } => format!(in alloc; " cx=\"{x}\" cy=\"{y}\" r=\"{radius}\""),
-        Form::Area(_) => Ok(String::new(alloc)),
+        } => format!(in alloc; " x=\"{x}\" y=\"{y}\" width=\"{width}\" height=\"{height}\"")?,
+        Form::Dot { x, y, radius } => format!(in alloc; " cx=\"{x}\" cy=\"{y}\" r=\"{radius}\"")?,
+        Form::Area(points) => return put_points(alloc, out, points),
         Form::Text { x, y, run, .. } => {
             let run = run_text(alloc, *x, *y, *run)?;
-            format!(in alloc; " x=\"{x}\" y=\"{y}\"{run}")
+            format!(in alloc; " x=\"{x}\" y=\"{y}\"{run}")?
         }
-    }
-}
-
-fn put_attributes(alloc: Global, out: &mut Vec<u8>, form: &Form) -> Result<(), AllocError> {
-    if let Form::Area(points) = form {
-        return put_points(alloc, out, points);
-    }
-    let text = attributes_of(alloc, form)?;
+    };
     put(out, text.as_str())
 }
 
@@ -141,56 +120,23 @@ fn put_title(out: &mut Vec<u8>, title: &[u8]) -> Result<(), AllocError> {
     put(out, "</title>")
 }
 
-/// `<TAG class=".." ..>`
-fn put_opening(
-    alloc: Global,
-    out: &mut Vec<u8>,
-    tag: &str,
-    shape: &Shape,
-) -> Result<(), AllocError> {
-    let colours = colours_of(alloc, shape.look)?;
-    let class = class_of(shape.look);
-    put_all(out, &["<", tag, " class=\"", class, colours.as_str(), "\""])?;
-    put_attributes(alloc, out, &shape.form)?;
-    put(out, ">")
-}
-
-fn put_words(out: &mut Vec<u8>, form: &Form) -> Result<(), AllocError> {
-    match form {
-        Form::Text { text, .. } => escape(out, text),
-        Form::Line { .. } | Form::Bar { .. } | Form::Dot { .. } | Form::Area(_) => Ok(()),
-    }
-}
-
 /// `<TAG class=".." ..><title>..</title>..</TAG>`
 fn put_shape(alloc: Global, out: &mut Vec<u8>, shape: &Shape) -> Result<(), AllocError> {
     let tag = tag_of(&shape.form);
-    put_opening(alloc, out, tag, shape)?;
+    put(out, "<")?;
+    put(out, tag)?;
+    put(out, " class=\"")?;
+    put_class(alloc, out, shape.look)?;
+    put(out, "\"")?;
+    put_attributes(alloc, out, &shape.form)?;
+    put(out, ">")?;
     put_title(out, &shape.title)?;
-    put_words(out, &shape.form)?;
-    put_all(out, &["</", tag, ">\n"])
-}
-
-fn put_shapes(alloc: Global, out: &mut Vec<u8>, shapes: &[Shape]) -> Result<(), AllocError> {
-    for shape in shapes {
-        put_shape(alloc, out, shape)?;
+    if let Form::Text { text, .. } = &shape.form {
+        escape(out, text)?;
     }
-    put(out, "</svg>\n")
-}
-
-fn put_head(
-    alloc: Global,
-    out: &mut Vec<u8>,
-    width: u64,
-    height: u64,
-    title: &[u8],
-) -> Result<(), AllocError> {
-    let size = format!(in alloc;
-        " width=\"{width}\" height=\"{height}\" viewBox=\"0 0 {width} {height}\">\n"
-    )?;
-    put_all(out, &[HEAD, size.as_str()])?;
-    put_title(out, title)?;
-    put(out, STYLE)
+    put(out, "</")?;
+    put(out, tag)?;
+    put(out, ">\n")
 }
 
 /// The picture of shapes, of this width and height; `title` is what it shows.
@@ -202,7 +148,16 @@ pub fn svg_of(
     title: &[u8],
 ) -> Result<Vec<u8>, AllocError> {
     let mut out = Vec::new(alloc);
-    put_head(alloc, &mut out, width, height, title)?;
-    put_shapes(alloc, &mut out, shapes)?;
+    let size = format!(in alloc;
+        " width=\"{width}\" height=\"{height}\" viewBox=\"0 0 {width} {height}\">\n"
+    )?;
+    put(&mut out, HEAD)?;
+    put(&mut out, size.as_str())?;
+    put_title(&mut out, title)?;
+    put(&mut out, STYLE)?;
+    for shape in shapes {
+        put_shape(alloc, &mut out, shape)?;
+    }
+    put(&mut out, "</svg>\n")?;
     Ok(out)
 }

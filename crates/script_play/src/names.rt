@@ -255,7 +255,7 @@ impl Names {
     }
 
     /// Declares a person. The signer goes to its node, which has watchers, or else is its hand.
-    #[tactic(auto, unfolding(script_reader::specs::Digests::key_of))]
+    #[tactic(auto, unfolding(script_rules::specs::Digests::key_of))]
     pub(crate) fn person(
         &mut self,
         signer: Signer,

@@ -58,7 +58,8 @@ fn signed(alloc: Global, seed: u8, message: &[u8]) -> Result<Vec<u8>> {
 /// A mark on the first state: its place, and the signature behind its length.
 fn put_mark(out: &mut Vec<u8>, signature: &[u8]) -> Result<(), AllocError> {
     out.push(0)?;
-    out.extend_from_slice(&(signature.len() as u16).to_be_bytes())?;
+    let len = signature.len().min(65535) as u16;
+    out.extend_from_slice(&len.to_be_bytes())?;
     out.extend_from_slice(signature)?;
     Ok(())
 }

@@ -108,7 +108,9 @@ impl Pair {
     pub(super) fn fixed(&self) -> Result<Fixed, Fail>
         ensures { IfOk result (λ f. people f ≡ 2) }
     {
-        let keys = vec![in self.alloc; self.keys[0], self.keys[1]]?;
+        let mut keys = Vec::new(self.alloc);
+        keys.push(self.keys[0])?;
+        keys.push(self.keys[1])?;
         Ok(Fixed::make(self.alloc, keys, self.nonce, 1, 10)?)
     }
 

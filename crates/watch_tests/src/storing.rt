@@ -127,7 +127,10 @@ impl People {
     fn takes(&mut self, store: &mut Store, first: u64, last: u64) -> Result<bool, Fail> {
         let mut takes = true;
         for turn in first..=last {
-            let way = [Way::Own, Way::Brought][(turn % 2) as usize];
+            let way = match turn % 2 {
+                0 => Way::Own,
+                _ => Way::Brought,
+            };
             takes &= self.note(store, way, at(turn))? == Ok(());
         }
         Ok(takes)
@@ -187,7 +190,8 @@ fn is_told(people: &People, store: &Store, case: Case) -> bool {
         Case::Kept(counts) => kept(store, channel) == counts,
         Case::StrayKept(counts) => kept(store, &STRAY) == counts,
         Case::Place(me, next, count) => {
-            placed(store, &person_name(&people.pair.keys[1])) == Some((me, next, count))
+            let second = &people.pair.keys[1];
+            placed(store, &person_name(second)) == Some((me, next, count))
         }
         _ => false,
     }

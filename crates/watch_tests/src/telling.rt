@@ -84,8 +84,8 @@ fn timely(alloc: Global, time: u64, list: &[Did]) -> Result<bool, Fail> {
     Ok(in_time(alloc, &history, &journals, &person_name(&pair.keys[0]))?)
 }
 
-/// The time at entry 2, what the first person did, and whether its looks are then in time: after what was signed, at the
-/// challenge, and before its end. Nothing is asked of a challenge that is still open.
+/// The time at entry 2, what the first person did, and whether its looks are then in time: after what was signed, at
+/// the challenge, and before its end. Nothing is asked of a challenge that is still open.
 const TIMELY: [(u64, &[Did], bool); 6] = [
     (10, &[], true),
     (10, &[Did::Look(1), Did::Sign(0)], false),
@@ -165,8 +165,9 @@ fn signatures_outside_of_the_journal_are_told(rt: HostRuntime) -> Result<(), Fai
 }
 
 /// The bytes of a message with a state that the signer signed.
-fn message_of(pair: &Pair, signer: &mut Signer) -> Result<Vec<u8>, Fail> {
+fn message_of(rt: &impl Abort, pair: &Pair, signer: &mut Signer) -> Result<Vec<u8>, Fail> {
     let signed = pair.signed_by(signer, at(1))?;
+    assert!(rt; signed.signature.as_slice().len() <= 9004);
     let mut bytes = Vec::new(pair.alloc);
     write_message(&pair.channel()?, &signed, &mut bytes)?;
     Ok(bytes)
@@ -177,7 +178,7 @@ fn message_of(pair: &Pair, signer: &mut Signer) -> Result<Vec<u8>, Fail> {
 fn messages_with_own_signatures_come_after_them(rt: HostRuntime) -> Result<(), Fail> {
     let mut signer = Signer::make(rt.alloc(), [1; 32], [1; 16], 5)?;
     let pair = pair_with(&signer, rt.alloc());
-    let bytes = message_of(&pair, &mut signer)?;
+    let bytes = message_of(&rt, &pair, &mut signer)?;
     let message = Did::Take(&bytes);
     for (list, wanted) in [
         ([Did::Sign(0), message], true),
