@@ -1,9 +1,8 @@
 -- A participant that leaves fairly can exit wherever its channels are final.
 use Rattle.std.proofs.Common.{◌≡◌, ◌≢◌, ℕ, ◌≤◌, Bool, true, false, List, [], ◌∷◌, ◌++◌, refl, sym, ◌∙◌, ap, subst, arith}
-use Rattle.std.specs.Prelude.{Option, Some, None, flat_map}
+use Rattle.std.specs.Prelude.{Option, Some, None}
 use Rattle.std.specs.List.{AllByRecursion}
 use Rattle.std.specs.Option.{option_map}
-use Rattle.std.proofs.lemmas.List.{append_assoc}
 use Rattle.nitro_bytes.specs.declared.value.AssetOutcome.{AssetOutcome}
 use Rattle.nitro_bytes.specs.declared.value.Shape.{Shape}
 use Rattle.nitro_bytes.specs.declared.value.Shape.TheVariants.{Allocation, Guarantee}
@@ -16,19 +15,17 @@ use Rattle.share_model.specs.Books.{Counting, outcome_in, counts_in}
 use Rattle.funding_value.specs.Shapes.{items_of, items_in}
 use Rattle.funding_value.specs.Parts.{own_guarantor}
 use Rattle.share_model.specs.Places.{plan, counting, share}
-use Rattle.nitro_bytes.specs.Outcomes.{AreApart}
 use Rattle.share_laws.specs.Signed.{IsNoPayment, HasSigned}
 use Rattle.share_laws.proofs.Counted.{Outcome, silent, such}
-use Rattle.share_laws.proofs.Fair.{whole-plan, fair_sound, all-left, fair_kept}
+use Rattle.share_laws.proofs.Fair.{whole-plan, front-plan, fair_sound, all-left, fair_kept}
 use Rattle.share_laws.proofs.Lasting.{shares_last}
 use Rattle.channel_calls.specs.History.{paid_to}
 use Rattle.share_laws.proofs.Guaranteed.{signed_such}
-use Rattle.share_model.proofs.Apart.{apart-front}
-use Rattle.exit_script.specs.Calls.{exits}
-use Rattle.exit_laws.specs.Exits.{IsApartFromGuarantors, IsBackedBy, IsBacked}
+use Rattle.exit_laws.specs.Exits.{IsBackedBy, IsBacked}
 use Rattle.exit_laws.specs.Fair.{Signs, HasAsset, HasNoOther, SignsInAsset, FairExitsPay, FairLeaversArePaid}
+use Rattle.exit_laws.proofs.Plans.{exits-apart, apart-from-guarantors, all-on-roots}
 use Rattle.exit_laws.proofs.Whole.{exits_pay}
-use Rattle.std.specs.Str.{bytes_eq}
+use Rattle.signing_laws.specs.Plans.{IsPlan}
 
 -- ---- both stay when items are paid
 
@@ -60,10 +57,6 @@ backed-by xs asset g j hg hj other counts none = go_g (counts_in xs g) (outcome_
     go_g false x silent c e = cc
     go_g true x (such k) c e = go_j (counts_in xs j) (outcome_in xs [] j) hj (λ same. k (subst (λ (n : ℕ). shape_in x n ≡ None) same e))
 
-exits-append : (ps qs : List Part) → flat_map exits (ps ++ qs) ≡ flat_map exits ps ++ flat_map exits qs
-exits-append [] qs = refl
-exits-append (p ∷ ps) qs = ap (λ (ns : List (List ℕ)). exits p ++ ns) (exits-append ps qs) ∙ sym (append_assoc (exits p) (flat_map exits ps) (flat_map exits qs))
-
 all-both : {X : Type 0} (P Q R : X → Type 0) → ((x : X) → P x → Q x → R x) → (xs : List X) → AllByRecursion P xs → AllByRecursion Q xs → AllByRecursion R xs
 all-both P Q R f [] h k = tt
 all-both P Q R f (x ∷ xs) h k = (f x h.0 k.0, all-both P Q R f xs h.1 k.1)
@@ -72,10 +65,9 @@ pub fair_exits : FairExitsPay
 fair_exits r key me orders h journal keeps possibly legal honest unforged distinct valid in_time fair past later front place is final stood =
     (exits_pay r me orders h journal legal distinct).pays past later front place is (record {
       sound = fair_sound r key me orders h journal keeps possibly legal honest unforged distinct valid in_time fair.plans past front place;
-      apart = apart-front (flat_map exits (plan orders front)) (flat_map exits w.0)
-          (subst (λ (ns : List (List ℕ)). AreApart bytes_eq ns) (ap (flat_map exits) w.1 ∙ exits-append (plan orders front) w.0) fair.apart);
-      channels = all-left IsApartFromGuarantors (plan orders front) w.0 (subst (λ (ps : List Part). AllByRecursion IsApartFromGuarantors ps) w.1 fair.channels);
-      on_roots = fair.on_roots past front place;
+      apart = exits-apart (plan orders front) whole;
+      channels = apart-from-guarantors (plan orders front) whole;
+      on_roots = all-on-roots (plan orders front) whole;
       backed = all-both (SignsInAsset r journal) (HasSigned r me journal) (IsBacked (counting r past front)) backed (plan orders front)
           (all-left (SignsInAsset r journal) (plan orders front) w.0 (subst (λ (ps : List Part). AllByRecursion (SignsInAsset r journal) ps) w.1 fair.assets))
           (all-left (HasSigned r me journal) (plan orders front) w.0 (subst (λ (ps : List Part). AllByRecursion (HasSigned r me journal) ps) w.1 fair.plans.guarantors));
@@ -84,6 +76,9 @@ fair_exits r key me orders h journal keeps possibly legal honest unforged distin
   where
     w : (qs : List Part) × (plan orders journal ≡ plan orders front ++ qs)
     w = whole-plan orders h journal past front place
+
+    whole : IsPlan (plan orders front)
+    whole = front-plan orders h journal fair.plans.whole past front place
 
     one : (asset : ℕ) (g j : List ℕ) → Signs journal g (HasAsset asset) → IsNoPayment r journal g → Signs journal j (HasNoOther asset) → IsNoPayment r journal j → IsBackedBy (counting r past front) g j
     one asset g j sg ng sj nj =

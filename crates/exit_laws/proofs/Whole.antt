@@ -46,7 +46,8 @@ use Rattle.history_laws.proofs.Settled.{final-told}
 use Rattle.share_laws.proofs.Fewer.{fewer}
 use Rattle.share_laws.proofs.Finals.{final-is}
 use Rattle.exit_script.specs.Calls.{items_ended, exit_calls}
-use Rattle.exit_laws.specs.Exits.{ended, Stand, IsOnRoots, IsApartFromGuarantors, IsBackedBy, IsBacked, CanExit, ExitPaysShare}
+use Rattle.exit_laws.specs.Endings.{ended, Stand}
+use Rattle.exit_laws.specs.Exits.{IsOnRoots, IsApartFromGuarantors, IsBackedBy, IsBacked, CanExit, ExitPaysShare}
 use Rattle.exit_laws.proofs.Answered.{transfer-answered, claim-answered, has-less}
 use Rattle.exit_laws.proofs.Edges.{Edge, moving, claiming, left, IsBare, AllListed, Run, ends}
 use Rattle.exit_laws.proofs.Frozen.{counted, counting-counted, Counted, counted-in, Lasts, IsOk, ok-older, still-seen, lasting, steps-at, names-stay, lists-stay}

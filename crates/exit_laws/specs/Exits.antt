@@ -1,13 +1,10 @@
 -- The exit pays the share: once its calls stand in a history, whatever else does and whatever they were answered.
-use Rattle.std.specs.Prelude.{◌≡◌, ℕ, ◌≤◌, true, false, List, [], ◌∷◌, ◌++◌, ◌⊎◌, reverse, None, if◌then◌else◌}
+use Rattle.std.specs.Prelude.{◌≡◌, ℕ, ◌≤◌, true, false, List, [], ◌++◌, reverse, None}
 use Rattle.std.specs.List.{AllByRecursion, flat_map}
 use Rattle.std.specs.Str.{bytes_eq}
-use Rattle.deadline_clock.specs.Mode.{is_final}
 use Rattle.channel_model.specs.Rules.{Rules}
 use Rattle.channel_calls.specs.Dues.{shape_in}
-use Rattle.channel_calls.specs.History.{Legal, mode, settled, paid_to}
-use Rattle.channel_calls.specs.declared.call.Call.{Call}
-use Rattle.channel_calls.specs.declared.call.Op.TheVariants as ops
+use Rattle.channel_calls.specs.History.{Legal, paid_to}
 use Rattle.channel_calls.specs.declared.entry.Entry.{Entry}
 use Rattle.net_model.specs.Journals.{In, Line}
 use Rattle.funding_value.specs.declared.plan.Part.{Part}
@@ -18,18 +15,9 @@ use Rattle.share_model.specs.Places.{Order, plan, counting, share, IsPlace}
 use Rattle.net_model.specs.Premises.{NoCollision}
 use Rattle.nitro_bytes.specs.Outcomes.{AreApart}
 use Rattle.share_laws.specs.Sound.{IsSound}
-use Rattle.exit_script.specs.Calls.{Ended, exits, exit_calls}
+use Rattle.exit_script.specs.Calls.{exits, exit_calls}
+use Rattle.exit_laws.specs.Endings.{ended, AreFinal, Stand}
 use Rattle.funding_value.specs.Shapes.{items_in}
-
--- what a final channel ended with
-abbrev pub ended : Rules → List Entry → Ended
-ended r past channel = if is_final (mode r channel past) then settled r channel past else None
-
--- calls stand in entries, in their order, with any entries between; both lists have the newest first
-abbrev pub Stand : List Call → List Entry → Type 0
-Stand [] later = Unit {0}
-Stand (call ∷ calls) [] = ⊥
-Stand (call ∷ calls) (e ∷ later) = ((e.op ≡ ops.Call call) × Stand calls later) ⊎ Stand (call ∷ calls) later
 
 -- the ledgers of a part are roots of the plan
 abbrev pub IsOnRoots : List Part → Part → Type 0
@@ -66,8 +54,7 @@ pub record CanExit (r : Rules) (me : List ℕ) (orders : ℕ → Order) (past : 
   pub channels : AllByRecursion IsApartFromGuarantors (plan orders front)
   pub on_roots : AllByRecursion (IsOnRoots (plan orders front)) (plan orders front)
   pub backed : AllByRecursion (IsBacked (counting r past front)) (plan orders front)
-  pub final :
-      (channel : List ℕ) → counts_in (counting r past front) channel ≡ true → is_final (mode r channel past) ≡ true
+  pub final : AreFinal r past front
 
 -- Where the person me can exit at a place, and the calls of its exit stand after it, it was paid at least its share
 -- there.

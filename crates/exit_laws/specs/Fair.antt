@@ -1,29 +1,25 @@
 -- An honest participant that plans fairly can leave: what it signed stands in for what its channels end with.
-use Rattle.std.specs.Prelude.{◌≡◌, ◌≢◌, ℕ, ◌≤◌, true, List, [], ◌++◌, Some, None, reverse}
-use Rattle.std.specs.List.{AllByRecursion, flat_map}
+use Rattle.std.specs.Prelude.{◌≡◌, ◌≢◌, ℕ, ◌≤◌, List, [], ◌++◌, Some, None, reverse}
+use Rattle.std.specs.List.{AllByRecursion}
 use Rattle.nitro_bytes.specs.declared.chain.Signed.{Signed}
 use Rattle.nitro_bytes.specs.declared.value.AssetOutcome.{AssetOutcome}
-use Rattle.deadline_clock.specs.Mode.{is_final}
 use Rattle.channel_model.specs.Rules.{Rules, KeepsFinal}
 use Rattle.channel_calls.specs.Dues.{shape_in}
-use Rattle.channel_calls.specs.History.{Legal, mode, paid_to}
+use Rattle.channel_calls.specs.History.{Legal, paid_to}
 use Rattle.channel_calls.specs.declared.entry.Entry.{Entry}
 use Rattle.net_model.specs.Journals.{In, Line, made_in}
 use Rattle.net_model.specs.Honest.{Honest}
 use Rattle.net_model.specs.Premises.{Unforged, NoCollision, AreValid, InTime}
 use Rattle.funding_value.specs.declared.plan.Part.{Part}
 use Rattle.funding_value.specs.declared.plan.Part.TheVariants.{Root, OnLedger, End, Middle}
-use Rattle.share_model.specs.Books.{counts_in}
 use Rattle.funding_value.specs.Parts.{own_guarantor}
-use Rattle.share_model.specs.Places.{Order, plan, counting, outcomes_of, share, IsPlace}
+use Rattle.share_model.specs.Places.{Order, plan, outcomes_of, share, IsPlace}
 use Rattle.share_laws.specs.Finality.{StepsKeepPossible}
-use Rattle.nitro_bytes.specs.Outcomes.{AreApart}
 use Rattle.share_laws.specs.Signed.{IsNoPayment, PlansFairly}
 use Rattle.funding_value.specs.Shapes.{items_in}
-use Rattle.share_laws.specs.Lasting.{AreInOrder, SignNothing}
-use Rattle.exit_script.specs.Calls.{exits, exit_calls}
-use Rattle.exit_laws.specs.Exits.{ended, Stand, IsOnRoots, IsApartFromGuarantors}
-use Rattle.std.specs.Str.{bytes_eq}
+use Rattle.share_laws.specs.Lines.{AreInOrder, SignNothing}
+use Rattle.exit_script.specs.Calls.{exit_calls}
+use Rattle.exit_laws.specs.Endings.{ended, AreFinal, Stand}
 
 -- each state that the person signed in the channel has such outcomes alone
 abbrev pub Signs : List Line → List ℕ → (List AssetOutcome → Type 0) → Type 0
@@ -49,23 +45,11 @@ SignsInAsset r journal (Middle v) =
     × (Signs journal v.joint (HasNoOther v.asset)
     × (Signs journal v.guarantor_a (HasAsset v.asset) × Signs journal v.guarantor_b (HasAsset v.asset)))
 
--- What a person keeps that can always leave: it plans fairly; no channel pays in two parts' exits, and no virtual
--- channel is a guarantor of its own; its virtual channels are of one asset; and each ledger was a root before a part
--- stood on it.
+-- What a person keeps that can always leave: it plans fairly, and its virtual channels are of one asset.
 pub record LeavesFairly (r : Rules) (me : List ℕ) (orders : ℕ → Order) (h : List Entry)
     (journal : List Line) : Type 0 where
   pub plans : PlansFairly r me orders h journal
-  pub apart : AreApart bytes_eq (flat_map exits (plan orders journal))
-  pub channels : AllByRecursion IsApartFromGuarantors (plan orders journal)
   pub assets : AllByRecursion (SignsInAsset r journal) (plan orders journal)
-  pub on_roots :
-      (past : List Entry) (front : List Line) → IsPlace h journal past front
-      → AllByRecursion (IsOnRoots (plan orders front)) (plan orders front)
-
--- each channel that counts at a place is final
-abbrev pub AreFinal : Rules → List Entry → List Line → Type 0
-AreFinal r past front =
-    (channel : List ℕ) → counts_in (counting r past front) channel ≡ true → is_final (mode r channel past) ≡ true
 
 -- Such an honest participant, whose watchers are in time, is paid at least its share once its channels are final and
 -- the calls of its exit stand.

@@ -19,7 +19,7 @@ use Rattle.channel_calls.specs.declared.event.Deed.{Deed}
 use Rattle.channel_calls.specs.declared.event.Deed.TheVariants as deeds
 use Rattle.channel_calls.proofs.Names.{same_bytes}
 use Rattle.net_model.specs.Hashed.{of_fixed, of_deed, of_message, of_line, of_entry, hashed}
-use Rattle.net_model.specs.Journals.{In, Line, some_if, made_in, told_in, noted_in}
+use Rattle.net_model.specs.Journals.{In, Line, opened, some_if, made_in, told_in, noted_in}
 use Rattle.net_model.specs.Strings.{signed_of}
 use Rattle.net_model.proofs.Members.{In-append_right, In-flat_map, contains}
 use Rattle.chain_laws.proofs.Tests.{some-eq, none-eq}
@@ -77,4 +77,4 @@ noted_tell r h journal by valid none f channel x y s t i noted j made same =
         contains (state_string c (state u.state)) (hashed h journal)
         (In-append_right (state_string c (state u.state)) (flat_map of_entry h) (flat_map of_line journal)
         (In-flat_map of_line (state_string c (state u.state)) z journal i
-        (In-append_right (state_string c (state u.state)) (flat_map of_fixed z.adds) (of_deed z.deed) (noted-string c z.deed u e))))
+        (In-append_right (state_string c (state u.state)) (flat_map of_fixed (opened z)) (of_deed z.deed) (noted-string c z.deed u e))))

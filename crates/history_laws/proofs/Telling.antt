@@ -1,5 +1,5 @@
 -- Where names and digests are hashes and no two strings have one, names tell fixed parts, and digests states and outcomes.
-use Rattle.std.proofs.Common.{◌≡◌, ℕ, Bool, true, false, cond, List, [], ◌⊎◌, inl, inr, length, refl, sym, ap, subst, ◌∙◌}
+use Rattle.std.proofs.Common.{◌≡◌, ℕ, List, [], ◌⊎◌, inl, inr, length, refl, sym, ap, subst, ◌∙◌}
 use Rattle.std.specs.Prelude.{Option, Some, map, flat_map}
 use Rattle.nitro_bytes.specs.Parts.{FixedParts, StateParts, IsState}
 use Rattle.nitro_bytes.specs.Spelling.{fixed, state, outcome}
@@ -18,7 +18,7 @@ use Rattle.channel_calls.specs.declared.call.Op.TheVariants as ops
 use Rattle.channel_calls.specs.declared.entry.Entry.{Entry}
 use Rattle.channel_calls.specs.declared.event.Deed.{Deed}
 use Rattle.channel_calls.specs.declared.event.Deed.TheVariants as deeds
-use Rattle.net_model.specs.Journals.{In, Line, is_followed, opened}
+use Rattle.net_model.specs.Journals.{In, Line, opened}
 use Rattle.net_model.specs.Strings.{states_in, given_in, outcomes_in, signed_of}
 use Rattle.net_model.specs.Hashed.{of_fixed, of_outcome, of_state, of_states, of_op, of_entry, of_deed, of_line, hashed}
 use Rattle.net_model.specs.Premises.{OccursFixed, OccursState, OccursOutcome, in_call, in_line, AreValid}
@@ -37,13 +37,6 @@ in-entry h journal e b i j = In-append_left b (flat_map of_entry h) (flat_map of
 in-journal : (h : List Entry) (journal : List Line) (x : Line) (b : List ℕ) → In x journal → In b (of_line x) → In b (hashed h journal)
 in-journal h journal x b i j = In-append_right b (flat_map of_entry h) (flat_map of_line journal) (In-flat_map of_line b x journal i j)
 
-added : (x : Line) (f : FixedParts) → In f (opened x) → In f x.adds
-added x f i = go (is_followed x.deed) i
-  where
-    go : (b : Bool) → In f (cond b x.adds []) → In f x.adds
-    go true j = j
-    go false j = absurd j
-
 fixed-there : (h : List Entry) (journal : List Line) (f : FixedParts) → OccursFixed h journal f → In (channel_string (fixed f)) (hashed h journal)
 fixed-there h journal f (inl o) =
     in-entry h journal o.0 (channel_string (fixed f)) o.1
@@ -51,7 +44,7 @@ fixed-there h journal f (inl o) =
     (subst (λ (k : Option FixedParts). In (channel_string (fixed f)) (of_states k (states_in o.0.op))) (sym o.2) (inl refl)))
 fixed-there h journal f (inr o) =
     in-journal h journal o.0 (channel_string (fixed f)) o.1
-    (In-append_left (channel_string (fixed f)) (flat_map of_fixed o.0.adds) (of_deed o.0.deed) (In-flat_map of_fixed (channel_string (fixed f)) f o.0.adds (added o.0 f o.2) (inl refl)))
+    (In-append_left (channel_string (fixed f)) (flat_map of_fixed (opened o.0)) (of_deed o.0.deed) (In-flat_map of_fixed (channel_string (fixed f)) f (opened o.0) o.2 (inl refl)))
 
 name-length : (f : FixedParts) → length (name_of_channel (fixed f)) ≡ 32
 unfolding name_of_channel
@@ -89,7 +82,7 @@ state-there r h journal by valid c s (in_call e f i has named j) =
 state-there r h journal by valid c s (in_line x i e) =
     record {
       name = (valid.signed x c s i e).0.0;
-      string = in-journal h journal x (state_string c (state s)) i (In-append_right (state_string c (state s)) (flat_map of_fixed x.adds) (of_deed x.deed) (in-deed c s x.deed e));
+      string = in-journal h journal x (state_string c (state s)) i (In-append_right (state_string c (state s)) (flat_map of_fixed (opened x)) (of_deed x.deed) (in-deed c s x.deed e));
     }
 
 state-valid : (r : Rules) (h : List Entry) (journal : List Line) → AreValid h journal → (c : List ℕ) (s : StateParts) → OccursState r h journal c s → IsState s

@@ -10,7 +10,8 @@ use crate::fault::LoadFault;
 use crate::payments::push_payments;
 use crate::people::{beginning, label, party_of, people};
 use nitro_bytes::{Listed, NoMemory};
-use script_reader::{STEP_LIMIT, Script, Step};
+use script_reader::Script;
+use script_rules::{STEP_LIMIT, Step};
 use sign_index::Signer;
 use std::alloc::Global;
 

@@ -1,6 +1,6 @@
 -- What a node refuses: by the formats of messages, and by the lines of the table in their order.
-use Rattle.std.proofs.Common.{◌≡◌, ℕ, Bool, true, false, List, refl, sym, ◌∙◌, ap, eqb-true, eq-eqb}
-use Rattle.std.specs.Prelude.{Option, Some, None, Ok, ◌==◌, not, is_some}
+use Rattle.std.proofs.Common.{◌≡◌, ℕ, Bool, true, false, List, ◌∷◌, ◌++◌, refl, sym, ◌∙◌, ap, eqb-true, eq-eqb}
+use Rattle.std.specs.Prelude.{take, Option, Some, None, Ok, ◌==◌, not, is_some}
 use Rattle.nitro_bytes.specs.declared.chain.Signed.{Signed}
 use Rattle.nitro_bytes.proofs.Format.{trailing_fails}
 use Rattle.nitro_bytes.proofs.Fronts.{fronts_cut}
@@ -8,8 +8,9 @@ use Rattle.channel_model.specs.Rules.{Rules, is_signed_well}
 use Rattle.channel_model.specs.Words.{fault_if, ◌⊳◌}
 use Rattle.channel_model.proofs.Lines.{both_none, unbroken, not_not}
 use Rattle.channel_calls.specs.Reading.{message_of}
+use Rattle.channel_calls.specs.Spelling.{message}
 use Rattle.channel_calls.specs.declared.event.NodeRefusal.{NodeRefusal}
-use Rattle.channel_calls.specs.declared.event.NodeRefusal.TheVariants.{NotNext, BadSignature, NotAStep, NotWanted}
+use Rattle.channel_calls.specs.declared.event.NodeRefusal.TheVariants.{BadBytes, NotNext, BadSignature, NotAStep, NotWanted}
 use Rattle.channel_calls.proofs.Formats.{message_format}
 use Rattle.call_laws.proofs.Fronts.{message_on}
 use Rattle.channel_store.specs.Keeping.{is_ended, next_of, step_of}
@@ -17,21 +18,29 @@ use Rattle.channel_store.specs.Storing.{kept_of}
 use Rattle.channel_store.specs.declared.kept.Kept.{Kept}
 use Rattle.node_model.specs.Tables.{Tables}
 use Rattle.node_model.specs.Minds.{Mind, facts_of}
+use Rattle.node_model.specs.Nodes.{NodeOf, handled}
 use Rattle.node_model.specs.Refusing.{not_open, has_left, stage_of, state_refusal, message_refusal}
-use Rattle.message_laws.specs.Laws.{FrontsAreRefused, TrailingIsRefused, RefusalsWriteOneLine, with_signature, ComesNext, BadSignaturesAreTold, TakenOnesAreSigned}
+use Rattle.message_laws.specs.Laws.{with_refused, Refuses, FrontsAreRefused, TrailingIsRefused, with_signature, ComesNext, BadSignaturesAreTold, TakenOnesAreSigned}
+
+-- ---- what a refusal leaves
+
+one-line : (t : Tables) (r : Rules) (bytes : List ℕ) (n : NodeOf) (refusal : NodeRefusal) → message_refusal t r n.mind (message_of bytes) ≡ Some refusal
+    → handled t r bytes n ≡ with_refused bytes refusal n
+one-line t r bytes n refusal e = rw e refl
+
+refuses : (t : Tables) (r : Rules) (bytes : List ℕ) (refusal : NodeRefusal) (n : NodeOf) → message_refusal t r n.mind (message_of bytes) ≡ Some refusal
+    → Refuses t r bytes refusal n
+refuses t r bytes refusal n e = record { told = e; left = one-line t r bytes n refusal e }
 
 -- ---- bytes that aren't a message
 
 pub fronts_are_refused : FrontsAreRefused
-fronts_are_refused t r m v n valid lt = ap (message_refusal t r m) (fronts_cut message_format message_on v n valid lt)
+fronts_are_refused t r node v n valid lt =
+    refuses t r (take n (message v)) BadBytes node (ap (message_refusal t r node.mind) (fronts_cut message_format message_on v n valid lt))
 
 pub trailing_is_refused : TrailingIsRefused
-trailing_is_refused t r m v b more valid = ap (message_refusal t r m) (trailing_fails message_format v b more valid)
-
--- ---- what a refusal leaves
-
-pub refusals_write_one_line : RefusalsWriteOneLine
-refusals_write_one_line t r bytes n refusal e = rw e refl
+trailing_is_refused t r node v b more valid =
+    refuses t r (message v ++ b ∷ more) BadBytes node (ap (message_refusal t r node.mind) (trailing_fails message_format v b more valid))
 
 -- ---- lines
 
@@ -82,8 +91,9 @@ unsigned_next t r m channel k s p unsigned =
     (broken_line (is_signed_well r k.chain.fixed s) BadSignature (last_lines t r m channel s k) unsigned)))
 
 pub bad_signatures_are_told : BadSignaturesAreTold
-bad_signatures_are_told t r m channel k s other bytes p unsigned read =
-    of_kept t r m channel k (with_signature other s) bytes p.keeps read ∙ unsigned_next t r m channel k (with_signature other s) p unsigned
+bad_signatures_are_told t r node channel k s other bytes p unsigned read =
+    refuses t r bytes BadSignature node
+    (of_kept t r node.mind channel k (with_signature other s) bytes p.keeps read ∙ unsigned_next t r node.mind channel k (with_signature other s) p unsigned)
 
 -- what is taken comes next
 taken_next : (t : Tables) (r : Rules) (m : Mind) (channel : List ℕ) (k : Kept) (s : Signed) → kept_of channel m.kept ≡ Some k → state_refusal t r m channel s (Some k) ≡ None
@@ -100,6 +110,6 @@ taken_next t r m channel k s keeps taken =
     }
 
 pub taken_ones_are_signed : TakenOnesAreSigned
-taken_ones_are_signed t r m channel k s other taken bytes keeps read none unsigned forged =
-    bad_signatures_are_told t r m channel k s other bytes
-    (taken_next t r m channel k s keeps (sym (of_kept t r m channel k s taken keeps read) ∙ none)) unsigned forged
+taken_ones_are_signed t r node channel k s other taken bytes keeps read none unsigned forged =
+    bad_signatures_are_told t r node channel k s other bytes
+    (taken_next t r node.mind channel k s keeps (sym (of_kept t r node.mind channel k s taken keeps read) ∙ none)) unsigned forged

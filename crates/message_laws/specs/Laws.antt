@@ -17,29 +17,29 @@ use Rattle.node_model.specs.Minds.{Mind, facts_of}
 use Rattle.node_model.specs.Nodes.{NodeOf, handled}
 use Rattle.node_model.specs.Refusing.{not_open, message_refusal}
 
--- ---- bytes that aren't a message
-
-abbrev pub FrontsAreRefused : Type 0
-FrontsAreRefused =
-    (t : Tables) (r : Rules) (m : Mind) (v : Message) (n : ℕ) → IsMessage v → n < length (message v)
-    → message_refusal t r m (message_of (take n (message v))) ≡ Some BadBytes
-
-abbrev pub TrailingIsRefused : Type 0
-TrailingIsRefused =
-    (t : Tables) (r : Rules) (m : Mind) (v : Message) (b : ℕ) (more : List ℕ) → IsMessage v
-    → message_refusal t r m (message_of (message v ++ b ∷ more)) ≡ Some BadBytes
-
--- ---- what a refusal leaves
+-- ---- a refusal
 
 -- with one more line: that it refused these bytes, and why
 abbrev pub with_refused : List ℕ → NodeRefusal → NodeOf → NodeOf
 with_refused bytes refusal n =
     record n { journal = n.journal ++ record { seen = n.mind.view.count; deed = deeds.Handled bytes (Some refusal) } ∷ [] }
 
-abbrev pub RefusalsWriteOneLine : Type 0
-RefusalsWriteOneLine =
-    (t : Tables) (r : Rules) (bytes : List ℕ) (n : NodeOf) (refusal : NodeRefusal)
-    → message_refusal t r n.mind (message_of bytes) ≡ Some refusal → handled t r bytes n ≡ with_refused bytes refusal n
+-- A node refuses these bytes, tells why, and changes nothing but that its journal says so.
+pub record Refuses (t : Tables) (r : Rules) (bytes : List ℕ) (refusal : NodeRefusal) (n : NodeOf) : Type 0 where
+  pub told : message_refusal t r n.mind (message_of bytes) ≡ Some refusal
+  pub left : handled t r bytes n ≡ with_refused bytes refusal n
+
+-- ---- bytes that aren't a message
+
+abbrev pub FrontsAreRefused : Type 0
+FrontsAreRefused =
+    (t : Tables) (r : Rules) (node : NodeOf) (v : Message) (n : ℕ) → IsMessage v → n < length (message v)
+    → Refuses t r (take n (message v)) BadBytes node
+
+abbrev pub TrailingIsRefused : Type 0
+TrailingIsRefused =
+    (t : Tables) (r : Rules) (node : NodeOf) (v : Message) (b : ℕ) (more : List ℕ) → IsMessage v
+    → Refuses t r (message v ++ b ∷ more) BadBytes node
 
 -- ---- signatures
 
@@ -55,16 +55,15 @@ pub record ComesNext (t : Tables) (m : Mind) (channel : List ℕ) (k : Kept) (s 
 
 abbrev pub BadSignaturesAreTold : Type 0
 BadSignaturesAreTold =
-    (t : Tables) (r : Rules) (m : Mind) (channel : List ℕ) (k : Kept) (s : Signed) (other bytes : List ℕ)
-    → ComesNext t m channel k s.state → is_signed_well r k.chain.fixed (with_signature other s) ≡ false
-    → message_of bytes ≡ Ok (channel, with_signature other s)
-    → message_refusal t r m (message_of bytes) ≡ Some BadSignature
+    (t : Tables) (r : Rules) (node : NodeOf) (channel : List ℕ) (k : Kept) (s : Signed) (other bytes : List ℕ)
+    → ComesNext t node.mind channel k s.state → is_signed_well r k.chain.fixed (with_signature other s) ≡ false
+    → message_of bytes ≡ Ok (channel, with_signature other s) → Refuses t r bytes BadSignature node
 
 -- of a message that is taken, another signature that doesn't verify
 abbrev pub TakenOnesAreSigned : Type 0
 TakenOnesAreSigned =
-    (t : Tables) (r : Rules) (m : Mind) (channel : List ℕ) (k : Kept) (s : Signed) (other taken bytes : List ℕ)
-    → kept_of channel m.kept ≡ Some k → message_of taken ≡ Ok (channel, s)
-    → message_refusal t r m (message_of taken) ≡ None → is_signed_well r k.chain.fixed (with_signature other s) ≡ false
-    → message_of bytes ≡ Ok (channel, with_signature other s)
-    → message_refusal t r m (message_of bytes) ≡ Some BadSignature
+    (t : Tables) (r : Rules) (node : NodeOf) (channel : List ℕ) (k : Kept) (s : Signed) (other taken bytes : List ℕ)
+    → kept_of channel node.mind.kept ≡ Some k → message_of taken ≡ Ok (channel, s)
+    → message_refusal t r node.mind (message_of taken) ≡ None
+    → is_signed_well r k.chain.fixed (with_signature other s) ≡ false
+    → message_of bytes ≡ Ok (channel, with_signature other s) → Refuses t r bytes BadSignature node

@@ -15,7 +15,7 @@ use Rattle.channel_calls.specs.declared.call.Op.TheVariants as ops
 use Rattle.channel_calls.specs.declared.entry.Entry.{Entry}
 use Rattle.channel_calls.specs.declared.event.Deed.{Deed}
 use Rattle.channel_calls.specs.declared.event.Deed.TheVariants as deeds
-use Rattle.net_model.specs.Journals.{Line}
+use Rattle.net_model.specs.Journals.{Line, opened}
 use Rattle.net_model.specs.Strings.{states_in, given_in}
 
 abbrev pub of_fixed : FixedParts → List (List ℕ)
@@ -51,7 +51,7 @@ of_deed (deeds.Called call) = of_call call
 of_deed (deeds.Watched watcher calls) = flat_map of_call calls
 
 abbrev pub of_line : Line → List (List ℕ)
-of_line x = flat_map of_fixed x.adds ++ of_deed x.deed
+of_line x = flat_map of_fixed (opened x) ++ of_deed x.deed
 
 abbrev pub of_entry : Entry → List (List ℕ)
 of_entry e = of_op e.op

@@ -22,7 +22,8 @@ use Rattle.node_objective.specs.Answers.{SameJournal, HandleAnswers, CommandAnsw
 use Rattle.node_tables.specs.Stages.{stages}
 use Rattle.node_ways.proofs.Answering.{answers-so}
 use Rattle.node_ways.proofs.Kept.{nodes_are_kept, lost-placed, told-placed}
-use Rattle.node_ways.specs.Gains.{leaves, shares_known}
+use Rattle.node_model.specs.Exiting.{leaves}
+use Rattle.node_ways.specs.Gains.{shares_known}
 use Rattle.node_ways.specs.Ways.{Numbered, unless_lost, noting_if, ways, IsPlaced, seen_of}
 use Rattle.support_chain.specs.Real.{real}
 use Rattle.net_node.specs.Notes.{note_if}

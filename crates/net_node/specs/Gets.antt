@@ -4,12 +4,13 @@ use Rattle.node_model.specs.Playing.{signing_of}
 use Rattle.node_shares.proofs.Telling.{nodes_tell_shares}
 use Rattle.node_tables.specs.Stages.{stages}
 use Rattle.node_ways.proofs.Kept.{few-values}
+use Rattle.node_ways.specs.Commanded.{told}
 use Rattle.node_ways.specs.Ways.{ways, IsPlaced}
 use Rattle.support_chain.specs.Real.{real}
 use Rattle.told_party.specs.Telling.{SharesAreReal}
-use Rattle.net_node.specs.Shares.{is_lost, shares, orders}
+use Rattle.net_node.specs.Shares.{is_lost, shares}
 
-pub nodes_get : SharesAreReal ways IsPlaced is_lost shares orders
+pub nodes_get : SharesAreReal ways IsPlaced is_lost shares told
 unfolding signing_of
 nodes_get h p legal valid placed kept seen asset =
     (nodes_tell_shares stages real (signing_of p.node.signer) h p.node legal kept (placed.stands (few-values h valid))

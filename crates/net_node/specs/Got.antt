@@ -2,14 +2,13 @@
 use Rattle.std.proofs.Common.{◌≡◌, ℕ, ◌-◌, ◌≤◌, ◌==◌, Bool, true, false, cond, List, [], ◌∷◌, ◌++◌, ◌⊎◌, inl, inr, length, drop, map, refl, sym, ◌∙◌, ap, subst, arith}
 use Rattle.std.specs.Prelude.{Option, Some, None}
 use Rattle.std.specs.List.{AllByRecursion, flat_map}
-use Rattle.std.specs.Option.{option_or, option_map}
 use Rattle.std.proofs.Math.Seq.{drop-append_seam}
 use Rattle.std.proofs.lemmas.List.{length-append}
 use Rattle.channel_name.specs.Digests.{name_of_person}
 use Rattle.channel_calls.specs.History.{Legal}
 use Rattle.channel_calls.specs.declared.entry.Entry.{Entry}
 use Rattle.channel_calls.specs.declared.view.ChannelView.{ChannelView}
-use Rattle.chain_laws.proofs.Tests.{none-eq, some-eq, eqb-true}
+use Rattle.chain_laws.proofs.Tests.{eqb-true}
 use Rattle.net_model.specs.Journals.{In, is_watched}
 use Rattle.node_laws.proofs.Bridging.{plays-at}
 use Rattle.node_laws.proofs.Standing.{few-suffix}
@@ -19,15 +18,20 @@ use Rattle.node_model.specs.Places.{Told, AreFew, lines_of, mind_at}
 use Rattle.node_model.specs.Playing.{signing_of, Plays, PlaysEvent}
 use Rattle.node_shares.proofs.Telling.{places_tell_shares}
 use Rattle.node_shares.proofs.Unheld.{unheld_is_nothing}
+use Rattle.node_shares.specs.Orders.{orders_of}
 use Rattle.node_shares.specs.Laws.{IsFront, LacksAsset, IsUnheld}
 use Rattle.node_tables.specs.Stages.{stages}
 use Rattle.node_ways.proofs.Kept.{few-values}
-use Rattle.node_ways.specs.Gains.{share_known, shares_in, shares_known, is_exit, until_exit}
+use Rattle.node_model.specs.Exiting.{until_exit}
+use Rattle.node_ways.specs.Gains.{share_known, shares_in, shares_known}
+use Rattle.node_ways.specs.Commanded.{told}
 use Rattle.node_ways.specs.Ways.{Numbered, key_of, ways, seen_at, IsKnownAt, IsNoted, IsPlaced}
 use Rattle.share_model.specs.Places.{share}
 use Rattle.support_chain.specs.Real.{real}
-use Rattle.told_party.specs.Telling.{amount_then, past_at, share_then, AreThose, ExitsAreReal}
-use Rattle.net_node.specs.Shares.{is_lost, exits, left, orders}
+use Rattle.told_party.specs.Promised.{past_at, share_after}
+use Rattle.told_party.specs.Telling.{amount_then, AreThose, ExitsAreReal}
+use Rattle.net_node.specs.Leaving.{EndsWith, ends-with}
+use Rattle.net_node.specs.Shares.{is_lost, exits}
 
 -- ---- the amounts
 
@@ -73,40 +77,17 @@ module _ (m : Mind) (asset : ℕ) where
 
 -- ---- the place
 
--- the events up to an exit are the last of the journal
-pub record EndsWith (journal front : List Told) : Type 0 where
-  pub newer : List Told
-  pub newest : Told
-  pub older : List Told
-  pub whole : journal ≡ newer ++ front
-  pub is : front ≡ newest ∷ older
-
-ends-with : (journal front : List Told) → until_exit journal ≡ Some front → EndsWith journal front
-ends-with [] front e = absurd (none-eq front e)
-ends-with (x ∷ journal) front e = go (until_exit journal) refl (λ here. ends-with journal front here) (is_exit x) e
-  where
-    later : EndsWith journal front → EndsWith (x ∷ journal) front
-    later w = record { newer = x ∷ w.newer; newest = w.newest; older = w.older; whole = ap (λ (xs : List Told). x ∷ xs) w.whole; is = w.is }
-
-    first : (x ∷ journal) ≡ front → EndsWith (x ∷ journal) front
-    first same = record { newer = []; newest = x; older = journal; whole = same; is = sym same }
-
-    go : (o : Option (List Told)) → until_exit journal ≡ o → (until_exit journal ≡ Some front → EndsWith journal front) → (b : Bool) → option_or o (cond b (Some (x ∷ journal)) None) ≡ Some front → EndsWith (x ∷ journal) front
-    go (Some f) here rest b same = later (rest (here ∙ same))
-    go None here rest true same = first (some-eq (x ∷ journal) front same)
-    go None here rest false same = absurd (none-eq front same)
-
 module _ (h : List Entry) (p : Numbered) (legal : Legal real h) (few : AreFew h) (plays : Plays stages real (signing_of p.node.signer) h (told_of p.node)) where
   abbrev key : List ℕ
   key = key_of p.node.signer
 
   -- what was noted at a place is the share there
   known-there : (amounts : List (ℕ × ℕ)) (front : List Told) → until_exit (told_of p.node) ≡ Some front → IsKnownAt h key amounts front
-      → (asset : ℕ) → amount_then amounts asset ≡ share real (name_of_person key) (orders p) (past_at h (lines_of key front)) (lines_of key front) asset
+      → (asset : ℕ) → amount_then amounts asset ≡ share_after h key (told p) front asset
   unfolding signing_of
   known-there amounts front found known asset =
       ap (λ (xs : List (ℕ × ℕ)). amount_then xs asset) known.shares ∙ either (noted-in m asset m.view.channels)
-      ∙ ap (λ (past : List Entry). share real (name_of_person key) (orders p) past (lines_of key front) asset) (sym past-is)
+      ∙ ap (λ (past : List Entry). share real (name_of_person key) (orders_of real key (told p)) past (lines_of key front) asset) (sym past-is)
     where
       m : Mind
       m = mind_at real key known.past front
@@ -137,26 +118,26 @@ module _ (h : List Entry) (p : Numbered) (legal : Legal real h) (few : AreFew h)
       }
 
       either : (amount_then (shares_known m) asset ≡ share_known m asset) ⊎ (IsUnheld asset m.view.channels × (amount_then (shares_known m) asset ≡ 0))
-          → amount_then (shares_known m) asset ≡ share real (name_of_person key) (orders p) known.past (lines_of key front) asset
+          → amount_then (shares_known m) asset ≡ share real (name_of_person key) (orders_of real key (told p)) known.past (lines_of key front) asset
       either (inl same) = same ∙ (places_tell_shares stages real (signing_of p.node.signer) h (told_of p.node) known.past front legal plays at).shares asset
       either (inr none) = none.1 ∙ sym (unheld_is_nothing stages real (signing_of p.node.signer) h (told_of p.node) known.past front legal plays at asset none.0)
 
       long : length h - ends.newest.seen ≡ length known.later
       long = omega (arith, ap length known.split, length-append known.later known.past, seen)
 
-      past-is : past_at h (lines_of key front) ≡ known.past
+      past-is : past_at h front ≡ known.past
       past-is =
-          ap (λ (xs : List Told). past_at h (lines_of key xs)) ends.is ∙ ap (λ (n : ℕ). drop n h) long
+          ap (past_at h) ends.is ∙ ap (λ (n : ℕ). drop n h) long
           ∙ ap (drop (length known.later)) known.split ∙ drop-append_seam known.later known.past
 
   noted-there : (o : Option (List (ℕ × ℕ))) (events : Option (List Told)) → until_exit (told_of p.node) ≡ events → IsNoted h key o events
-      → AreThose (share_then ways orders h p) o (option_map (lines_of key) events)
+      → AreThose (share_after h key (told p)) o events
   noted-there None None e noted = tt
   noted-there (Some amounts) (Some front) e noted = known-there amounts front e noted
   noted-there None (Some front) e noted = absurd noted
   noted-there (Some amounts) None e noted = absurd noted
 
-pub nodes_got : ExitsAreReal ways IsPlaced is_lost exits left orders
+pub nodes_got : ExitsAreReal ways IsPlaced is_lost exits told
 nodes_got h p legal valid placed kept =
     noted-there h p legal (few-values h valid) (placed.stands (few-values h valid)).plays p.exits (until_exit (told_of p.node)) refl
     (placed.noted (few-values h valid) kept)

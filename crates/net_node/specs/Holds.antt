@@ -1,16 +1,31 @@
 -- Nobody lowers the share of a node's person, and it can leave with it.
 use Rattle.std.proofs.Common.{inl}
-use Rattle.node_fairness.proofs.Kept.{plans_keep_shares}
+use Rattle.std.specs.Prelude.{List}
+use Rattle.channel_calls.specs.declared.entry.Entry.{Entry}
+use Rattle.net_model.specs.Premises.{AreValid}
+use Rattle.node_fairness.proofs.Kept.{plans_keep_shares, nodes_sign_fairly}
 use Rattle.node_fairness.proofs.Plans.{valid-few}
 use Rattle.node_keys.proofs.Made.{made_keys_sign_well}
 use Rattle.node_model.specs.Nodes.{told_of}
-use Rattle.node_model.specs.Playing.{signing_of}
-use Rattle.node_ways.specs.Ways.{ways, IsPlaced}
+use Rattle.node_model.specs.Playing.{signing_of, Plays}
+use Rattle.node_tables.specs.Stages.{stages}
+use Rattle.node_ways.specs.Commanded.{told}
+use Rattle.node_ways.specs.Ways.{Numbered, ways, IsPlaced}
+use Rattle.support_chain.specs.Real.{real}
 use Rattle.told_party.specs.Telling.{KeepsShares}
-use Rattle.net_node.specs.Shares.{orders, named}
+use Rattle.net_node.specs.Leaving.{paid_on_exit}
 
-pub nodes_hold : KeepsShares ways IsPlaced orders named
+plays-so : (h : List Entry) (p : Numbered) → IsPlaced h p → AreValid h (ways.lines p) → Plays stages real (signing_of p.node.signer) h (told_of p.node)
+plays-so h p placed valid = (placed.stands (valid-few h (ways.lines p) (λ e f i is. valid.fixed f (inl (e, i, is))))).plays
+
+pub nodes_hold : KeepsShares ways IsPlaced told
 unfolding signing_of
-nodes_hold h p legal placed valid unforged apart early =
-    plans_keep_shares (signing_of p.node.signer) h (told_of p.node) (made_keys_sign_well p.node.signer placed.sound) legal
-    (placed.stands (valid-few h (ways.lines p) (λ e f i is. valid.fixed f (inl (e, i, is))))).plays valid unforged apart early
+nodes_hold h p legal placed =
+    let signs = made_keys_sign_well p.node.signer placed.sound in
+    record {
+      fair = λ valid unforged apart. nodes_sign_fairly (signing_of p.node.signer) h (told_of p.node) signs legal (plays-so h p placed valid) valid unforged apart;
+      kept = λ valid unforged apart early. plans_keep_shares (signing_of p.node.signer) h (told_of p.node) signs legal (plays-so h p placed valid) valid unforged apart early;
+      paid = λ valid unforged apart early.
+          paid_on_exit (signing_of p.node.signer) h (told_of p.node) legal (plays-so h p placed valid)
+          (plans_keep_shares (signing_of p.node.signer) h (told_of p.node) signs legal (plays-so h p placed valid) valid unforged apart early).paid;
+    }

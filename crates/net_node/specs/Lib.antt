@@ -2,7 +2,9 @@ pub mod Minds
 pub mod Openings
 pub mod Shares
 pub mod Gets
+pub mod Leaving
 pub mod Got
+pub mod Ruled
 pub mod Notes
 pub mod Holds
 pub mod Own

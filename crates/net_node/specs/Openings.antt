@@ -7,8 +7,9 @@ use Rattle.channel_calls.specs.declared.event.Event.{Event}
 use Rattle.net_party.specs.declared.command.Command.{Command}
 use Rattle.node_model.specs.Openings.{opened_by, takes_part}
 use Rattle.node_model.specs.Places.{tell, told, is_commanded, lines_of}
+use Rattle.node_ways.specs.Commanded.{told as told_events}
 use Rattle.node_ways.specs.Ways.{Numbered, ways}
-use Rattle.told_party.specs.Telling.{AreTold, HaveFixed}
+use Rattle.told_party.specs.Telling.{AreTold, HaveFixed, LinesAreTold}
 
 -- ---- the events
 
@@ -21,6 +22,10 @@ are-told key (x ∷ front) (c ∷ commands) = go (is_commanded x.deed) (are-told
         → AreTold (lines_of key (cond b (tell x (Some c) ∷ told front commands) (tell x None ∷ told front (c ∷ commands)))) (x ∷ front)
     go true with_it without = ((refl, refl), with_it)
     go false with_it without = ((refl, refl), without)
+
+-- and of its commands
+pub lines_open : LinesAreTold ways told_events
+lines_open p = refl
 
 pub lines_are_told : (p : Numbered) → AreTold (ways.lines p) (reverse (ways.journal p))
 lines_are_told p = are-told _ (reverse p.node.journal) (reverse p.node.commands)

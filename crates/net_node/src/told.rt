@@ -3,12 +3,15 @@
 ghost use Rattle.std.specs.List.{AllByRecursion};
 ghost use Rattle.nitro_bytes.specs.Parts.{IsFixed};
 ghost use Rattle.node_model.specs.Openings.{opened_by};
+ghost use Rattle.node_ways.proofs.Commanding.{nodes_follow_commands};
 ghost use Rattle.node_ways.proofs.Kept.{nodes_are_kept};
+ghost use Rattle.node_ways.specs.Commanded.{told};
 ghost use Rattle.net_node.specs.Gets.{nodes_get};
 ghost use Rattle.net_node.specs.Got.{nodes_got};
 ghost use Rattle.net_node.specs.Holds.{nodes_hold};
-ghost use Rattle.net_node.specs.Openings.{lines_are_told};
-ghost use Rattle.net_node.specs.Shares.{shares, exits, left, orders, named, is_lost};
+ghost use Rattle.net_node.specs.Openings.{lines_are_told, lines_open};
+ghost use Rattle.net_node.specs.Ruled.{nodes_play};
+ghost use Rattle.net_node.specs.Shares.{shares, exits, is_lost};
 
 use crate::node::Node;
 use crate::sharing::share_known;
@@ -57,11 +60,7 @@ impl Told for Node {
 
     ghost exits = { exits };
 
-    ghost left = { left };
-
-    ghost orders = { orders };
-
-    ghost named = { named };
+    ghost told = { told };
 
     ghost lost = { is_lost };
 
@@ -86,9 +85,15 @@ impl Told for Node {
 
     ghost tells = { lines_are_told };
 
+    ghost opens = { lines_open };
+
+    ghost commands = { nodes_follow_commands };
+
     ghost gets = { nodes_get };
 
     ghost got = { nodes_got };
+
+    ghost plays = { nodes_play };
 
     ghost holds = { nodes_hold };
 }

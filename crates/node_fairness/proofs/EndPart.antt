@@ -67,6 +67,7 @@ use Rattle.node_fairness.specs.PlanSeats.{SeatIs}
 use Rattle.node_fairness.specs.PlanSettings.{IsFair}
 use Rattle.node_fairness.specs.SeatSitting.{Sits}
 use Rattle.node_fairness.specs.Laws.{EndsWantFairly}
+use Rattle.node_fairness.proofs.JointEndsKeep.{ends_keep}
 use Rattle.node_fairness.proofs.JointOutcomes.{terms-of, together-asset, apart-asset}
 use Rattle.node_fairness.proofs.JointRows.{EndWants, guarantees, splits, opens, ups, joins, finals, parts as parts_back, downs, end-wants}
 use Rattle.node_fairness.proofs.JointTerms.{three-people}
@@ -75,6 +76,8 @@ use Rattle.node_fairness.proofs.NamesAreNames.{names_are_names}
 use Rattle.node_fairness.proofs.LedgerFits.{up-fits, down-fits}
 use Rattle.node_fairness.proofs.LedgerLent.{LendsAt, of-an-end, end-there}
 use Rattle.node_fairness.proofs.LedgerFull.{in-full}
+use Rattle.node_fairness.proofs.LedgerStanding.{known_ledgers_keep}
+use Rattle.node_fairness.proofs.LedgerUpright.{ledgers_stand_at_places}
 use Rattle.node_fairness.proofs.Live.{wants-early, below-not, live-open}
 use Rattle.node_fairness.proofs.OpenedParts.{SignsFirst}
 use Rattle.node_fairness.proofs.PaymentShares.{ends_share}
@@ -519,7 +522,7 @@ module _ (s : Signing) (h : List Entry) (journal : List Told) (fair : IsFair s h
 -- ---- the law
 
 pub ends_want_fairly : EndsWantFairly
-ends_want_fairly s h journal v fair keep hold past front at f state own valid going live asked wanted =
+ends_want_fairly s h journal v fair past front at f state own valid going live asked wanted =
     let p = parts_are_known s h journal past front fair.nodes at.front_is (parts.End v) there in
     known-as p.goal p.found p.is
   where
@@ -531,5 +534,6 @@ ends_want_fairly s h journal v fair keep hold past front at f state own valid go
 
     known-as : (g : Goal) → goal_in (facts_of m) v.channel ≡ Some g → EndIs s.key past (lines_of s.key front) (facts_of m) v g → Wants real (name_of_person s.key) (orders_of real s.key journal) past (lines_of s.key front) f state
     known-as g found e =
-        wants-well s h journal fair past front at v g found e there (keep s h journal past front fair at v g there e) (hold past front at).0 (hold past front at).1 live f state own valid going
+        wants-well s h journal fair past front at v g found e there (ends_keep s h journal past front fair at v g there e) (known_ledgers_keep s h journal fair past front at)
+        (ledgers_stand_at_places s h journal fair past front at) live f state own valid going
         (sym (ap (wanted_of_end (real.named f)) e.is) ∙ (sym (ap (wanted_of (facts_of m) (real.named f)) asked) ∙ wanted))

@@ -63,6 +63,7 @@ use Rattle.node_fairness.specs.PlanParts.{LedgerIs, GuarantorIs, ChildIs, Middle
 use Rattle.node_fairness.specs.PlanSeats.{SeatIs}
 use Rattle.node_fairness.specs.PlanSettings.{IsFair}
 use Rattle.node_fairness.specs.SeatSitting.{Sits}
+use Rattle.node_fairness.proofs.JointMiddlesKeep.{middles_keep}
 use Rattle.node_fairness.proofs.LedgerGiving.{found-sum}
 use Rattle.node_fairness.proofs.JointOutcomes.{terms-of, together-asset, apart-asset, found-apart}
 use Rattle.node_fairness.proofs.JointRows.{MiddleWants, guarantees_a, guarantees_b, splits, ups_a, ups_b, joins, parts as parts_back, downs_a, downs_b, middle-wants}
@@ -70,6 +71,8 @@ use Rattle.node_fairness.proofs.JointPays.{apart-list, together-list, same-other
 use Rattle.node_fairness.proofs.LedgerFits.{Sets, up-fits, down-fits}
 use Rattle.node_fairness.proofs.LedgerLent.{of-first, of-second, first-there, second-there}
 use Rattle.node_fairness.proofs.LedgerFull.{in-full}
+use Rattle.node_fairness.proofs.LedgerStanding.{known_ledgers_keep}
+use Rattle.node_fairness.proofs.LedgerUpright.{ledgers_stand_at_places}
 use Rattle.node_fairness.proofs.Live.{wants-early, below-not, live-open}
 use Rattle.node_fairness.proofs.PlanParts.{parts_are_known}
 use Rattle.node_fairness.proofs.SeatWants.{going-there, wants-repeated, wants-pass, wants-move}
@@ -486,7 +489,7 @@ module _ (s : Signing) (h : List Entry) (journal : List Told) (fair : IsFair s h
 -- ---- the law
 
 pub middles_want_fairly : MiddlesWantFairly
-middles_want_fairly s h journal v fair keep hold past front at f state own valid going live asked wanted =
+middles_want_fairly s h journal v fair past front at f state own valid going live asked wanted =
     let p = parts_are_known s h journal past front fair.nodes at.front_is (parts.Middle v) there in
     known-as p.goal p.found p.is
   where
@@ -499,5 +502,6 @@ middles_want_fairly s h journal v fair keep hold past front at f state own valid
     known-as : (g : Goal) → goal_in (facts_of m) v.channel ≡ Some g → MiddleIs s.key past (lines_of s.key front) (facts_of m) v g
         → Wants real (name_of_person s.key) (orders_of real s.key journal) past (lines_of s.key front) f state
     known-as g found e =
-        wants-well s h journal fair past front at v g found e there (keep s h journal past front fair at v g there e) (hold past front at).0 (hold past front at).1 live f state own valid going
+        wants-well s h journal fair past front at v g found e there (middles_keep s h journal past front fair at v g there e) (known_ledgers_keep s h journal fair past front at)
+        (ledgers_stand_at_places s h journal fair past front at) live f state own valid going
         (sym (ap (wanted_of_middle (real.named f)) e.is) ∙ (sym (ap (wanted_of (facts_of m) (real.named f)) asked) ∙ wanted))

@@ -1,9 +1,6 @@
 -- Plans are whole: by what is known of each part.
-use Rattle.std.proofs.Common.{◌≡◌, ℕ, true, List, [], ◌∷◌, inl, inr, refl, sym, ◌∙◌, ap, subst}
-use Rattle.std.specs.List.{AllByRecursion}
-use Rattle.std.specs.Str.{bytes_eq}
+use Rattle.std.proofs.Common.{◌≡◌, ℕ, true, List, inl, inr, sym, ◌∙◌, ap, subst}
 use Rattle.nitro_bytes.specs.Parts.{FixedParts}
-use Rattle.nitro_bytes.specs.Outcomes.{AreApart}
 use Rattle.nitro_bytes.specs.declared.value.AssetOutcome.{AssetOutcome}
 use Rattle.channel_calls.specs.Flows.{is_among}
 use Rattle.funding_value.specs.Parts.{channels}
@@ -19,8 +16,6 @@ use Rattle.node_shares.proofs.Telling.{places_tell_shares}
 use Rattle.node_shares.specs.Orders.{orders_of}
 use Rattle.node_tables.specs.Stages.{stages}
 use Rattle.share_laws.specs.Finality.{RestsOnNoPayments}
-use Rattle.share_laws.specs.Moved.{all_payers}
-use Rattle.share_laws.specs.Sound.{IsApart}
 use Rattle.share_laws.specs.Turns.{names}
 use Rattle.share_model.specs.Bases.{bases_of, all_bases}
 use Rattle.share_model.specs.Places.{plan}
@@ -30,7 +25,7 @@ use Rattle.node_fairness.proofs.SeatPast.{occurs}
 use Rattle.node_fairness.proofs.Apps.{no-payments}
 use Rattle.node_fairness.specs.PlanLaws.{PlansAreWhole}
 use Rattle.node_fairness.proofs.PlanKnown.{OfLedger, Of, goal-of, GoalOf}
-use Rattle.node_fairness.proofs.PlanNames.{among-in, all-apart, all-payers-apart}
+use Rattle.node_fairness.proofs.PlanNames.{among-in, all-apart}
 use Rattle.node_fairness.proofs.PlanPlaces.{Knows, knows-there, grown-there, apart-there}
 
 -- ---- a part
@@ -58,25 +53,12 @@ module _ (key : List ℕ) (fs : List FixedParts) (parts : List Part) where
   base-is (Middle v) opening amounts o n (inr (inr (inl e))) = record { fixed = o.joint.fixed; there = o.joint.there; named = o.joint.named ∙ sym e; app = o.joint.app }
   base-is (Middle v) opening amounts o n (inr (inr (inr i))) = absurd i
 
-  apart-is : (p : Part) (opening : List AssetOutcome) (amounts : ℕ × ℕ) → Of key fs parts p opening amounts → IsApart p
-  apart-is (Root name) opening amounts o = tt
-  apart-is (OnLedger ledger name) opening amounts o = tt
-  apart-is (End v) opening amounts o = o.off
-  apart-is (Middle v) opening amounts o = o.off
-
-pub all-are : (P : Part → Type 0) (ps : List Part) → ((p : Part) → In p ps → P p) → AllByRecursion P ps
-all-are P [] each = tt
-all-are P (p ∷ ps) each = (each p (inl refl), all-are P ps (λ q i. each q (inr i)))
-
 -- ---- the law
 
 pub plans_are_whole : PlansAreWhole
 plans_are_whole s h journal past front nodes at = record {
   whole = subst IsPlan same (record { apart = all-apart (channels m.parts) apart; on_roots = knows.stands });
   channels_differ = all-apart (names real fs) grown.apart;
-  payers = subst (λ (ps : List Part). AreApart bytes_eq (all_payers ps)) same (all-apart (all_payers m.parts) (all-payers-apart m.parts apart));
-  apart = subst (AllByRecursion IsApart) same
-      (all-are IsApart m.parts (λ p i. (let g = goal p i in apart-is s.key fs m.parts p g.goal.opening g.goal.amounts g.known)));
   rests = rests;
 }
   where

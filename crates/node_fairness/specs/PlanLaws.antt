@@ -1,6 +1,5 @@
 -- What the parts of a node's plan are at each place of its journal.
 use Rattle.std.specs.Prelude.{◌≡◌, ℕ, List, Some}
-use Rattle.std.specs.List.{AllByRecursion}
 use Rattle.std.specs.Str.{bytes_eq}
 use Rattle.nitro_bytes.specs.Outcomes.{AreApart}
 use Rattle.channel_calls.specs.declared.entry.Entry.{Entry}
@@ -14,8 +13,6 @@ use Rattle.node_model.specs.Playing.{Signing}
 use Rattle.node_shares.specs.Laws.{IsFront}
 use Rattle.node_shares.specs.Orders.{orders_of}
 use Rattle.share_laws.specs.Finality.{RestsOnNoPayments}
-use Rattle.share_laws.specs.Moved.{all_payers}
-use Rattle.share_laws.specs.Sound.{IsApart}
 use Rattle.share_laws.specs.Turns.{names}
 use Rattle.share_model.specs.Places.{Order, channels, plan}
 use Rattle.signing_laws.specs.Plans.{IsPlan}
@@ -36,13 +33,11 @@ PartsAreKnown =
     (s : Signing) (h : List Entry) (journal : List Told) (past : List Entry) (front : List Told) → IsNodes s h journal
     → IsFront h journal past front → (p : Part) → In p (mind_at real s.key past front).parts → PartAt s past front p
 
--- What a plan of a node's orders is: each channel stands once, ledgers are roots that were opened before, no channel pays in
--- two parts, and no part rests on a payment channel.
+-- What a plan of a node's orders is: each channel stands once, ledgers are roots that were opened before, and no part rests on a
+-- payment channel.
 pub record PlanIs (s : Signing) (orders : ℕ → Order) (front : List Told) : Type 0 where
   pub whole : IsPlan (plan orders (lines_of s.key front))
   pub channels_differ : AreApart bytes_eq (names real (channels (lines_of s.key front)))
-  pub payers : AreApart bytes_eq (all_payers (plan orders (lines_of s.key front)))
-  pub apart : AllByRecursion IsApart (plan orders (lines_of s.key front))
   pub rests : RestsOnNoPayments real orders (lines_of s.key front)
 
 abbrev pub PlansAreWhole : Type 0

@@ -11,7 +11,8 @@ use Rattle.node_model.specs.Minds.{Mind}
 use Rattle.node_model.specs.Places.{Told, mind_at}
 use Rattle.node_model.specs.Playing.{Signing, signings, pending, Allowed, PlaysEvent}
 use Rattle.node_model.specs.Tables.{Tables}
-use Rattle.node_laws.specs.Laws.{LeavesForGood, PlayedJournalsLeaveForGood}
+use Rattle.node_laws.specs.Exits.{LeavesForGood}
+use Rattle.node_laws.specs.Laws.{PlayedJournalsLeaveForGood}
 use Rattle.node_laws.proofs.Bridging.{plays-at}
 use Rattle.node_laws.proofs.Leaving.{exited, left-is, signs-staying, challenges-left}
 

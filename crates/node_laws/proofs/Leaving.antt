@@ -25,7 +25,7 @@ use Rattle.node_model.specs.Refusing.{is_open, stands_in, wish_staying, if_signa
 use Rattle.node_model.specs.Tables.{Tables}
 use Rattle.net_party.specs.declared.command.Command.{Command}
 use Rattle.net_party.specs.declared.command.Command.TheVariants.{Open, OpenOn, OpenVirtual, Pay, Close, Exit}
-use Rattle.node_laws.specs.Laws.{is_exit}
+use Rattle.node_laws.specs.Exits.{is_exit}
 
 -- ---- what the journal tells
 

@@ -1,13 +1,11 @@
 -- The journal that a node's rules make is honest.
-use Rattle.std.specs.Prelude.{◌≡◌, ◌≤◌, ℕ, Bool, true, false, List, ◌∷◌, ◌++◌, length, Option, Some, None}
-use Rattle.std.specs.List.{All, list_any}
-use Rattle.nitro_bytes.specs.Parts.{FixedParts, StateParts}
+use Rattle.std.specs.Prelude.{◌≡◌, ◌≤◌, ℕ, true, false, List, ◌∷◌, ◌++◌, length}
+use Rattle.std.specs.List.{All}
+use Rattle.nitro_bytes.specs.Parts.{FixedParts}
 use Rattle.channel_model.specs.Rules.{Rules}
 use Rattle.channel_calls.specs.History.{Legal}
 use Rattle.channel_calls.specs.declared.call.Call.{Call}
 use Rattle.channel_calls.specs.declared.entry.Entry.{Entry}
-use Rattle.channel_calls.specs.declared.event.Deed.{Deed}
-use Rattle.channel_calls.specs.declared.event.Deed.TheVariants as deeds
 use Rattle.channel_store.specs.Storing.{kept_of}
 use Rattle.net_model.specs.Held.{held}
 use Rattle.store_laws.specs.Laws.{KeepsHeld}
@@ -19,7 +17,7 @@ use Rattle.node_model.specs.Tables.{Tables}
 use Rattle.node_model.specs.Places.{Told, lines_of, mind_at, AreFew}
 use Rattle.node_model.specs.Playing.{Signing, SignerOf, signing_of, SignsWell, Plays}
 use Rattle.net_party.specs.declared.command.Command.{Command}
-use Rattle.net_party.specs.declared.command.Command.TheVariants.{Exit}
+use Rattle.node_laws.specs.Exits.{LeavesForGood}
 
 abbrev pub KeptIsHeld : Type 0
 KeptIsHeld =
@@ -30,18 +28,6 @@ abbrev pub PlayedJournalsAreHonest : Type 0
 PlayedJournalsAreHonest =
     (t : Tables) (r : Rules) (s : Signing) (h : List Entry) (journal : List Told) → SignsWell r s → Legal r h → Plays t r s h journal
     → Honest r s.key h (lines_of s.key journal)
-
--- an exit that was accepted
-abbrev pub is_exit : Deed → Option Command → Bool
-is_exit (deeds.Commanded step None) (Some Exit) = true
-is_exit _ command = false
-
--- in the journal of a node no state is signed after an exit that was accepted, and no challenge where none was
-pub record LeavesForGood (x : Told) (front : List Told) : Type 0 where
-  pub states : (channel : List ℕ) (state : StateParts) (signature : List ℕ) → x.deed ≡ deeds.Signed channel state signature
-      → list_any (λ y. is_exit y.deed y.command) front ≡ false
-  pub challenges : (channel : List ℕ) (state : StateParts) (who : ℕ) (signature : List ℕ)
-      → x.deed ≡ deeds.SignedChallenge channel state who signature → list_any (λ y. is_exit y.deed y.command) front ≡ true
 
 abbrev pub PlayedJournalsLeaveForGood : Type 0
 PlayedJournalsLeaveForGood =

@@ -7,3 +7,5 @@ pub mod Places
 pub mod Playing
 pub mod Nodes
 pub mod Giving
+pub mod Named
+pub mod Exiting

@@ -1,5 +1,5 @@
 -- What a node knows at a place: after so many entries, and the journal up to an event. Journals stand newest first.
-use Rattle.std.specs.Prelude.{ℕ, suc, ◌==◌, Bool, true, false, List, [], ◌∷◌, length, map, Option, Some, None, if◌then◌else◌}
+use Rattle.std.specs.Prelude.{ℕ, suc, ◌==◌, Bool, true, false, List, [], ◌∷◌, length, map, reverse, Option, Some, None, if◌then◌else◌}
 use Rattle.channel_model.specs.Rules.{Rules}
 use Rattle.channel_calls.specs.Rows.{fixed_of}
 use Rattle.channel_calls.specs.declared.entry.Entry.{Entry}
@@ -30,6 +30,15 @@ abbrev pub told : List Event → List Command → List Told
 told [] commands = []
 told (x ∷ front) [] = tell x None ∷ told front []
 told (x ∷ front) (c ∷ commands) = if is_commanded x.deed then tell x (Some c) ∷ told front commands else tell x None ∷ told front (c ∷ commands)
+
+-- the command of the step that an event names, where `commands` says what each step commands
+abbrev pub command_for : (ℕ → Option Command) → Deed → Option Command
+command_for commands (deeds.Commanded step refusal) = commands step
+command_for commands _ = None
+
+-- the events of a journal with the commands of their steps, the newest first
+abbrev pub told_by : (ℕ → Option Command) → List Event → List Told
+told_by commands journal = map (λ x. tell x (command_for commands x.deed)) (reverse journal)
 
 -- the lines of a journal of the participant with this key
 abbrev pub line_of : List ℕ → Told → Line

@@ -1,35 +1,16 @@
 -- What an accepted command answers.
 use Rattle.std.proofs.Common.{◌≡◌, List, [], ap, refl}
-use Rattle.std.specs.Prelude.{ℕ, Option, Some, None, Ok, Result}
+use Rattle.std.specs.Prelude.{ℕ, Option, Some, None, Ok}
 use Rattle.nitro_bytes.specs.Parts.{StateParts}
 use Rattle.channel_calls.specs.declared.event.NodeRefusal.{NodeRefusal}
 use Rattle.net_party.specs.declared.command.Command.{Command}
 use Rattle.net_party.specs.declared.command.Command.TheVariants.{Open, OpenOn, OpenVirtual, Pay, Close, Exit}
-use Rattle.net_party.specs.declared.outs.NodeFault.{NodeFault}
-use Rattle.net_party.specs.declared.outs.Outs.{Outs}
 use Rattle.node_model.specs.Giving.{sent_if, paid_sends, command_gives, command_answers}
 use Rattle.node_model.specs.Nodes.{NodeOf, asked}
-use Rattle.node_model.specs.Playing.{Signing, signing_of}
+use Rattle.node_model.specs.Playing.{Signing}
 use Rattle.node_model.specs.Refusing.{command_refusal, signs_in}
 use Rattle.node_model.specs.Tables.{Tables}
-use Rattle.node_tables.specs.Stages.{stages}
-use Rattle.node_ways.specs.Laws.{CommandsCallNothing}
 use Rattle.channel_model.specs.Rules.{Rules}
-use Rattle.support_chain.specs.Real.{real}
-
-abbrev accepted : Outs → Result Outs NodeFault
-accepted outs = Ok outs
-
-same-calls : (given outs : Outs) → accepted given ≡ accepted outs → given.calls ≡ [] → outs.calls ≡ []
-same-calls given outs e none = let is : given ≡ outs = cc in cc
-
-gives-none : (t : Tables) (r : Rules) (s : Signing) (step : ℕ) (command : Command) (n : NodeOf) (refusal : Option NodeRefusal) (outs : Outs) → command_gives t r s step command n refusal ≡ Ok outs → outs.calls ≡ []
-gives-none t r s step command n (Some refusal) outs e = cc
-gives-none t r s step command n None outs e = same-calls (record { sends = paid_sends t r s command (asked r s step command None n); calls = []; spent = None }) outs e refl
-
-pub commands_call_nothing : CommandsCallNothing
-commands_call_nothing command p outs e =
-    gives-none stages real (signing_of p.node.signer) 0 command p.node (command_refusal stages real (signing_of p.node.signer).limit p.node.used p.node.mind command) outs e
 
 -- the step stands in no answer
 paid-so : (t : Tables) (r : Rules) (s : Signing) (step : ℕ) (command : Command) (n : NodeOf)

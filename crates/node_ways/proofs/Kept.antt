@@ -32,7 +32,8 @@ use Rattle.node_model.specs.Playing.{SignerOf, signing_of}
 use Rattle.node_tables.specs.Stages.{stages}
 use Rattle.support_chain.specs.Real.{real}
 use Rattle.node_ways.specs.Laws.{NodesAreKept}
-use Rattle.node_ways.specs.Gains.{leaves, shares_known, or_now, until_exit}
+use Rattle.node_model.specs.Exiting.{leaves, until_exit}
+use Rattle.node_ways.specs.Gains.{shares_known, or_now}
 use Rattle.node_ways.specs.Ways.{Numbered, made_of, key_of, seen_of, unless_lost, noting_exit, ways, IsKnownAt, IsNoted, IsPlaced}
 use Rattle.node_ways.proofs.Following.{sees-within, sees-all, looks-so}
 use Rattle.node_ways.proofs.Staying.{Stays, wrote-event, handled-stays, tick-stays, told-stays}

@@ -2,3 +2,4 @@ pub mod Staying
 pub mod Following
 pub mod Kept
 pub mod Answering
+pub mod Commanding

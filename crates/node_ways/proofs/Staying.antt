@@ -25,7 +25,7 @@ use Rattle.node_model.specs.Playing.{Signing}
 use Rattle.node_model.specs.Refusing.{message_refusal, command_refusal, signs_in}
 use Rattle.node_model.specs.Tables.{Tables}
 use Rattle.node_laws.proofs.Places.{told-event, told-command}
-use Rattle.node_ways.specs.Gains.{leaves, is_exit, until_exit}
+use Rattle.node_model.specs.Exiting.{leaves, is_exit, until_exit}
 
 -- its signer, its view of the history, whether it is lost, and its events up to the first command to exit
 pub record Stays (old new : NodeOf) : Type 0 where

@@ -1,3 +1,4 @@
 pub mod Gains
 pub mod Ways
 pub mod Laws
+pub mod Commanded

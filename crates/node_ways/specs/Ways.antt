@@ -15,7 +15,8 @@ use Rattle.node_tables.specs.Stages.{stages}
 use Rattle.sign_index.specs.Made.{made_key}
 use Rattle.sign_index.specs.Signing.{Signing}
 use Rattle.support_chain.specs.Real.{real}
-use Rattle.node_ways.specs.Gains.{leaves, shares_known, or_now, until_exit}
+use Rattle.node_model.specs.Exiting.{leaves, until_exit}
+use Rattle.node_ways.specs.Gains.{shares_known, or_now}
 
 -- A node and its number; and, once it was commanded to exit, what its person could get just after that.
 pub record Numbered : Type 0 where

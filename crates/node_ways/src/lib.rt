@@ -2,14 +2,15 @@
 //! contract is the law.
 #![tactic(auto)]
 
-ghost use Rattle.node_ways.specs.Laws.{NodesAreKept, CommandsCallNothing};
+ghost use Rattle.node_ways.specs.Commanded.{NodesFollowCommands};
+ghost use Rattle.node_ways.specs.Laws.{NodesAreKept};
 
 /// Whatever a node is told, handed or shown of a legal history, it stands for that history, and its journal is honest.
 pub fn nodes_are_kept()
     ensures { NodesAreKept }
 {}
 
-/// An accepted command calls nothing.
-pub fn commands_call_nothing()
-    ensures { CommandsCallNothing }
+/// Each event of its journal stands with the command of its step.
+pub fn nodes_follow_commands()
+    ensures { NodesFollowCommands }
 {}

@@ -1,4 +1,5 @@
-//! A law alone: the world of every play has a legal history and honest journals.
+//! A law alone: the world of every play has a legal history and honest journals. Its proofs have besides that the events of
+//! journals stand with the commands of their steps.
 #![tactic(auto)]
 
 ghost use Rattle.world_laws.specs.Standing.{AreKept};

@@ -1,7 +1,5 @@
 pub mod Pairs
-pub mod Safe
-pub mod Honest
+pub mod Lines
+pub mod Made
+pub mod Promised
 pub mod Once
-pub mod Shared
-pub mod Left
-pub mod Keeping

@@ -1,17 +1,22 @@
 -- What a play came to has one report.
 use Rattle.std.proofs.Common.{◌≡◌, Bool, true, false, List, [], ◌∷◌, ℕ, sym, ◌∙◌, ap, subst, refl}
-use Rattle.std.specs.Prelude.{IsTrue, ◌↔◌, Option, reverse}
+use Rattle.std.specs.Prelude.{IsTrue, ◌↔◌, Option, reverse, flat_map}
 use Rattle.std.proofs.lemmas.List.{reverse-reverse}
-use Rattle.channel_calls.specs.History.{newest_first}
+use Rattle.channel_calls.specs.History.{flows_of, newest_first}
 use Rattle.channel_calls.specs.declared.entry.Entry.{Entry}
+use Rattle.flow_balances.specs.Receipts.{assets_of}
 use Rattle.nitro_bytes.specs.Parts.{FixedParts}
 use Rattle.premises.specs.declared.journal.Journal.{Journal}
 use Rattle.report_text.specs.declared.report.Judged.{Judged}
 use Rattle.report_text.specs.declared.report.Load.{Load}
 use Rattle.report_text.specs.declared.report.Report.{Report}
+use Rattle.node_model.specs.Exiting.{until_exit}
+use Rattle.report_text.specs.declared.report.Share.{Share}
 use Rattle.script_play.specs.Play.{SceneOf}
-use Rattle.told_party.specs.Telling.{Pairwise, Tale}
-use Rattle.play_report.specs.Reported.{IsJudged, AreJudged, told_shares, told_exits, Tells}
+use Rattle.net_party.specs.Ways.{Ways}
+use Rattle.net_party.specs.declared.command.Command.{Command}
+use Rattle.told_party.specs.Promised.{Pairwise, share_at_end, share_after}
+use Rattle.play_report.specs.Reported.{IsJudged, AreJudged, shares_of, exits_after, events, Tells}
 
 same-word : (a b : Bool) (Q : Type 0) → IsTrue a ↔ Q → IsTrue b ↔ Q → a ≡ b
 same-word true true Q f g = refl
@@ -41,9 +46,16 @@ same-all h all (j ∷ js) (p ∷ ps) (q ∷ qs) a b = λ i. same-judged h all j 
 same_in_time : (h k : List Entry) → newest_first h ≡ newest_first k → h ≡ k
 same_in_time h k e = sym (reverse-reverse h) ∙ ap reverse e ∙ reverse-reverse k
 
-module _ {P : Type 0} (tale : Tale P) where
-  pub one_report : (load : Option Load) (r q : Report) (s : SceneOf P) → Tells tale load r s → Tells tale load q s → r ≡ q
-  one_report load r q s a b =
+-- what is told of shares is told by the history and the journals
+module _ (commands : ℕ → Option Command) where
+  abbrev ends : List Entry → List Journal → List Share
+  ends h journals = flat_map (λ j. shares_of j.key (share_at_end (newest_first h) j.key (events commands j)) (assets_of (flows_of h))) journals
+
+  abbrev leaves : List Entry → List Journal → List Share
+  leaves h journals = flat_map (λ j. exits_after (share_after (newest_first h) j.key (events commands j)) j.key (assets_of (flows_of h)) (until_exit (events commands j))) journals
+
+  pub one_report : {P : Type 0} (ways : Ways P) (load : Option Load) (r q : Report) (s : SceneOf P) → Tells commands ways load r s → Tells commands ways load q s → r ≡ q
+  one_report ways load r q s a b =
       let history = same_in_time r.history q.history (a.history ∙ sym b.history) in
       let journals = a.journals ∙ sym b.journals in
       let rounds = a.rounds ∙ sym b.rounds in
@@ -52,8 +64,8 @@ module _ {P : Type 0} (tale : Tale P) where
       subst (λ h. AreJudged h q.journals r.premises) history (subst (λ js. AreJudged r.history js r.premises) journals a.judged)
       in
       let premises = same-all q.history q.journals q.journals r.premises q.premises moved b.judged in
-      let shared = a.shares ∙ ap (λ h. told_shares tale h s) history ∙ sym b.shares in
-      let exited = a.exits ∙ ap (λ h. told_exits tale h s) history ∙ sym b.exits in
+      let shared = a.shares ∙ ap (λ h. ends h r.journals) history ∙ ap (ends q.history) journals ∙ sym b.shares in
+      let exited = a.exits ∙ ap (λ h. leaves h r.journals) history ∙ ap (leaves q.history) journals ∙ sym b.exits in
       let noted = a.noted ∙ sym b.noted in
       λ i.
       record {

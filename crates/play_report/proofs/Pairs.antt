@@ -1,9 +1,10 @@
 -- Lists side by side.
-use Rattle.std.proofs.Common.{◌≡◌, ◌+◌, ◌<◌, ℕ, List, [], ◌∷◌, ◌++◌, take, length, get_or, sym, subst}
+use Rattle.std.proofs.Common.{◌≡◌, ◌+◌, ◌<◌, ℕ, List, [], ◌∷◌, ◌++◌, take, length, get_or, inl, inr, sym, subst}
 use Rattle.std.specs.Prelude.{reverse}
 use Rattle.std.specs.List.{AllByRecursion}
 use Rattle.std.proofs.lemmas.List.{take_more, reverse-append}
-use Rattle.told_party.specs.Telling.{Pairwise}
+use Rattle.net_model.specs.Journals.{In}
+use Rattle.told_party.specs.Promised.{Pairwise}
 
 pairwise-push : {A B : Type 0} (R : A → B → Type 0) (xs : List A) (ys : List B) (x : A) (y : B) → Pairwise R xs ys → R x y → Pairwise R (xs ++ x ∷ []) (ys ++ y ∷ [])
 pairwise-push R [] [] x y all r = (r, tt)
@@ -27,3 +28,8 @@ all-append Q (x ∷ xs) ys a b = (a.0, all-append Q xs ys a.1 b)
 pub all_reverse : {A : Type 0} (Q : A → Type 0) (xs : List A) → AllByRecursion Q xs → AllByRecursion Q (reverse xs)
 all_reverse Q [] a = tt
 all_reverse Q (x ∷ xs) a = subst (AllByRecursion Q) (sym (reverse-append (x ∷ []) xs)) (all-append Q (reverse xs) (x ∷ []) (all_reverse Q xs a.1) (a.0, tt))
+
+pub in_all : {A : Type 0} (Q : A → Type 0) (x : A) (xs : List A) → AllByRecursion Q xs → In x xs → Q x
+in_all Q x [] all i = absurd i
+in_all Q x (y ∷ ys) all (inl e) = subst Q (sym e) all.0
+in_all Q x (y ∷ ys) all (inr i) = in_all Q x ys all.1 i

@@ -1,2 +1,3 @@
-pub mod Shares
 pub mod Reported
+pub mod Shares
+pub mod Members

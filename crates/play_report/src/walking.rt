@@ -3,7 +3,8 @@
 ghost use Rattle.std.specs.Prelude.{◌≡◌, map, IfOk};
 ghost use Rattle.std.specs.List.{AllByRecursion};
 ghost use Rattle.net_model.specs.Valid.{IsValidEvent};
-ghost use Rattle.play_report.specs.Reported.{journal_of, AllFixed};
+ghost use Rattle.play_report.specs.Members.{AllFixed};
+ghost use Rattle.play_report.specs.Reported.{journal_of};
 
 use channel_calls::{Event, copy_event};
 use net_model::events_are_valid;

@@ -10,10 +10,10 @@ use Rattle.channel_name.specs.Digests.{person_string}
 use Rattle.channel_calls.specs.declared.entry.Entry.{Entry}
 use Rattle.channel_calls.specs.declared.event.Deed.{Deed}
 use Rattle.channel_calls.specs.declared.event.Event.{Event}
-use Rattle.net_model.specs.Journals.{In, Line, lines}
+use Rattle.net_model.specs.Journals.{In, Line, opened, lines}
 use Rattle.net_model.specs.Hashed.{of_fixed, of_entry, of_deed, of_line, hashed}
 use Rattle.premises.specs.declared.journal.Journal.{Journal}
-use Rattle.premises.specs.Collision.{of_event, of_journal, distinct_strings, strings_added, are_apart, none_collide, CollisionIsTold, DistinctSuffices}
+use Rattle.premises.specs.Collision.{of_event, of_journal, distinct_strings, strings_opened, are_apart, none_collide, CollisionIsTold, DistinctSuffices}
 use Rattle.net_model.proofs.Members.{In-append_right, In-append_left, In-append_cases, In-reverse, In-flat_map, joined, contains, contained}
 use Rattle.chain_laws.proofs.Tests.{and-left, and-right, and-both}
 use Rattle.premises.proofs.ListTests.{all-pass, pass-all, own-if, if-own}
@@ -31,7 +31,7 @@ line-of adds (y ∷ ys) x (inl e) = record { event = y; there = inl refl; same =
 line-of adds (y ∷ ys) x (inr i) = let a = line-of adds ys x i in record { event = a.event; there = inr a.there; same = a.same }
 
 among : (h : List Entry) (journals : List Journal) (j : Journal) (adds : ℕ → List FixedParts) → In j journals
-    → (s : List ℕ) → In s (hashed (reverse h) (lines adds (reverse j.events))) → In s (distinct_strings h journals) ⊎ In s (strings_added (lines adds (reverse j.events)))
+    → (s : List ℕ) → In s (hashed (reverse h) (lines adds (reverse j.events))) → In s (distinct_strings h journals) ⊎ In s (strings_opened (lines adds (reverse j.events)))
 among h journals j adds there s i = go (In-append_cases s (flat_map of_entry (reverse h)) (flat_map of_line journal) i)
   where
     journal : List Line
@@ -43,21 +43,21 @@ among h journals j adds there s i = go (In-append_cases s (flat_map of_entry (re
     others : List (List ℕ)
     others = flat_map of_journal journals
 
-    in-line : (x : Line) → In x journal → In s (flat_map of_fixed x.adds) ⊎ In s (of_deed x.deed) → In s (distinct_strings h journals) ⊎ In s (strings_added journal)
-    in-line x k (inl a) = inr (In-flat_map (λ (y : Line). flat_map of_fixed y.adds) s x journal k a)
+    in-line : (x : Line) → In x journal → In s (flat_map of_fixed (opened x)) ⊎ In s (of_deed x.deed) → In s (distinct_strings h journals) ⊎ In s (strings_opened journal)
+    in-line x k (inl a) = inr (In-flat_map (λ (y : Line). flat_map of_fixed (opened y)) s x journal k a)
     in-line x k (inr a) =
         let l = line-of adds (reverse j.events) x k in
         let d : In s (of_event l.event) = subst (λ (z : Deed). In s (of_deed z)) l.same a in
         inl (In-append_right s entries others
         (In-flat_map of_journal s j journals there (inr (In-flat_map of_event s l.event j.events (In-reverse l.event j.events l.there) d))))
 
-    go : In s (flat_map of_entry (reverse h)) ⊎ In s (flat_map of_line journal) → In s (distinct_strings h journals) ⊎ In s (strings_added journal)
+    go : In s (flat_map of_entry (reverse h)) ⊎ In s (flat_map of_line journal) → In s (distinct_strings h journals) ⊎ In s (strings_opened journal)
     go (inl k) =
         let a = joined of_entry s (reverse h) k in
         inl (In-append_left s entries others (In-flat_map of_entry s a.from h (In-reverse a.from h a.there) a.is))
     go (inr k) =
         let a = joined of_line s journal k in
-        in-line a.from a.there (In-append_cases s (flat_map of_fixed a.from.adds) (of_deed a.from.deed) a.is)
+        in-line a.from a.there (In-append_cases s (flat_map of_fixed (opened a.from)) (of_deed a.from.deed) a.is)
 
 -- ---- what collides among fewer strings
 
@@ -69,14 +69,14 @@ suffices =
     record {
       with_commands =
           λ h journals j adds there.
-          fewer (hashed (reverse h) (lines adds (reverse j.events))) (distinct_strings h journals ++ strings_added (lines adds (reverse j.events)))
+          fewer (hashed (reverse h) (lines adds (reverse j.events))) (distinct_strings h journals ++ strings_opened (lines adds (reverse j.events)))
           (λ s i. either h journals j adds s (among h journals j adds there s i));
       with_named =
-          λ h journals j adds more there.
+          λ h journals j adds more there opened.
           fewer (hashed (reverse h) (lines adds (reverse j.events)) ++ (person_string j.key ∷ flat_map of_fixed more))
-          (distinct_strings h journals ++ (strings_added (lines adds (reverse j.events)) ++ flat_map of_fixed more))
+          (distinct_strings h journals ++ flat_map of_fixed more)
           (λ s i.
-          named-either h journals j adds more there s
+          named-either h journals j adds more there opened s
           (In-append_cases s (hashed (reverse h) (lines adds (reverse j.events))) (person_string j.key ∷ flat_map of_fixed more) i));
       with_known_commands =
           λ h journals j adds there known.
@@ -85,30 +85,29 @@ suffices =
     }
   where
     either : (h : List Entry) (journals : List Journal) (j : Journal) (adds : ℕ → List FixedParts) (s : List ℕ)
-        → In s (distinct_strings h journals) ⊎ In s (strings_added (lines adds (reverse j.events))) → In s (distinct_strings h journals ++ strings_added (lines adds (reverse j.events)))
-    either h journals j adds s (inl i) = In-append_left s (distinct_strings h journals) (strings_added (lines adds (reverse j.events))) i
-    either h journals j adds s (inr i) = In-append_right s (distinct_strings h journals) (strings_added (lines adds (reverse j.events))) i
+        → In s (distinct_strings h journals) ⊎ In s (strings_opened (lines adds (reverse j.events))) → In s (distinct_strings h journals ++ strings_opened (lines adds (reverse j.events)))
+    either h journals j adds s (inl i) = In-append_left s (distinct_strings h journals) (strings_opened (lines adds (reverse j.events))) i
+    either h journals j adds s (inr i) = In-append_right s (distinct_strings h journals) (strings_opened (lines adds (reverse j.events))) i
 
-    with-more : (h : List Entry) (journals : List Journal) (added more : List (List ℕ)) (s : List ℕ)
-        → In s (distinct_strings h journals) ⊎ In s added → In s (distinct_strings h journals ++ (added ++ more))
-    with-more h journals added more s (inl i) = In-append_left s (distinct_strings h journals) (added ++ more) i
-    with-more h journals added more s (inr i) = In-append_right s (distinct_strings h journals) (added ++ more) (In-append_left s added more i)
+    with-more : (h : List Entry) (journals : List Journal) (opened more : List (List ℕ)) → ((s : List ℕ) → In s opened → In s more) → (s : List ℕ)
+        → In s (distinct_strings h journals) ⊎ In s opened → In s (distinct_strings h journals ++ more)
+    with-more h journals opened more among s (inl i) = In-append_left s (distinct_strings h journals) more i
+    with-more h journals opened more among s (inr i) = In-append_right s (distinct_strings h journals) more (among s i)
 
-    named-either : (h : List Entry) (journals : List Journal) (j : Journal) (adds : ℕ → List FixedParts) (more : List FixedParts) → In j journals → (s : List ℕ)
+    named-either : (h : List Entry) (journals : List Journal) (j : Journal) (adds : ℕ → List FixedParts) (more : List FixedParts) → In j journals
+        → ((s : List ℕ) → In s (strings_opened (lines adds (reverse j.events))) → In s (flat_map of_fixed more)) → (s : List ℕ)
         → In s (hashed (reverse h) (lines adds (reverse j.events))) ⊎ In s (person_string j.key ∷ flat_map of_fixed more)
-        → In s (distinct_strings h journals ++ (strings_added (lines adds (reverse j.events)) ++ flat_map of_fixed more))
-    named-either h journals j adds more there s (inl i) =
-        with-more h journals (strings_added (lines adds (reverse j.events))) (flat_map of_fixed more) s (among h journals j adds there s i)
-    named-either h journals j adds more there s (inr (inl e)) =
-        In-append_left s (distinct_strings h journals) (strings_added (lines adds (reverse j.events)) ++ flat_map of_fixed more)
+        → In s (distinct_strings h journals ++ flat_map of_fixed more)
+    named-either h journals j adds more there opened s (inl i) =
+        with-more h journals (strings_opened (lines adds (reverse j.events))) (flat_map of_fixed more) opened s (among h journals j adds there s i)
+    named-either h journals j adds more there opened s (inr (inl e)) =
+        In-append_left s (distinct_strings h journals) (flat_map of_fixed more)
         (In-append_right s (flat_map of_entry h) (flat_map of_journal journals) (In-flat_map of_journal s j journals there (inl e)))
-    named-either h journals j adds more there s (inr (inr i)) =
-        In-append_right s (distinct_strings h journals) (strings_added (lines adds (reverse j.events)) ++ flat_map of_fixed more)
-        (In-append_right s (strings_added (lines adds (reverse j.events))) (flat_map of_fixed more) i)
+    named-either h journals j adds more there opened s (inr (inr i)) = In-append_right s (distinct_strings h journals) (flat_map of_fixed more) i
 
     known-either : (h : List Entry) (journals : List Journal) (j : Journal) (adds : ℕ → List FixedParts)
-        → ((s : List ℕ) → In s (strings_added (lines adds (reverse j.events))) → In s (distinct_strings h journals)) → (s : List ℕ)
-        → In s (distinct_strings h journals) ⊎ In s (strings_added (lines adds (reverse j.events))) → In s (distinct_strings h journals)
+        → ((s : List ℕ) → In s (strings_opened (lines adds (reverse j.events))) → In s (distinct_strings h journals)) → (s : List ℕ)
+        → In s (distinct_strings h journals) ⊎ In s (strings_opened (lines adds (reverse j.events))) → In s (distinct_strings h journals)
     known-either h journals j adds known s (inl i) = i
     known-either h journals j adds known s (inr i) = known s i
 

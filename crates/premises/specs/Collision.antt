@@ -8,7 +8,7 @@ use Rattle.channel_name.specs.Collisions.{NoneCollide}
 use Rattle.channel_name.specs.Digests.{person_string}
 use Rattle.channel_calls.specs.declared.entry.Entry.{Entry}
 use Rattle.channel_calls.specs.declared.event.Event.{Event}
-use Rattle.net_model.specs.Journals.{In, Line, lines}
+use Rattle.net_model.specs.Journals.{In, Line, opened, lines}
 use Rattle.net_model.specs.Hashed.{of_fixed, of_entry, of_deed, hashed}
 use Rattle.premises.specs.declared.journal.Journal.{Journal}
 
@@ -40,27 +40,28 @@ none_collide digest (s ∷ rest) = list_all (are_apart digest s) rest && none_co
 abbrev pub CollisionIsTold : Type 0
 CollisionIsTold = (strings : List (List ℕ)) → IsTrue (none_collide sha256 strings) ↔ NoneCollide strings
 
--- the strings of the fixed parts that the commands of a journal's events add
-abbrev pub strings_added : List Line → List (List ℕ)
-strings_added journal = flat_map (λ x. flat_map of_fixed x.adds) journal
+-- the strings of the fixed parts that the lines of a journal open
+abbrev pub strings_opened : List Line → List (List ℕ)
+strings_opened journal = flat_map (λ x. flat_map of_fixed (opened x)) journal
 
 -- these strings too are distinct from the others and each other
 abbrev pub DistinctWith : List Entry → List Journal → List (List ℕ) → Type 0
 DistinctWith h journals more = NoneCollide (distinct_strings h journals ++ more)
 
--- For each of the journals: where no strings collide, those of its commands among them, none do that the laws of safety
--- speak of, nor do more fixed parts and its key, where these fixed parts' strings don't; and Distinct is enough where its
--- commands add no new string.
+-- For each of the journals: where no strings collide, those of the channels that it opens among them, none do that the laws of
+-- safety speak of; nor do those of its key and of more fixed parts, among which these channels are; and Distinct is enough where
+-- it opens no new string.
 pub record DistinctSuffices : Type 0 where
   pub with_commands :
       (h : List Entry) (journals : List Journal) (j : Journal) (adds : ℕ → List FixedParts) → In j journals
-      → DistinctWith h journals (strings_added (lines adds (reverse j.events)))
+      → DistinctWith h journals (strings_opened (lines adds (reverse j.events)))
       → NoneCollide (hashed (reverse h) (lines adds (reverse j.events)))
   pub with_named :
       (h : List Entry) (journals : List Journal) (j : Journal) (adds : ℕ → List FixedParts) (more : List FixedParts) → In j journals
-      → DistinctWith h journals (strings_added (lines adds (reverse j.events)) ++ flat_map of_fixed more)
+      → ((s : List ℕ) → In s (strings_opened (lines adds (reverse j.events))) → In s (flat_map of_fixed more))
+      → DistinctWith h journals (flat_map of_fixed more)
       → NoneCollide (hashed (reverse h) (lines adds (reverse j.events)) ++ (person_string j.key ∷ flat_map of_fixed more))
   pub with_known_commands :
       (h : List Entry) (journals : List Journal) (j : Journal) (adds : ℕ → List FixedParts) → In j journals
-      → ((s : List ℕ) → In s (strings_added (lines adds (reverse j.events))) → In s (distinct_strings h journals))
+      → ((s : List ℕ) → In s (strings_opened (lines adds (reverse j.events))) → In s (distinct_strings h journals))
       → Distinct h journals → NoneCollide (hashed (reverse h) (lines adds (reverse j.events)))

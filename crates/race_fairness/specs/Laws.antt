@@ -8,14 +8,14 @@ use Rattle.support_chain.specs.Real.{real}
 use Rattle.net_model.specs.Hashed.{of_fixed, hashed}
 use Rattle.net_model.specs.Premises.{Unforged, AreValid, InTime}
 use Rattle.net_model.specs.Safety.{IsSafe}
-use Rattle.network_exits.specs.Laws.{KeepsItsShare}
+use Rattle.network_exits.specs.Keeping.{KeepsItsShare}
 use Rattle.race_laws.specs.Races.{IsRaced}
 use Rattle.node_model.specs.Nodes.{told_of}
 use Rattle.node_model.specs.Places.{Told, lines_of}
 use Rattle.node_model.specs.Playing.{Signing, SignsWell}
 use Rattle.node_tables.specs.Stages.{stages}
 use Rattle.node_shares.specs.Orders.{orders_of}
-use Rattle.node_fairness.specs.Laws.{named_in}
+use Rattle.node_model.specs.Named.{named_in}
 use Rattle.node_ways.specs.Ways.{Numbered, ways, IsPlaced}
 use Rattle.race_nodes.specs.Races.{OpensLasting, PlaysRace}
 

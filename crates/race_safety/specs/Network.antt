@@ -12,12 +12,12 @@ use Rattle.net_model.specs.Honest.{Honest}
 use Rattle.net_model.specs.Safety.{IsSafe}
 use Rattle.share_model.specs.Kept.{SharesAreKept}
 use Rattle.share_model.specs.Places.{Order, plan, share, IsPlace}
-use Rattle.share_laws.specs.Lasting.{AreInOrder}
+use Rattle.share_laws.specs.Lines.{AreInOrder}
 use Rattle.share_laws.specs.Signed.{PlansFairly}
 use Rattle.exit_script.specs.Calls.{exit_calls}
-use Rattle.exit_laws.specs.Exits.{ended, Stand}
-use Rattle.exit_laws.specs.Fair.{LeavesFairly, AreFinal}
-use Rattle.network_exits.specs.Laws.{LeaversArePaid}
+use Rattle.exit_laws.specs.Endings.{ended, Stand, AreFinal}
+use Rattle.exit_laws.specs.Fair.{LeavesFairly}
+use Rattle.network_exits.specs.Keeping.{LeaversArePaid}
 use Rattle.race_laws.specs.Races.{IsRaced, NotesLasting}
 
 -- in a race watchers are in time, where no hashed strings collide

@@ -8,7 +8,7 @@ use Rattle.std.specs.Prelude.{◌&&◌, ◌||◌, nat_lt, IsSome, is_some, map, 
 use Rattle.std.specs.List.{find, list_any, position, position_or_len}
 use Rattle.std.specs.Option.{option_map}
 use Rattle.std.specs.Str.{bytes_eq}
-use Rattle.script_play.specs.Names.{◌>>=◌}
+use Rattle.script_people.specs.People.{◌>>=◌}
 
 pub first : (a b : Bool) → (a && b) ≡ true → a ≡ true
 first true b e = refl

@@ -43,16 +43,17 @@ use Rattle.script_reader.specs.step.Rule.TheVariants as broken
 use Rattle.script_reader.specs.step.Step.{Step}
 use Rattle.script_reader.specs.step.Step.TheVariants as steps
 use Rattle.script_laws.specs.Happens.{catches, IsCaught, HasCaught, EachHappens, HasOutcomes}
-use Rattle.script_play.specs.Meanings.{Meaning, learning, calling, valid_fixed, valid_state, hand_of, with_person, with_channel, names_by, both_by, message_by, signing, meant, meaning, nameless}
-use Rattle.script_play.specs.Chains.{state_by, listed, chain_of}
-use Rattle.script_play.specs.Names.{◌>>=◌, SignedBy, person_by, key_by, keys_by, fixed_by, name_of, digest_or_digits, position_of, sign, sign_state, sign_challenge}
+use Rattle.script_names.specs.Meanings.{Meaning, learning, calling, valid_fixed, valid_state, hand_of, with_person, with_channel, names_by, both_by, message_by, signing, meant, meaning, nameless}
+use Rattle.named_states.specs.Chains.{state_by, listed, chain_of}
+use Rattle.script_names.specs.Names.{fixed_by, name_of, digest_or_digits, position_of, sign_state, sign_challenge}
+use Rattle.script_people.specs.People.{◌>>=◌, SignedBy, person_by, key_by, keys_by, sign}
 use Rattle.script_play.specs.Play.{SceneOf, caught, naming, numbered, done, played, empty}
-use Rattle.script_play.specs.Chains.{NamedState}
-use Rattle.script_play.specs.declared.effect.Effect.{Effect}
-use Rattle.script_play.specs.declared.effect.Effect.TheVariants.{Nothing, Enter, Join, Tell, Post, Lose, Catch, Rounds}
-use Rattle.script_play.specs.declared.names.NamedChannel.{NamedChannel}
-use Rattle.script_play.specs.declared.names.Names.{Names}
-use Rattle.script_play.specs.declared.people.Person.{Person}
+use Rattle.named_states.specs.declared.chains.NamedState.{NamedState}
+use Rattle.script_names.specs.declared.effect.Effect.{Effect}
+use Rattle.script_names.specs.declared.effect.Effect.TheVariants.{Nothing, Enter, Join, Tell, Post, Lose, Catch, Rounds}
+use Rattle.script_names.specs.declared.names.NamedChannel.{NamedChannel}
+use Rattle.script_names.specs.declared.names.Names.{Names}
+use Rattle.script_people.specs.declared.people.Person.{Person}
 use Rattle.script_play.proofs.Kept.{told_keeps, rounds_keep}
 use Rattle.script_laws.proofs.Finding.{first, second, mapped_some, named_some, any_mapped, some_after, both_push}
 use Rattle.script_laws.proofs.People.{IsHand, SamePeople, same_keys, known_key, people_more, people_push, tested_is_known, found, after_sign, signs, signed_people, apart_push}

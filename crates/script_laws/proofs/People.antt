@@ -11,9 +11,9 @@ use Rattle.sign_index.specs.Signing.{Signing}
 use Rattle.script_reader.specs.Conditions as reader
 use Rattle.script_reader.specs.context.Context.{Context}
 use Rattle.script_reader.specs.context.Person.{Person as KnownPerson}
-use Rattle.script_play.specs.Chains.{or_none}
-use Rattle.script_play.specs.Names.{keys_by, used_once, sign}
-use Rattle.script_play.specs.declared.people.Person.{Person}
+use Rattle.named_states.specs.Chains.{or_none}
+use Rattle.script_people.specs.People.{keys_by, used_once, sign}
+use Rattle.script_people.specs.declared.people.Person.{Person}
 use Rattle.script_laws.proofs.Finding.{or_head, same_bytes, bytes_themselves, rest_false, head_false, placed, any_push}
 
 -- a person has no hand where the reader says that it has a node, and else one that signed no more often than the reader counts

@@ -7,10 +7,10 @@ use Rattle.std.specs.Str.{bytes_eq}
 use Rattle.channel_calls.specs.Spelling.{message}
 use Rattle.script_reader.specs.step.Step.{Step}
 use Rattle.script_reader.specs.step.Step.TheVariants as steps
-use Rattle.script_play.specs.Chains.{state_by}
-use Rattle.script_play.specs.Meanings.{message_by}
-use Rattle.script_play.specs.Names.{◌>>=◌}
-use Rattle.script_play.specs.Chains.{NamedState}
+use Rattle.named_states.specs.Chains.{state_by}
+use Rattle.script_names.specs.Meanings.{message_by}
+use Rattle.script_people.specs.People.{◌>>=◌}
+use Rattle.named_states.specs.declared.chains.NamedState.{NamedState}
 use Rattle.script_laws.specs.Happens.{catches}
 use Rattle.script_laws.proofs.Finding.{same_bytes, bytes_themselves, none_more, any_before, find_push, find_last}
 

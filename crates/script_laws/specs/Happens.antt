@@ -8,10 +8,10 @@ use Rattle.nitro_bytes.specs.Spelling.{outcome}
 use Rattle.net_party.specs.Ways.{Ways}
 use Rattle.script_reader.specs.step.Step.{Step}
 use Rattle.script_reader.specs.step.Step.TheVariants as steps
-use Rattle.script_play.specs.Chains.{state_by}
-use Rattle.script_play.specs.Meanings.{meant, message_by}
+use Rattle.named_states.specs.Chains.{state_by}
+use Rattle.script_names.specs.Meanings.{meant, message_by}
 use Rattle.script_play.specs.Play.{play}
-use Rattle.script_play.specs.declared.names.Names.{Names}
+use Rattle.script_names.specs.declared.names.Names.{Names}
 
 -- the step catches a state of a node, for this name
 abbrev pub catches : List ℕ → Step → Bool

@@ -7,20 +7,21 @@ use Rattle.sha2.proofs.Facts256.{length-sha256}
 use Rattle.sha2.specs.Sha256.{sha256}
 use Rattle.sign_index.specs.Signing.{IsHeight}
 use Rattle.net_party.specs.Ways.{IsFresh}
-use Rattle.script_reader.specs.Digests.{id_of, fresh}
-use Rattle.script_reader.specs.Bounds.{Fits, persons}
+use Rattle.script_rules.specs.Digests.{id_of, fresh}
+use Rattle.script_rules.specs.Bounds.{Fits, persons}
 use Rattle.script_play.specs.Growth.{FitsEffect, effect_weight, weight}
 use Rattle.channel_calls.specs.declared.call.Op.{Op}
 use Rattle.channel_calls.specs.declared.call.Op.TheVariants as ops
 use Rattle.net_party.specs.declared.command.Command.{Command}
-use Rattle.script_play.specs.declared.effect.Effect.TheVariants.{Enter, Tell, Post, Lose, Catch, Rounds}
-use Rattle.script_play.specs.Meanings.{Meaning, learning, doing, meant, meaning}
-use Rattle.script_play.specs.Names.{◌>>=◌, SignedBy, sign, sign_challenge}
-use Rattle.script_play.specs.Chains.{NamedState}
-use Rattle.script_play.specs.declared.names.Names.{Names}
-use Rattle.script_play.specs.declared.people.Person.{Person}
-use Rattle.script_reader.specs.step.Step.{Step}
-use Rattle.script_reader.specs.step.Step.TheVariants as steps
+use Rattle.script_names.specs.declared.effect.Effect.TheVariants.{Enter, Tell, Post, Lose, Catch, Rounds}
+use Rattle.script_names.specs.Meanings.{Meaning, learning, doing, meant, meaning}
+use Rattle.script_names.specs.Names.{sign_challenge}
+use Rattle.script_people.specs.People.{◌>>=◌, SignedBy, sign}
+use Rattle.named_states.specs.declared.chains.NamedState.{NamedState}
+use Rattle.script_names.specs.declared.names.Names.{Names}
+use Rattle.script_people.specs.declared.people.Person.{Person}
+use Rattle.script_rules.specs.declared.step.Step.{Step}
+use Rattle.script_rules.specs.declared.step.Step.TheVariants as steps
 use Rattle.nitro_bytes.specs.Parts.{FixedParts}
 
 -- ---- who signs stays

@@ -1,10 +1,10 @@
 -- The steps of a script make no more entries than the history has room for.
 use Rattle.std.proofs.Common.{◌≡◌, ℕ, ◌+◌, ◌*◌, ◌≤◌, ◌<◌, ◌^◌, List, [], ◌∷◌, length, arith}
 use Rattle.std.proofs.lemmas.List.Sums.{sum_by-cons}
-use Rattle.script_reader.specs.Bounds.{rounds, rounds_of}
+use Rattle.script_rules.specs.Bounds.{rounds, rounds_of}
 use Rattle.script_play.specs.Growth.{weight, weight_of}
-use Rattle.script_reader.specs.step.Step.{Step}
-use Rattle.script_reader.specs.step.Step.TheVariants as steps
+use Rattle.script_rules.specs.declared.step.Step.{Step}
+use Rattle.script_rules.specs.declared.step.Step.TheVariants as steps
 
 light : (step : Step) → weight step ≤ 1 + rounds step * 528384
 light (steps.Rounds count) = omega (arith)

@@ -1,10 +1,10 @@
 -- How much the history grows by each step.
 use Rattle.std.specs.Prelude.{ℕ, ◌*◌, List, sum_by}
 use Rattle.net_party.specs.Ways.{IsFresh}
-use Rattle.script_play.specs.declared.effect.Effect.{Effect}
-use Rattle.script_play.specs.declared.effect.Effect.TheVariants as effects
-use Rattle.script_reader.specs.step.Step.{Step}
-use Rattle.script_reader.specs.step.Step.TheVariants as steps
+use Rattle.script_names.specs.declared.effect.Effect.{Effect}
+use Rattle.script_names.specs.declared.effect.Effect.TheVariants as effects
+use Rattle.script_rules.specs.declared.step.Step.{Step}
+use Rattle.script_rules.specs.declared.step.Step.TheVariants as steps
 
 -- a node joins with a signer that has not signed
 abbrev pub FitsEffect : Effect → Type 0

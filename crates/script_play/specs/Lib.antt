@@ -1,5 +1,2 @@
-pub mod Chains
-pub mod Names
-pub mod Meanings
 pub mod Growth
 pub mod Play

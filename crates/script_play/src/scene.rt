@@ -8,25 +8,25 @@ ghost use Rattle.support_chain.specs.Real.{real};
 ghost use Rattle.net_world.specs.Entered.{oldest_first};
 ghost use Rattle.net_world.specs.Worlds.{happened, given, joined, journal};
 ghost use Rattle.net_world.specs.declared.happening.Happening.TheVariants as happenings;
-ghost use Rattle.script_reader.specs.Conditions.{signer_of};
-ghost use Rattle.script_reader.specs.Bounds.{Fits, persons};
-ghost use Rattle.script_play.specs.Meanings.{with_state};
+ghost use Rattle.script_rules.specs.Conditions.{signer_of};
+ghost use Rattle.script_rules.specs.Bounds.{Fits, persons};
+ghost use Rattle.script_names.specs.Meanings.{with_state};
 ghost use Rattle.script_play.specs.Play.{empty, caught, told, naming, entering, play_round, play_rounds, done, played, at_end};
 ghost use Rattle.script_play.specs.Growth.{FitsEffect, effect_weight, weight};
-ghost use Rattle.script_play.specs.declared.effect.Effect.TheVariants as effects;
+ghost use Rattle.script_names.specs.declared.effect.Effect.TheVariants as effects;
 
 use crate::caught::caught;
-use crate::effect::Effect;
-use crate::names::Names;
-use crate::rounds::{Letter, round, see, see_all};
 use channel_calls::{Entry, Op};
 use net_party::{Command, Party, copy_command};
 use net_world::{Docket, Happening, Member, World, world_step};
 use nitro_bytes::{Key, Label, Listed, Name, NoMemory};
-use script_reader::Step;
+use script_names::{Effect, Names};
+use script_rules::Step;
 use sign_index::Signer;
 use std::alloc::Global;
 use std::marker::Model;
+use step_meanings::meet;
+use world_rounds::{Letter, round, see, see_all};
 
 /// What names stand for, the world, the messages on their way, and how long the history was after each round.
 #[derive(Drop)]
@@ -243,7 +243,7 @@ impl<P: Party, D: Docket> Scene<P, D> {
         ensures grown { OnOk result (length self.new.world.history ≤ length self.old.world.history + weight step.now) }
         ensures people { OnOk result (length self.new.names.people ≤ length self.old.names.people + persons step.now) }
     {
-        let effect = self.names.meet(step, signer)?;
+        let effect = meet(&mut self.names, step, signer)?;
         self.do_effect(number, effect)?;
         Ok(())
     }

@@ -4,7 +4,7 @@ use Rattle.std.specs.Prelude.{Bool, ◌&&◌, ◌||◌, ◌==◌, not, nat_lt, n
 use Rattle.std.proofs.lemmas.Bool.{ltb-true, leb-true, eqb-true}
 use Rattle.std.proofs.lemmas.List.Elements.{All-nil, All-cons}
 use Rattle.std.proofs.lemmas.List.Sums.{sum_by-cons}
-use Rattle.script_reader.specs.Bounds.{Fits, persons, persons_of, rounds, rounds_of}
+use Rattle.script_rules.specs.Bounds.{Fits, persons, persons_of, rounds, rounds_of}
 use Rattle.script_rules.specs.Conditions.{after, fits, is_able, within}
 use Rattle.script_rules.specs.Context.{has_index}
 use Rattle.script_rules.specs.Digests.{key_of, person_name}

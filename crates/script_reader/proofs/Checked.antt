@@ -16,8 +16,8 @@ use Rattle.script_rules.specs.declared.step.Rule.TheVariants as rules
 use Rattle.script_rules.specs.declared.step.Step.{Step}
 use Rattle.script_rules.specs.declared.step.Step.TheVariants as steps
 use Rattle.script_reader.specs.declared.script.ScriptFault.{ScriptFault}
-use Rattle.script_reader.specs.declared.written.Written.{Written}
-use Rattle.script_reader.specs.declared.written.Written.TheVariants as written
+use Rattle.step_forms.specs.declared.written.Written.{Written}
+use Rattle.step_forms.specs.declared.written.Written.TheVariants as written
 
 -- both went well, if one after the other did
 bind_ok : {A B : Type 0} (r : Result A Rule) (f : A → Result B Rule) (y : B) → r >>= f ≡ Ok y → (x : A) × (r ≡ Ok x) × (f x ≡ Ok y)
@@ -106,7 +106,7 @@ keeps c d s h =
     let apart = λ (t : Step) (x : ℕ). distinct c t >>= raced t in
     let r = bind_ok (led c d) (limited c) s h in
     let m = bind_ok (named_of c d) (resolved c) r.0 r.1 in
-    let w = bind_ok (written_of c d) (λ w. holds rules.Name (knows_names c w) >>= λ x. Ok w) m.0 m.1 in
+    let w = bind_ok (written_of d) (λ w. holds rules.Name (knows_names c w) >>= λ x. Ok w) m.0 m.1 in
     let n = bind_ok (holds rules.Name (knows_names c w.0)) (λ x. Ok w.0) m.0 w.2 in
     let one : w.0 ≡ m.0 = cc in
     let names = subst (λ (x : Written). knows_names c x ≡ true) one (held rules.Name (knows_names c w.0) n.0 n.1) in

@@ -5,7 +5,7 @@ use Rattle.std.proofs.lemmas.List.Elements.{filter_map-append}
 use Rattle.serde_json.specs.declared.value.Value.{Value}
 use Rattle.serde_json.specs.View.{view, items_view}
 use Rattle.sign_index.specs.Signing.{Signing}
-use Rattle.script_reader.specs.Bounds.{signers_of}
+use Rattle.script_rules.specs.Bounds.{signers_of}
 use Rattle.script_rules.specs.Conditions.{after, signer_of}
 use Rattle.script_reader.specs.Reading.{step_of}
 use Rattle.script_reader.specs.Script.{◌>>=◌, at_step, steps_from}

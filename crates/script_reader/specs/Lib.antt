@@ -1,12 +1,9 @@
-pub mod Bounds
-pub mod Forms
-pub mod Kinds
 pub mod Listed
 pub mod Messages
 pub mod Reading
 pub mod Resolved
 pub mod Script
-pub mod Written
+pub use Rattle.script_rules.specs.Bounds
 pub use Rattle.script_rules.specs.Conditions
 pub use Rattle.script_rules.specs.Context
 pub use Rattle.script_rules.specs.Digests

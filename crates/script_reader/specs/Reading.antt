@@ -1,9 +1,9 @@
 -- The step that a value is, or the first rule that it breaks.
-use Rattle.std.specs.Prelude.{◌≡◌, ◌&&◌, ◌||◌, List, ℕ, Bool, true, not, Result, Ok}
+use Rattle.std.specs.Prelude.{◌≡◌, ◌&&◌, ◌||◌, Bool, true, not, Result, Ok}
 use Rattle.serde_json.specs.Data.{Data}
 use Rattle.script_rules.specs.Rules.{◌>>=◌, holds}
-use Rattle.script_reader.specs.Kinds.{word_at}
-use Rattle.script_reader.specs.Forms.{is_word, is_built, written_by}
+use Rattle.key_kinds.specs.Kinds.{word_at}
+use Rattle.step_forms.specs.Forms.{is_word, written_by}
 use Rattle.script_reader.specs.Resolved.{knows_outcome, resolved}
 use Rattle.script_rules.specs.Conditions.{sign_uses, open_uses, open_on_uses, open_virtual_uses, are_known, is_named, fits, distinct, runs_in_race}
 use Rattle.script_rules.specs.Context.{is_new}
@@ -11,19 +11,14 @@ use Rattle.script_rules.specs.declared.context.Context.{Context}
 use Rattle.script_rules.specs.declared.step.Rule.{Rule}
 use Rattle.script_rules.specs.declared.step.Rule.TheVariants as rules
 use Rattle.script_rules.specs.declared.step.Step.{Step}
-use Rattle.script_reader.specs.declared.written.Written.{Written}
-use Rattle.script_reader.specs.declared.written.Written.TheVariants as written
+use Rattle.step_forms.specs.declared.written.Written.{Written}
+use Rattle.step_forms.specs.declared.written.Written.TheVariants as written
 
--- steps of this word are read
-abbrev pub plays : Context → List ℕ → Bool
-plays c word = c.all_forms || is_built word
-
--- first the shape alone; what isn't built is told before its keys are read
-abbrev pub written_of : Context → Data → Result Written Rule
-written_of c d = do
+-- first the shape alone
+abbrev pub written_of : Data → Result Written Rule
+written_of d = do
   word ← word_at d
   known ← holds rules.Shape (is_word word)
-  built ← holds rules.NotBuilt (plays c word)
   written_by word d
 
 -- all names, those of both outcomes among them
@@ -48,7 +43,7 @@ limited c s = do
 
 abbrev pub named_of : Context → Data → Result Written Rule
 named_of c d = do
-  w ← written_of c d
+  w ← written_of d
   named ← holds rules.Name (knows_names c w)
   Ok w
 

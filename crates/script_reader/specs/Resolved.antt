@@ -19,16 +19,16 @@ use Rattle.script_rules.specs.declared.step.Rule.{Rule}
 use Rattle.script_rules.specs.declared.step.Rule.TheVariants as rules
 use Rattle.script_rules.specs.declared.step.Step.{Step}
 use Rattle.script_rules.specs.declared.step.Step.TheVariants as steps
-use Rattle.script_reader.specs.declared.written.Holding.{Holding}
-use Rattle.script_reader.specs.declared.written.OpenKeys.{OpenKeys}
-use Rattle.script_reader.specs.declared.written.OpenOnKeys.{OpenOnKeys}
-use Rattle.script_reader.specs.declared.written.OpenVirtualKeys.{OpenVirtualKeys}
-use Rattle.script_reader.specs.declared.written.SignKeys.{SignKeys}
-use Rattle.script_reader.specs.declared.written.Written.{Written}
-use Rattle.script_reader.specs.declared.written.Written.TheVariants as written
-use Rattle.script_reader.specs.declared.written.WrittenShape.{WrittenShape}
-use Rattle.script_reader.specs.declared.written.WrittenShape.TheVariants as shapes
-use Rattle.script_reader.specs.declared.written.WrittenAsset.{WrittenAsset}
+use Rattle.step_forms.specs.declared.written.Holding.{Holding}
+use Rattle.step_forms.specs.declared.written.OpenKeys.{OpenKeys}
+use Rattle.step_forms.specs.declared.written.OpenOnKeys.{OpenOnKeys}
+use Rattle.step_forms.specs.declared.written.OpenVirtualKeys.{OpenVirtualKeys}
+use Rattle.step_forms.specs.declared.written.SignKeys.{SignKeys}
+use Rattle.step_forms.specs.declared.written.Written.{Written}
+use Rattle.step_forms.specs.declared.written.Written.TheVariants as written
+use Rattle.step_forms.specs.declared.written.WrittenShape.{WrittenShape}
+use Rattle.step_forms.specs.declared.written.WrittenShape.TheVariants as shapes
+use Rattle.step_forms.specs.declared.written.WrittenAsset.{WrittenAsset}
 
 abbrev pub knows_shape : Context → WrittenShape → Bool
 knows_shape c (shapes.Items holdings) = list_all (λ h. knows c kinds.Dest h.to) holdings

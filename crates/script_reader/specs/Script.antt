@@ -30,7 +30,7 @@ abbrev pub ◌>>=◌ : {A B : Type 0} → Result A ScriptFault → (A → Result
 
 -- before the first step
 abbrev pub start : Bool → Context
-start race = record { race = race; all_forms = false; people = []; channels = []; states = []; signers = []; rounds = 0 }
+start race = record { race = race; people = []; channels = []; states = []; signers = []; rounds = 0 }
 
 -- the steps that the items are, behind those seen, after which c is declared
 abbrev pub steps_from : Context → List Step → Items → Result (List Step) ScriptFault

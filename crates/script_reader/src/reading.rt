@@ -4,33 +4,23 @@ ghost use Rattle.std.specs.Prelude.{◌≡◌, IfOk};
 ghost use Rattle.serde_json.specs.View.{view};
 ghost use Rattle.script_rules.specs.Rules.{Gives};
 ghost use Rattle.script_rules.specs.Conditions.{after, signer_of};
-ghost use Rattle.script_reader.specs.Reading.{plays, written_of, knows_names, named_of, led, limited, step_of};
+ghost use Rattle.script_reader.specs.Reading.{written_of, knows_names, named_of, led, limited, step_of};
 
-use crate::forms::{is_built, is_word, written_by};
-use crate::kinds::word_at;
 use crate::resolve::{knows_outcome, resolved};
-use crate::written::Written;
+use key_kinds::word_at;
 use script_rules::{Context, Rule, Step, StepFault, enter, runs_in_race};
 use serde_json::Value;
 use sign_index::Signer;
 use std::alloc::Global;
+use step_forms::{Written, is_word, written_by};
 
-fn plays(context: &Context, word: &str) -> bool
-    ensures { result ≡ plays context.now word.now }
-{
-    context.all_forms || is_built(word)
-}
-
-/// Reads a step as it is written, if steps of its kind are played.
-fn written_of(alloc: Global, context: &Context, step: &Value) -> Result<Written, StepFault>
-    ensures { Gives (λ w. w) result (written_of context.now (view step.now)) }
+/// Reads a step as it is written.
+fn written_of(alloc: Global, step: &Value) -> Result<Written, StepFault>
+    ensures { Gives (λ w. w) result (written_of (view step.now)) }
 {
     let word = word_at(step)?;
     if !is_word(word) {
         return Err(StepFault::Broken(Rule::Shape));
-    }
-    if !plays(context, word) {
-        return Err(StepFault::Broken(Rule::NotBuilt));
     }
     written_by(alloc, word, step)
 }
@@ -66,7 +56,7 @@ fn knows_names(context: &Context, written: &Written) -> bool
 fn named_of(alloc: Global, context: &Context, value: &Value) -> Result<Written, StepFault>
     ensures { Gives (λ w. w) result (named_of context.now (view value.now)) }
 {
-    let written = written_of(alloc, context, value)?;
+    let written = written_of(alloc, value)?;
     if !knows_names(context, &written) {
         return Err(StepFault::Broken(Rule::Name));
     }

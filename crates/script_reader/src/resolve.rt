@@ -6,12 +6,12 @@ ghost use Rattle.script_rules.specs.Rules.{Gives};
 ghost use Rattle.script_reader.specs.Resolved.{knows_shape, knows_outcome, dest_of, item_of, each, shape_in, asset_in, outcome_in, pair_in, signed, opened, opened_on, opened_virtual, resolved};
 ghost use Rattle.script_rules.specs.Context.{knows};
 
-use crate::written::{
-    Holding, OpenKeys, OpenOnKeys, OpenVirtualKeys, SignKeys, Written, WrittenAsset, WrittenShape,
-};
 use nitro_bytes::{AssetOutcome, ByteFault, Dest, Item, Label, Listed, Outcome, Shape};
 use script_rules::{Context, Kind, Rule, Step, StepFault};
 use std::alloc::Global;
+use step_forms::{
+    Holding, OpenKeys, OpenOnKeys, OpenVirtualKeys, SignKeys, Written, WrittenAsset, WrittenShape,
+};
 
 fn knows_holdings(context: &Context, holdings: &[Holding]) -> bool
     ensures { result ≡ list_all (λ h. knows context.now Kind.Dest h.to) holdings.now }

@@ -5,15 +5,15 @@ ghost use Rattle.serde_json.specs.View.{view, items_view};
 ghost use Rattle.script_rules.specs.Rules.{Gives};
 ghost use Rattle.script_reader.specs.Listed.{few_items, listed};
 ghost use Rattle.script_rules.specs.Conditions.{after, signer_of};
-ghost use Rattle.script_reader.specs.Bounds.{Fits, persons_of, rounds_of, signers_of};
+ghost use Rattle.script_rules.specs.Bounds.{Fits, persons_of, rounds_of, signers_of};
 ghost use Rattle.script_reader.specs.Reading.{step_of};
 ghost use Rattle.script_reader.specs.Script.{Ends, fault_at, at_step, start, steps_from, script_of, IsReading, IsReadingIn, AreChecked};
 ghost use Rattle.script_reader.specs.declared.script.ScriptFault.TheVariants.{NoMemory as NoMemoryLeft};
 
-use crate::kinds::{array_at, keys};
 use crate::reading::step_of;
+use key_kinds::{array_at, keys};
 use nitro_bytes::{Listed, NoMemory};
-use script_rules::{Context, NameList, Rule, Step, StepFault};
+use script_rules::{Context, NameList, Rule, STEP_LIMIT, Step, StepFault};
 use serde_json::Value;
 use sign_index::Signer;
 use std::alloc::{AllocFailed, Global};
@@ -67,9 +67,6 @@ pub struct Script {
     pub steps: Listed<Step>,
 }
 
-/// A script has at most so many steps.
-pub const STEP_LIMIT: usize = 4096;
-
 fn fault_at(step: u32, fault: StepFault) -> ScriptFault
     ensures { result ≡ fault_at step fault }
 {
@@ -84,7 +81,6 @@ fn start(alloc: Global, race: bool) -> Context
 {
     Context {
         race,
-        all_forms: false,
         people: Listed::make(Vec::new(alloc)),
         channels: Listed::make(Vec::new(alloc)),
         states: NameList::make(alloc),
@@ -136,7 +132,7 @@ fn steps_in(
     Ok((steps, signers))
 }
 
-#[tactic(auto, using(crate::proofs::Counts::item_count_view))]
+#[tactic(auto, using(key_kinds::proofs::Counts::item_count_view))]
 fn is_few(values: &[Value]) -> bool
     ensures few { result ≡ few_items (items_view values.now) }
     ensures count { result ≡ nat_le (length values.now) STEP_LIMIT }

@@ -1,3 +1,4 @@
+pub mod Bounds
 pub mod Conditions
 pub mod Context
 pub mod Digests

@@ -49,8 +49,6 @@ pub struct Channel {
 #[derive(Drop)]
 pub struct Context {
     pub race: bool,
-    /// Whether forms that aren't built are read too. A script that is played has none.
-    pub all_forms: bool,
     pub people: Listed<Person>,
     pub channels: Listed<Channel>,
     pub states: NameList,

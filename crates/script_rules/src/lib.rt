@@ -14,6 +14,6 @@ pub use context::{Channel, Context, Kind, Person};
 pub use digests::id_of;
 pub use digits::is_hex;
 pub use entering::enter;
-pub use limits::runs_in_race;
+pub use limits::{STEP_LIMIT, runs_in_race};
 pub use name_list::NameList;
 pub use step::{Rule, Step, StepFault};

@@ -8,6 +8,9 @@ use crate::context::Context;
 use crate::step::Step;
 use nitro_bytes::{AssetOutcome, Label};
 
+/// A script has at most so many steps.
+pub const STEP_LIMIT: usize = 4096;
+
 fn within(n: u64, low: u64, high: u64) -> bool
     ensures { result ≡ within n low high }
 {

@@ -9,14 +9,13 @@ use std::alloc::{AllocError, AllocFailed};
 use std::error::Error;
 use std::fmt;
 
-/// The rules of a script, in the order of their numbers in the text.
+/// The rules of a script, in the order of their numbers in the text, where 5 is no rule.
 #[derive(Clone, Copy, Debug, PartialEq, Eq)]
 pub enum Rule {
     NotJson,
     Shape,
     Name,
     Limit,
-    NotBuilt,
     NotInRace,
 }
 
@@ -30,7 +29,6 @@ impl Rule {
             Rule::Shape => "an unknown word, or keys or values of another kind",
             Rule::Name => "a name that is taken, or isn't declared as what its key needs",
             Rule::Limit => "a value beyond its limit",
-            Rule::NotBuilt => "a step that isn't played yet",
             Rule::NotInRace => "a step that a race doesn't have",
         }
     }

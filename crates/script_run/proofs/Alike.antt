@@ -1,11 +1,12 @@
 -- The words and the bytes of a source that doesn't fail determine the end and the report.
 use Rattle.std.proofs.Common.{◌≡◌, ℕ, ◌≤◌, ◌<◌, ◌⊎◌, inl, inr, List, length, Option, Some, None, refl, sym, ◌∙◌, ap, arith, subst}
 use Rattle.std.specs.Prelude.{false}
-use Rattle.told_party.specs.Telling.{Tale}
+use Rattle.net_party.specs.Ways.{Ways}
 use Rattle.play_report.specs.Reported.{IsPlayed}
 use Rattle.play_report.proofs.Once.{one_report}
 use Rattle.report_text.specs.declared.report.Load.{Load as Note}
 use Rattle.report_text.specs.declared.report.Report.{Report}
+use Rattle.script_names.specs.Commands.{command_of}
 use Rattle.script_play.specs.Play.{play}
 use Rattle.script_reader.specs.Script.{IsScript, Breaks}
 use Rattle.script_reader.specs.step.Rule.{Rule}
@@ -41,19 +42,19 @@ record IsBroken (bytes : List ℕ) (s : Status) (p : Option Report) : Type 0 whe
 both : (s t s' t' : Status) (p q p' q' : Option Report) → s ≡ s' → t ≡ t' → p ≡ p' → q ≡ q' → s' ≡ t' → p' ≡ q' → (s ≡ t) × (p ≡ q)
 both s t s' t' p q p' q' a b c d e f = (a ∙ e ∙ sym b, c ∙ f ∙ sym d)
 
-module _ {P : Type 0} (tale : Tale P) where
+module _ {P : Type 0} (ways : Ways P) where
   record IsPlayedOut (bytes : List ℕ) (s : Status) (p : Option Report) : Type 0 where
     short : length bytes ≤ 4194304
     told : Report
     steps : List Step
     script : IsScript false bytes steps
-    played : IsPlayed tale None told steps
+    played : IsPlayed ways None told steps
     status : s ≡ Done
     report : p ≡ Some told
 
   record IsLoaded (seed count : ℕ) (s : Status) (p : Option Report) : Type 0 where
     told : Report
-    played : IsPlayed tale (Some (made_from seed count)) told (load_steps seed count)
+    played : IsPlayed ways (Some (made_from seed count)) told (load_steps seed count)
     status : s ≡ Done
     report : p ≡ Some told
 
@@ -63,7 +64,7 @@ module _ {P : Type 0} (tale : Tale P) where
   Fate (Some Run) bytes s p = IsLong bytes s p ⊎ (IsBroken bytes s p ⊎ IsPlayedOut bytes s p)
   Fate (Some (Load seed count)) bytes s p = IsLoaded seed count s p
 
-  came : (words : List (List ℕ)) (bytes : List ℕ) (g : Given) (r : Report) (a : Asked) → IsCalm words bytes g → Comes tale a g r
+  came : (words : List (List ℕ)) (bytes : List ℕ) (g : Given) (r : Report) (a : Asked) → IsCalm words bytes g → Comes ways a g r
       → Fate (Some a) bytes Done (Some r)
   came words bytes g r Run calm e =
       let whole = all_taken g.before g.after bytes e.0 calm.told e.1 e.2 in
@@ -78,7 +79,7 @@ module _ {P : Type 0} (tale : Tale P) where
       }))
   came words bytes g r (Load seed count) calm e = record { told = r; played = e.1; status = refl; report = refl }
 
-  fate : (words : List (List ℕ)) (bytes : List ℕ) (g : Given) (s : Status) (p : Option Report) → IsCalm words bytes g → EndsAs tale g s p
+  fate : (words : List (List ℕ)) (bytes : List ℕ) (g : Given) (s : Status) (p : Option Report) → IsCalm words bytes g → EndsAs ways g s p
       → (o : Option Asked) × (wanted words ≡ o) × Fate o bytes s p
   fate words bytes g Done None calm e = absurd e
   fate words bytes g Done (Some r) calm e = (Some e.0, ap wanted (sym calm.words_are) ∙ e.1, came words bytes g r e.0 calm e.2)
@@ -110,8 +111,8 @@ module _ {P : Type 0} (tale : Tale P) where
       )
   fate words bytes g TooLong (Some r) calm e = absurd e
 
-  one_report_of : (load : Option Note) (r q : Report) (steps : List Step) → IsPlayed tale load r steps → IsPlayed tale load q steps → r ≡ q
-  one_report_of load r q steps a b = one_report tale load r q (play tale.ways steps) a b
+  one_report_of : (load : Option Note) (r q : Report) (steps : List Step) → IsPlayed ways load r steps → IsPlayed ways load q steps → r ≡ q
+  one_report_of load r q steps a b = one_report (command_of steps) ways load r q (play ways steps) a.tells b.tells
 
   one_fate : (o : Option Asked) (bytes : List ℕ) (s t : Status) (p q : Option Report) → Fate o bytes s p → Fate o bytes t q → (s ≡ t) × (p ≡ q)
   one_fate None bytes s t p q a b = both s t Usage Usage p q None None a.status b.status a.report b.report refl refl
@@ -131,9 +132,9 @@ module _ {P : Type 0} (tale : Tale P) where
   one_fate (Some Run) bytes s t p q (inr (inr a)) (inr (inr b)) =
       let same = one_script false bytes a.steps b.steps a.script b.script in
       both s t Done Done p q (Some a.told) (Some b.told) a.status b.status a.report b.report refl
-      (ap Some (one_report_of None a.told b.told a.steps a.played (subst (IsPlayed tale None b.told) (sym same) b.played)))
+      (ap Some (one_report_of None a.told b.told a.steps a.played (subst (IsPlayed ways None b.told) (sym same) b.played)))
 
-  pub alike : (words : List (List ℕ)) (bytes : List ℕ) (g h : Given) → IsCalm words bytes g → IsCalm words bytes h → EndsAlike tale g h
+  pub alike : (words : List (List ℕ)) (bytes : List ℕ) (g h : Given) → IsCalm words bytes g → IsCalm words bytes h → EndsAlike ways g h
   alike words bytes g h calm quiet s t p q e f =
       let one = fate words bytes g s p calm e in
       let other = fate words bytes h t q quiet f in

@@ -1,18 +1,18 @@
 -- A sound script ends as done, and so does a load.
 use Rattle.std.proofs.Common.{◌≡◌, ℕ, ◌≤◌, ◌<◌, List, [], ◌++◌, length, Option, Some, None, refl, sym, ◌∙◌, ap, arith, append-nil, length-append, subst}
-use Rattle.std.specs.Prelude.{false}
+use Rattle.std.specs.Prelude.{false, IfSome}
 use Rattle.std.specs.Io.KnownBytes.{Keeps, Consumes, IsAtEnd}
 use Rattle.script_reader.specs.Script.{Breaks}
 use Rattle.script_reader.specs.step.Rule.{Rule}
 use Rattle.script_reader.proofs.OneReading.{script_breaks_none}
 use Rattle.byte_source.specs.Outside.{Rose}
-use Rattle.script_run.specs.Run.{Given, wanted, Runs, Takes, Reads, HasScript, IsSound, EndsAs}
+use Rattle.script_run.specs.Run.{Given, wanted, Runs, Takes, Reads, HasScript, IsSound, IsToldOf, EndsAs}
 use Rattle.script_run.specs.declared.run.Status.{Status}
 use Rattle.script_run.specs.declared.run.Status.TheVariants.{Done, NoMemory, Usage, Script, ReadFault, WriteFault, TooLong}
 use Rattle.word_reader.specs.declared.asking.Asked.{Asked}
 use Rattle.word_reader.specs.declared.asking.Asked.TheVariants.{Run, Load}
 use Rattle.report_text.specs.declared.report.Report.{Report}
-use Rattle.told_party.specs.Telling.{Tale}
+use Rattle.net_party.specs.Ways.{Ways}
 
 -- a source that isn't asked keeps its bytes
 pub keeps_all : (left : Option (List ℕ)) → Keeps left left
@@ -58,15 +58,32 @@ not_long g (Load seed count) e some s = one_request (wanted g.words) seed count 
 none_or_some : {A : Type 0} (o : Option A) (x : A) → o ≡ None → o ≡ Some x → ⊥
 none_or_some o x a b = cc
 
-pub completes : {P : Type 0} (tale : Tale P) (g : Given) (status : Status) (report : Option Report) → EndsAs tale g status report → IsSound g → status ≡ Done
-completes tale g Done report e s = refl
-completes tale g NoMemory report e s = absurd e
-completes tale g Usage None e s = absurd (none_or_some (wanted g.words) s.0 e.0 s.1)
-completes tale g Usage (Some r) e s = absurd e
-completes tale g (Script step rule) None e s = absurd (not_broken g step rule s.0 e s.1 s.2)
-completes tale g (Script step rule) (Some r) e s = absurd e
-completes tale g ReadFault None e s = absurd (not_faulty g s.0 e.0 e.1.1 s.1 s.2)
-completes tale g ReadFault (Some r) e s = absurd e
-completes tale g WriteFault report e s = absurd e
-completes tale g TooLong None e s = absurd (not_long g s.0 e s.1 s.2)
-completes tale g TooLong (Some r) e s = absurd e
+pub completes : {P : Type 0} (ways : Ways P) (g : Given) (status : Status) (report : Option Report) → EndsAs ways g status report → IsSound g → status ≡ Done
+completes ways g Done report e s = refl
+completes ways g NoMemory report e s = absurd e
+completes ways g Usage None e s = absurd (none_or_some (wanted g.words) s.0 e.0 s.1)
+completes ways g Usage (Some r) e s = absurd e
+completes ways g (Script step rule) None e s = absurd (not_broken g step rule s.0 e s.1 s.2)
+completes ways g (Script step rule) (Some r) e s = absurd e
+completes ways g ReadFault None e s = absurd (not_faulty g s.0 e.0 e.1.1 s.1 s.2)
+completes ways g ReadFault (Some r) e s = absurd e
+completes ways g WriteFault report e s = absurd e
+completes ways g TooLong None e s = absurd (not_long g s.0 e s.1 s.2)
+completes ways g TooLong (Some r) e s = absurd e
+
+-- a report comes with an end alone that tells it
+pub is_told : {P : Type 0} (ways : Ways P) (g : Given) (status : Status) (report : Option Report) → EndsAs ways g status report → IfSome report (IsToldOf ways g)
+is_told ways g Done (Some r) e = e
+is_told ways g Done None e = tt
+is_told ways g NoMemory (Some r) e = absurd e
+is_told ways g NoMemory None e = tt
+is_told ways g Usage (Some r) e = absurd e
+is_told ways g Usage None e = tt
+is_told ways g (Script step rule) (Some r) e = absurd e
+is_told ways g (Script step rule) None e = tt
+is_told ways g ReadFault (Some r) e = absurd e
+is_told ways g ReadFault None e = tt
+is_told ways g WriteFault (Some r) e = absurd e
+is_told ways g WriteFault None e = tt
+is_told ways g TooLong (Some r) e = absurd e
+is_told ways g TooLong None e = tt

@@ -1,21 +1,18 @@
 -- What a run of the program comes to.
-use Rattle.std.specs.Prelude.{◌≡◌, ◌≤◌, ◌<◌, ℕ, List, [], ◌∷◌, length, false, ⊤, Option, Some, None, IfSome, codes, if◌then◌else◌}
+use Rattle.std.specs.Prelude.{◌≡◌, ◌≤◌, ◌<◌, ℕ, List, [], ◌∷◌, length, false, ⊤, Option, Some, None, codes, if◌then◌else◌}
 use Rattle.std.specs.Fmt.{decimal}
 use Rattle.std.specs.Io.KnownBytes.{Keeps, Consumes, IsAtEnd}
-use Rattle.nitro_bytes.specs.Parts.{FixedParts}
 use Rattle.byte_source.specs.Outside.{Rose}
 use Rattle.script_reader.specs.Script.{IsScript, Breaks}
 use Rattle.script_reader.specs.step.Rule.{Rule}
 use Rattle.script_reader.specs.step.Rule.TheVariants as rules
 use Rattle.script_reader.specs.step.Step.{Step}
-use Rattle.net_model.specs.Journals.{Line}
-use Rattle.play_report.specs.Reported.{IsPlayed, PlaysHonestly, PlaysSafely, PlaysKept, PlaysShares, PlaysExits}
+use Rattle.net_party.specs.Ways.{Ways}
+use Rattle.play_report.specs.Reported.{IsPlayed}
 use Rattle.report_text.specs.Report.{text_of}
 use Rattle.report_text.specs.Text.{◌&◌, ended}
 use Rattle.report_text.specs.declared.report.Load.{Load as Note}
 use Rattle.report_text.specs.declared.report.Report.{Report}
-use Rattle.share_model.specs.Places.{Order}
-use Rattle.told_party.specs.Telling.{Tale}
 use Rattle.script_run.specs.declared.run.Status.{Status}
 use Rattle.script_run.specs.declared.run.Status.TheVariants.{Done, NoMemory, Usage, Script, ReadFault, WriteFault, TooLong}
 use Rattle.word_reader.specs.Words.{asked}
@@ -79,24 +76,20 @@ IsUnread g = Keeps g.before g.after × (g.faults_after ≡ g.faults_before)
 abbrev pub made_from : (seed count : ℕ) → Note
 made_from seed count = record { seed = seed; count = count }
 
-module _ {P : Type 0} (tale : Tale P) where
-  -- what was asked for comes to this report, by steps of which this holds besides
-  abbrev pub ComesBy : (List Step → Type 0) → Asked → Given → Report → Type 0
-  ComesBy Q Run g report = Reads g (λ bytes. (steps : List Step) × IsScript false bytes steps × IsPlayed tale None report steps × Q steps)
-  ComesBy Q (Load seed count) g report = IsUnread g × IsPlayed tale (Some (made_from seed count)) report (load_steps seed count) × Q (load_steps seed count)
-
-  -- what was asked for comes to this report
+module _ {P : Type 0} (ways : Ways P) where
+  -- What was asked for comes to this report: of the script that was read, or of the load's, it tells the play and keeps the
+  -- promises.
   abbrev pub Comes : Asked → Given → Report → Type 0
-  Comes Run g report = Reads g (λ bytes. (steps : List Step) × IsScript false bytes steps × IsPlayed tale None report steps)
-  Comes (Load seed count) g report = IsUnread g × IsPlayed tale (Some (made_from seed count)) report (load_steps seed count)
+  Comes Run g report = Reads g (λ bytes. (steps : List Step) × IsScript false bytes steps × IsPlayed ways None report steps)
+  Comes (Load seed count) g report = IsUnread g × IsPlayed ways (Some (made_from seed count)) report (load_steps seed count)
 
-  -- the report comes of what was asked for, by steps of which this holds
-  abbrev pub ComesOf : Given → Report → (List Step → Type 0) → Type 0
-  ComesOf g report Q = Asks g (λ a. ComesBy Q a g report)
+  -- the words ask for what comes to this report
+  abbrev pub IsToldOf : Given → Report → Type 0
+  IsToldOf g report = Asks g (λ a. Comes a g report)
 
   -- Why a run comes to each end, before its text is put.
   abbrev pub EndsAs : Given → Status → Option Report → Type 0
-  EndsAs g Done (Some report) = Asks g (λ a. Comes a g report)
+  EndsAs g Done (Some report) = IsToldOf g report
   EndsAs g Usage None = (wanted g.words ≡ None) × IsUnread g
   EndsAs g (Script step rule) None = Runs g (Reads g (Breaks false step rule))
   EndsAs g ReadFault None = Runs g (Takes g (λ bytes. length bytes ≤ 4194304) × Rose g.faults_before g.faults_after)
@@ -110,17 +103,6 @@ module _ {P : Type 0} (tale : Tale P) where
   EndsAs g WriteFault report = ⊥
   EndsAs g TooLong (Some report) = ⊥
 
-  -- The end has its cause, and of a report people have honest journals, are safe and keep their shares, and their shares, at
-  -- the end and at their exits, are those of the definition, where `left` says which lines come up to an exit, `orders` what
-  -- commands ask for and `named` which fixed parts they name.
-  pub record RunsTo (left : P → Option (List Line)) (orders : P → ℕ → Order) (named : P → List FixedParts) (g : Given) (status : Status) (report : Option Report) : Type 0 where
-    pub ends : EndsAs g status report
-    pub honest : IfSome report (λ r. ComesOf g r (PlaysHonestly tale.ways r))
-    pub safe : IfSome report (λ r. ComesOf g r (PlaysSafely tale.ways r))
-    pub kept : IfSome report (λ r. ComesOf g r (PlaysKept tale.ways orders named r))
-    pub shares : IfSome report (λ r. ComesOf g r (PlaysShares tale.ways orders r))
-    pub exits : IfSome report (λ r. ComesOf g r (PlaysExits tale.ways left orders r))
-
   -- calm runs over the same words and bytes come to the same end, with the same report
   abbrev pub EndsAlike : Given → Given → Type 0
   EndsAlike g h = (s t : Status) (p q : Option Report) → EndsAs g s p → EndsAs h t q → (s ≡ t) × (p ≡ q)
@@ -131,7 +113,6 @@ rule_text rules.NotJson = codes "1 NotJson"
 rule_text rules.Shape = codes "2 Shape"
 rule_text rules.Name = codes "3 Name"
 rule_text rules.Limit = codes "4 Limit"
-rule_text rules.NotBuilt = codes "5 NotBuilt"
 rule_text rules.NotInRace = codes "6 NotInRace"
 
 -- the text of a report, where there is one

@@ -2,11 +2,10 @@
 
 ghost use Rattle.std.specs.Prelude.{ℕ, List};
 ghost use Rattle.script_run.specs.Run.{Given, IsCalm, EndsAlike};
-ghost use Rattle.told_party.specs.Telling.{tale_of};
 
-use told_party::Told;
+use net_party::Party;
 
 /// The words and the bytes of a source that doesn't fail determine the end and the report.
-pub fn calm_runs_end_alike<P: Told>()
-    ensures { (words : List (List ℕ)) (bytes : List ℕ) (g h : Given) → IsCalm words bytes g → IsCalm words bytes h → EndsAlike (tale_of P.ways P.shares P.exits) g h }
+pub fn calm_runs_end_alike<P: Party>()
+    ensures { (words : List (List ℕ)) (bytes : List ℕ) (g h : Given) → IsCalm words bytes g → IsCalm words bytes h → EndsAlike P.ways g h }
 {}

@@ -10,11 +10,8 @@ ghost use Rattle.script_run.specs.Outside.{AppendsPart};
 ghost use Rattle.word_reader.specs.Words.{asked};
 ghost use Rattle.word_reader.specs.declared.asking.Asked.{Asked};
 ghost use Rattle.script_run.specs.declared.run.Status.{Status};
-ghost use Rattle.play_report.specs.Reported.{PlaysHonestly, PlaysSafely, PlaysKept, PlaysShares, PlaysExits};
-ghost use Rattle.told_party.specs.Telling.{tale_of};
 ghost use Rattle.node_ways.specs.Ways.{ways};
-ghost use Rattle.net_node.specs.Shares.{tale, left, orders, named};
-ghost use Rattle.script_run.specs.Run.{Given, IsSound, IsUnread, given, code_of, wanted, EndsAs, ComesOf, RunsTo, rule_text, owed};
+ghost use Rattle.script_run.specs.Run.{Given, IsSound, IsUnread, given, code_of, wanted, EndsAs, IsToldOf, rule_text, owed};
 
 use crate::records::Records;
 use crate::sink::{Sink, put_all};
@@ -79,7 +76,7 @@ fn without_report(status: Status) -> Ended
 fn run_script<P: Told>(alloc: Global, bytes: &[u8]) -> Result<Ended, NoMemory>
     ensures ends { (given : Given) → wanted given.words ≡ Some Asked.Run → Consumes given.before given.after bytes.now
         → IsAtEnd given.after → length bytes.now ≤ 4194304
-        → IfOk result (λ ended. RunsTo (tale_of P.ways P.shares P.exits) P.left P.orders P.named given ended.status ended.report) }
+        → IfOk result (λ ended. EndsAs P.ways given ended.status ended.report) }
     ensures legal { IfOk result (λ ended. IfSome ended.report (λ report. Legal real (newest_first report.history))) }
 {
     match read_script_with_signers(alloc, bytes, false) {
@@ -99,7 +96,7 @@ fn run_script<P: Told>(alloc: Global, bytes: &[u8]) -> Result<Ended, NoMemory>
 /// What comes of a script that the source has.
 fn run_source<P: Told, S: Source>(alloc: Global, source: &mut S) -> Result<Ended, NoMemory>
     ensures ends { (words : List (List ℕ)) → wanted words ≡ Some Asked.Run
-        → IfOk result (λ ended. RunsTo (tale_of P.ways P.shares P.exits) P.left P.orders P.named (given S.left S.faults words source.old source.new) ended.status ended.report) }
+        → IfOk result (λ ended. EndsAs P.ways (given S.left S.faults words source.old source.new) ended.status ended.report) }
     ensures legal { IfOk result (λ ended. IfSome ended.report (λ report. Legal real (newest_first report.history))) }
 {
     match read_all(alloc, source) {
@@ -116,7 +113,7 @@ fn run_load<P: Told>(alloc: Global, seed: u64, count: u32) -> Result<Ended, NoMe
     requires some { 1 ≤ count }
     requires few { count ≤ 1000 }
     ensures ends { (given : Given) → asked given.words ≡ Some (Asked.Load seed count) → IsUnread given
-        → IfOk result (λ ended. RunsTo (tale_of P.ways P.shares P.exits) P.left P.orders P.named given ended.status ended.report) }
+        → IfOk result (λ ended. EndsAs P.ways given ended.status ended.report) }
     ensures legal { IfOk result (λ ended. IfSome ended.report (λ report. Legal real (newest_first report.history))) }
 {
     match load_script(alloc, seed, count) {
@@ -140,7 +137,7 @@ fn work<P: Told, S: Source>(
     words: &[Label],
     source: &mut S,
 ) -> Result<Ended, NoMemory>
-    ensures ends { IfOk result (λ ended. RunsTo (tale_of P.ways P.shares P.exits) P.left P.orders P.named (given S.left S.faults words.now source.old source.new) ended.status ended.report) }
+    ensures ends { IfOk result (λ ended. EndsAs P.ways (given S.left S.faults words.now source.old source.new) ended.status ended.report) }
     ensures legal { IfOk result (λ ended. IfSome ended.report (λ report. Legal real (newest_first report.history))) }
 {
     match asked(alloc, words)? {
@@ -158,7 +155,6 @@ fn rule_text(rule: Rule) -> &'static str
         Rule::Shape => "2 Shape",
         Rule::Name => "3 Name",
         Rule::Limit => "4 Limit",
-        Rule::NotBuilt => "5 NotBuilt",
         Rule::NotInRace => "6 NotInRace",
     }
 }
@@ -194,7 +190,7 @@ fn owed(alloc: Global, ended: &Ended) -> Result<Vec<u8>, NoMemory>
 }
 
 /// Does all that the program does: reads the script or makes that of a load, plays it and puts the text of its report.
-#[tactic(auto, using(report_text::proofs::Numbers::conserved_in_time, crate::proofs::Completes::completes))]
+#[tactic(auto, using(report_text::proofs::Numbers::conserved_in_time, crate::proofs::Completes::completes, crate::proofs::Completes::is_told))]
 pub fn run_words<S: Source, K: Sink>(
     alloc: Global,
     words: &[Label],
@@ -203,12 +199,12 @@ pub fn run_words<S: Source, K: Sink>(
 ) -> Ended
     // Every status but want of memory and a fault of the sink has its cause, and its text was put whole.
     ensures ended { result.status ≢ Status.NoMemory → result.status ≢ Status.WriteFault
-        → EndsAs tale (given S.left S.faults words.now source.old source.new) result.status result.report
+        → EndsAs ways (given S.left S.faults words.now source.old source.new) result.status result.report
         × Appends (K.held sink.old) (K.held sink.new) (owed result.status result.report) }
 
     // At a fault of the sink a part was put of what another end owes, and the report is that end's.
     ensures write_fault { result.status ≡ Status.WriteFault → Rose (K.faults sink.old) (K.faults sink.new)
-        × ((other : Status) × EndsAs tale (given S.left S.faults words.now source.old source.new) other result.report
+        × ((other : Status) × EndsAs ways (given S.left S.faults words.now source.old source.new) other result.report
         × AppendsPart (K.held sink.old) (K.held sink.new) (owed other result.report)) }
 
     // For want of memory nothing was put.
@@ -221,32 +217,15 @@ pub fn run_words<S: Source, K: Sink>(
     // Of each asset, the printed numbers agree: what was deposited is what the channels hold and what the persons were paid.
     ensures conserved { IfSome result.report (λ report. AreConserved (flows_of report.history)) }
 
-    // Each person with a node has an honest journal over the whole history.
-    ensures honest { IfSome result.report (λ report.
-        ComesOf tale (given S.left S.faults words.now source.old source.new) report (PlaysHonestly ways report)) }
-
-    // Each person with a node is safe where its premises are told to hold: no channel of it becomes final with an outcome
-    // older than its newest supported state.
-    ensures safe { IfSome result.report (λ report.
-        ComesOf tale (given S.left S.faults words.now source.old source.new) report (PlaysSafely ways report)) }
-
-    // Where moreover the strings of all fixed parts that its accepted commands name don't collide with others, nobody lowers
-    // its share: no entry by anybody does, and its own signature does by no more than the payment that was commanded right
-    // before, or, where none was and its plan is funded, not at all. And it can leave with it: what it had where it signed its
-    // last state is paid to it once its channels are final and the calls of its exit stand after that, whatever others enter
-    // between.
-    ensures kept { IfSome result.report (λ report.
-        ComesOf tale (given S.left S.faults words.now source.old source.new) report (PlaysKept ways orders named report)) }
-
-    // Each printed share is what the person can get by the definition, over the whole history and its journal: what it was
-    // paid and the least that its parts are worth, whichever outcomes its channels end with.
-    ensures shares { IfSome result.report (λ report.
-        ComesOf tale (given S.left S.faults words.now source.old source.new) report (PlaysShares ways orders report)) }
-
-    // Each share that is printed of an exit is what the person could get by the definition just after its node's first
-    // accepted command to exit: after the entries that the node had followed then, and its journal up to that command.
-    ensures exits { IfSome result.report (λ report.
-        ComesOf tale (given S.left S.faults words.now source.old source.new) report (PlaysExits ways left orders report)) }
+    // The words ask for what comes to the report, which tells the play of the script and keeps its promises. Each printed share is
+    // what the person can get by the definition, over the whole history and its journal; each exit, just after its node's first
+    // accepted command to exit. Each person with a node has an honest journal. Where its premises are told to hold, and the
+    // strings of the fixed parts that its accepted commands name don't collide with others: no channel of it becomes final with
+    // an outcome older than its newest supported state; nobody lowers its share, its own signatures by no more than the payment
+    // that was commanded right before, or, where none was and its plan is funded, not at all (for these its watchers needn't be
+    // in time); it can leave with its share; and once its channels are final and the calls of its exit stand after that, what
+    // was printed of its exit is paid to it, whatever others enter between.
+    ensures told { IfSome result.report (IsToldOf ways (given S.left S.faults words.now source.old source.new)) }
 
     // A sound script runs to its end, and so does a load, unless memory runs out.
     ensures complete { IsSound (given S.left S.faults words.now source.old source.new)

@@ -1,7 +1,6 @@
 -- A plans fairly, leaves fairly, and what it can get at each of four places.
 use Rattle.std.proofs.Common.{◌≡◌, ℕ, ◌-◌, ◌≤◌, Bool, true, false, cond, List, [], ◌∷◌, ◌++◌, inl, inr, length, drop, refl, sym, ◌∙◌, ap, subst, arith}
 use Rattle.std.specs.Prelude.{◌==◌, Option, None}
-use Rattle.std.specs.List.{AllByRecursion}
 use Rattle.std.specs.Str.{bytes_eq}
 use Rattle.std.proofs.lemmas.List.{append_assoc, append_cancel_right}
 use Rattle.nitro_bytes.specs.Outcomes.{AreApart}
@@ -33,7 +32,6 @@ use Rattle.channel_calls.specs.declared.event.Deed.{Deed}
 use Rattle.channel_calls.specs.declared.event.Deed.TheVariants as deeds
 use Rattle.signing_laws.specs.Fairly.{NoLess, Wants, first, repeats, Pays}
 use Rattle.signing_laws.proofs.Signers.{signers_are_fair}
-use Rattle.exit_laws.specs.Exits.{IsOnRoots}
 use Rattle.exit_laws.specs.Fair.{LeavesFairly}
 use Rattle.share_examples.proofs.Computing.{rules}
 use Rattle.share_examples.proofs.Digests.{a, b, pair, name, pays, at_turn}
@@ -176,9 +174,8 @@ signs-fairly past x front p q s =
 
 pub plans : PlansFairly rules a orders history journal
 plans = record {
+  whole = whole-plan;
   channels_differ = (refl, tt);
-  payers = (refl, tt);
-  apart = (tt, tt);
   rests = λ f i h. absurd cc;
   guarantors = (tt, tt);
   signs = signs-fairly;
@@ -187,9 +184,5 @@ plans = record {
 pub leaves : LeavesFairly rules a orders history journal
 leaves = record {
   plans = plans;
-  apart = (refl, tt);
-  channels = (tt, tt);
   assets = (tt, tt);
-  on_roots = λ past front p. at-front (λ (z : List Line). AllByRecursion (IsOnRoots (plan orders z)) (plan orders z)) journal p.newer front
-      ((tt, tt), ((tt, tt), ((tt, tt), ((tt, tt), ((tt, tt), ((tt, tt), ((tt, tt), ((tt, tt), ((tt, tt), ((tt, tt), ((tt, tt), ((tt, tt), tt)))))))))))) p.lines;
 }

@@ -1,7 +1,6 @@
 -- A plan that is kept fairly is sound at each place.
 use Rattle.std.proofs.Common.{◌≡◌, ℕ, List, [], ◌∷◌, ◌++◌, refl, sym, ◌∙◌, ap, subst}
 use Rattle.std.specs.List.{AllByRecursion}
-use Rattle.std.specs.Str.{bytes_eq}
 use Rattle.std.proofs.lemmas.List.{append-nil, append_assoc}
 use Rattle.nitro_bytes.specs.declared.value.Dest.{Dest}
 use Rattle.channel_model.specs.Rules.{Rules, KeepsFinal}
@@ -14,17 +13,17 @@ use Rattle.net_model.specs.Premises.{Unforged, NoCollision, AreValid, InTime}
 use Rattle.funding_value.specs.declared.plan.Part.{Part}
 use Rattle.funding_value.specs.declared.plan.Part.TheVariants.{Root, OnLedger, End, Middle}
 use Rattle.share_model.specs.Places.{Order, opened_part, plan, counting, IsPlace}
-use Rattle.share_laws.specs.Moved.{payers, all_payers}
-use Rattle.nitro_bytes.specs.Outcomes.{AreApart}
 use Rattle.share_model.specs.Bases.{bases_of, all_bases}
-use Rattle.share_laws.specs.Sound.{Guarantees, IsGuaranteed, IsApart, IsSound}
+use Rattle.share_laws.specs.Sound.{Guarantees, IsGuaranteed, IsSound}
 use Rattle.share_laws.specs.Finality.{StepsKeepPossible, RestsOnNoPayments}
 use Rattle.share_laws.specs.Signed.{SignsGuarantees, IsNoPayment, HasSigned, PlansFairly, FairSharesAreKept}
 use Rattle.share_laws.proofs.Finality.{opened-there, honest_kept}
 use Rattle.share_laws.proofs.Fronts.{channels-there}
 use Rattle.share_laws.proofs.Guaranteed.{signed_stand}
+use Rattle.share_laws.proofs.Plans.{plan-payers, plan-apart, plan-front}
+use Rattle.signing_laws.specs.Plans.{IsPlan}
 use Rattle.chain_laws.proofs.Lists.{In-append_right}
-use Rattle.share_model.proofs.Apart.{among-first, apart-front}
+use Rattle.share_model.proofs.Apart.{among-first}
 
 -- the parts of a journal's front come first
 pub plan-later : (orders : ℕ → Order) (newer front : List Line) → (qs : List Part) × (plan orders (newer ++ front) ≡ plan orders front ++ qs)
@@ -34,10 +33,6 @@ plan-later orders (x ∷ newer) front =
       p.0 ++ opened_part orders x (newer ++ front),
       ap (λ (ps : List Part). ps ++ opened_part orders x (newer ++ front)) p.1 ∙ append_assoc (plan orders front) p.0 (opened_part orders x (newer ++ front)),
     )
-
-pub payers-append : (ps qs : List Part) → all_payers (ps ++ qs) ≡ all_payers ps ++ all_payers qs
-payers-append [] qs = refl
-payers-append (p ∷ ps) qs = ap (λ (ns : List (List ℕ)). payers p ++ ns) (payers-append ps qs) ∙ sym (append_assoc (payers p) (all_payers ps) (all_payers qs))
 
 bases-append : (ps qs : List Part) → all_bases (ps ++ qs) ≡ all_bases ps ++ all_bases qs
 bases-append [] qs = refl
@@ -53,6 +48,10 @@ all-map P Q f (x ∷ xs) h = (f x h.0, all-map P Q f xs h.1)
 
 pub whole-plan : (orders : ℕ → Order) (h : List Entry) (journal : List Line) (past : List Entry) (front : List Line) → IsPlace h journal past front → (qs : List Part) × (plan orders journal ≡ plan orders front ++ qs)
 whole-plan orders h journal past front at = let p = plan-later orders at.newer front in (p.0, ap (plan orders) at.lines ∙ p.1)
+
+-- so that front is whole where the plan is
+pub front-plan : (orders : ℕ → Order) (h : List Entry) (journal : List Line) → IsPlan (plan orders journal) → (past : List Entry) (front : List Line) → IsPlace h journal past front → IsPlan (plan orders front)
+front-plan orders h journal whole past front at = let w = whole-plan orders h journal past front at in plan-front (plan orders front) w.0 (subst IsPlan w.1 whole)
 
 -- a fair plan is sound at each place
 pub fair_sound : (r : Rules) (key me : List ℕ) (orders : ℕ → Order) (h : List Entry) (journal : List Line) → KeepsFinal r → StepsKeepPossible r key me → Legal r h
@@ -76,10 +75,10 @@ fair_sound r key me orders h journal keeps possibly legal honest unforged distin
     sound : (past : List Entry) (front : List Line) → IsPlace h journal past front → IsSound me (plan orders front) (counting r past front)
     sound past front at =
         let w = whole-plan orders h journal past front at in
+        let whole = front-plan orders h journal fair.whole past front at in
         record {
-          payers = apart-front (all_payers (plan orders front)) (all_payers w.0)
-              (subst (λ (ns : List (List ℕ)). AreApart bytes_eq ns) (ap all_payers w.1 ∙ payers-append (plan orders front) w.0) fair.payers);
-          apart = all-left IsApart (plan orders front) w.0 (subst (λ (ps : List Part). AllByRecursion IsApart ps) w.1 fair.apart);
+          payers = plan-payers (plan orders front) whole;
+          apart = plan-apart (plan orders front) whole;
           guarantors = all-map (HasSigned r me journal) (IsGuaranteed me (counting r past front)) (guaranteed past front at) (plan orders front)
               (all-left (HasSigned r me journal) (plan orders front) w.0 (subst (λ (ps : List Part). AllByRecursion (HasSigned r me journal) ps) w.1 fair.guarantors));
         }

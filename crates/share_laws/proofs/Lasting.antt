@@ -8,7 +8,8 @@ use Rattle.nitro_bytes.specs.Parts.{FixedParts}
 use Rattle.net_model.specs.Honest.{HonestIn}
 use Rattle.share_model.specs.Places.{Order, share, IsPlace}
 use Rattle.share_model.specs.Kept.{SharesAreKept}
-use Rattle.share_laws.specs.Lasting.{AreInOrder, HonestJournalsAreInOrder, SignNothing, SharesLast}
+use Rattle.share_laws.specs.Lines.{AreInOrder, SignNothing}
+use Rattle.share_laws.specs.Lasting.{HonestJournalsAreInOrder, SharesLast}
 use Rattle.chain_laws.proofs.Tests.{le_or_lt, clash}
 use Rattle.chain_laws.proofs.Lists.{In-append_right, In-append_cases, append_assoc', length-up}
 

@@ -25,6 +25,7 @@ pub mod Finality
 pub mod Example
 pub mod Fronts
 pub mod Guaranteed
+pub mod Plans
 pub mod Fair
 pub mod Signings
 pub mod Lasting

@@ -16,8 +16,9 @@ use Rattle.net_model.specs.Journals.{In, Line}
 use Rattle.net_model.specs.Honest.{Honest}
 use Rattle.net_model.specs.Premises.{Unforged, NoCollision, AreValid, InTime}
 use Rattle.share_model.specs.Places.{Order, plan, channels, counting, outcomes_of, IsPlace}
-use Rattle.share_model.specs.Kept.{is_signing, SignsFairly, SharesAreKept}
+use Rattle.share_model.specs.Kept.{SharesAreKept}
 use Rattle.nitro_bytes.specs.Outcomes.{AreApart}
+use Rattle.share_laws.specs.Lines.{SignaturesAreFair}
 use Rattle.share_laws.specs.Sound.{IsSound}
 use Rattle.share_model.specs.Bases.{all_bases}
 use Rattle.funding_value.specs.Shapes.{items_in, list_in}
@@ -65,10 +66,7 @@ pub record PlansWell (r : Rules) (me : List ℕ) (orders : ℕ → Order) (h : L
       (past : List Entry) (front : List Line) → IsPlace h journal past front
       → IsSound me (plan orders front) (counting r past front)
   pub rests : (past : List Entry) (front : List Line) → IsPlace h journal past front → RestsOnNoPayments r orders front
-  pub signs :
-      (past : List Entry) (x : Line) (front : List Line) → IsPlace h journal past front
-      → IsPlace h journal past (x ∷ front)
-      → is_signing x.deed ≡ true → SignsFairly r me orders past x front
+  pub signs : SignaturesAreFair r me orders h journal
 
 -- So nobody lowers the share of an honest participant whose watchers are in time.
 abbrev pub HonestSharesAreKept : Type 0

@@ -1,29 +1,19 @@
 -- While its person signs nothing a share lasts.
-use Rattle.std.specs.Prelude.{◌≡◌, ℕ, ◌≤◌, false, List, [], ◌∷◌, ◌++◌}
+use Rattle.std.specs.Prelude.{ℕ, ◌≤◌, List, ◌++◌}
 use Rattle.nitro_bytes.specs.Parts.{FixedParts}
 use Rattle.channel_model.specs.Rules.{Rules}
 use Rattle.channel_calls.specs.declared.entry.Entry.{Entry}
-use Rattle.net_model.specs.Journals.{In, Line, opened, is_watched}
+use Rattle.net_model.specs.Journals.{In, Line, opened}
 use Rattle.net_model.specs.Honest.{Honest}
 use Rattle.share_model.specs.Places.{Order, share, IsPlace}
-use Rattle.share_model.specs.Kept.{is_signing, SharesAreKept}
+use Rattle.share_model.specs.Kept.{SharesAreKept}
+use Rattle.share_laws.specs.Lines.{AreInOrder, SignNothing}
 
--- lines, but for looks, stand in the order of what they had seen
-abbrev pub AreInOrder : List Line → Type 0
-AreInOrder [] = Unit {0}
-AreInOrder (x ∷ front) =
-    ((y : Line) → In y front → is_watched x.deed ≡ false → is_watched y.deed ≡ false → y.seen ≤ x.seen)
-    × AreInOrder front
-
--- the journal of an honest participant is, once it opens a channel
+-- The journal of an honest participant is in order, once it opens a channel.
 abbrev pub HonestJournalsAreInOrder : Type 0
 HonestJournalsAreInOrder =
     (r : Rules) (key : List ℕ) (h : List Entry) (journal : List Line) → Honest r key h journal
     → (x : Line) (f : FixedParts) → In x journal → In f (opened x) → AreInOrder journal
-
--- none of these lines signs a state
-abbrev pub SignNothing : List Line → Type 0
-SignNothing lines = (x : Line) → In x lines → is_signing x.deed ≡ false
 
 -- From a place to a later one a share that is kept doesn't fall, where no line between them signs a state.
 abbrev pub SharesLast : Type 0

@@ -1,6 +1,7 @@
 pub mod Moved
 pub mod Sound
 pub mod Turns
+pub mod Lines
 pub mod Laws
 pub mod Whole
 pub mod Finality

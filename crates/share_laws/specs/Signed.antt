@@ -1,5 +1,5 @@
 -- A plan is sound at each place where the whole plan is, and its person signed guarantees alone in its guarantors.
-use Rattle.std.specs.Prelude.{◌≡◌, ◌≢◌, ℕ, true, Some, List, [], ◌∷◌}
+use Rattle.std.specs.Prelude.{◌≡◌, ◌≢◌, ℕ, Some, List, [], ◌∷◌}
 use Rattle.std.specs.List.{AllByRecursion}
 use Rattle.nitro_bytes.specs.Parts.{FixedParts}
 use Rattle.nitro_bytes.specs.declared.chain.Signed.{Signed}
@@ -17,12 +17,13 @@ use Rattle.funding_value.specs.declared.plan.Part.{Part}
 use Rattle.funding_value.specs.declared.plan.Part.TheVariants.{Root, OnLedger, End, Middle}
 use Rattle.funding_value.specs.Parts.{own_guarantor}
 use Rattle.share_model.specs.Places.{Order, plan, channels, counting, outcomes_of, IsPlace}
-use Rattle.share_model.specs.Kept.{is_signing, SignsFairly, SharesAreKept}
-use Rattle.share_laws.specs.Moved.{all_payers}
+use Rattle.share_model.specs.Kept.{SharesAreKept}
 use Rattle.nitro_bytes.specs.Outcomes.{AreApart}
+use Rattle.share_laws.specs.Lines.{SignaturesAreFair}
 use Rattle.share_laws.specs.Turns.{names}
-use Rattle.share_laws.specs.Sound.{IsPromise, Guarantees, IsApart}
+use Rattle.share_laws.specs.Sound.{IsPromise, Guarantees}
 use Rattle.share_laws.specs.Finality.{StepsKeepPossible, RestsOnNoPayments}
+use Rattle.signing_laws.specs.Plans.{IsPlan}
 use Rattle.std.specs.Str.{bytes_eq}
 
 -- an outcome is a guarantee of the joint channel for these destinations in each asset in which it is anything
@@ -64,19 +65,16 @@ HasSigned r me journal (Middle v) =
     × (IsNoPayment r journal v.guarantor_b
     × ((b : Dest) × SignsGuarantees journal v.guarantor_b v.joint (Channel v.channel ∷ b ∷ Person me ∷ [])))
 
--- What a person keeps that plans fairly: its channels differ, and each pays in one part; no part rests on a payment
--- channel; it signs guarantees alone in its guarantors; and each signature lowers its share no more than it may.
+-- What a person keeps that plans fairly: each channel stands once in its plan, and each ledger is a root that was opened
+-- before; its channels differ; no part rests on a payment channel; it signs guarantees alone in its guarantors; and each
+-- signature lowers its share no more than it may.
 pub record PlansFairly (r : Rules) (me : List ℕ) (orders : ℕ → Order) (h : List Entry)
     (journal : List Line) : Type 0 where
+  pub whole : IsPlan (plan orders journal)
   pub channels_differ : AreApart bytes_eq (names r (channels journal))
-  pub payers : AreApart bytes_eq (all_payers (plan orders journal))
-  pub apart : AllByRecursion IsApart (plan orders journal)
   pub rests : RestsOnNoPayments r orders journal
   pub guarantors : AllByRecursion (HasSigned r me journal) (plan orders journal)
-  pub signs :
-      (past : List Entry) (x : Line) (front : List Line) → IsPlace h journal past front
-      → IsPlace h journal past (x ∷ front)
-      → is_signing x.deed ≡ true → SignsFairly r me orders past x front
+  pub signs : SignaturesAreFair r me orders h journal
 
 -- Nobody lowers the share of an honest participant that plans fairly, whose watchers are in time.
 abbrev pub FairSharesAreKept : Type 0

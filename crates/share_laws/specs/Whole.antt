@@ -7,10 +7,11 @@ use Rattle.channel_calls.specs.History.{Legal, mode}
 use Rattle.channel_calls.specs.declared.entry.Entry.{Entry}
 use Rattle.net_model.specs.Journals.{In, Line, is_watched}
 use Rattle.share_model.specs.Places.{Order, plan, channels, possible, counting, share, IsPlace}
-use Rattle.share_model.specs.Kept.{is_signing, SignsFairly, SharesAreKept}
+use Rattle.share_model.specs.Kept.{is_signing, SharesAreKept}
 use Rattle.net_model.specs.Premises.{NoCollision}
 use Rattle.nitro_bytes.specs.Outcomes.{AreApart}
 use Rattle.share_laws.specs.Laws.{moves_funds, AreSeen}
+use Rattle.share_laws.specs.Lines.{SignaturesAreFair}
 use Rattle.share_laws.specs.Sound.{IsSound}
 use Rattle.share_model.specs.Bases.{all_bases}
 use Rattle.share_laws.specs.Turns.{names, Turns}
@@ -52,10 +53,7 @@ pub record IsKnown (r : Rules) (me : List ℕ) (orders : ℕ → Order) (h : Lis
       (past : List Entry) (e : Entry) (front : List Line) → IsPlace h journal past front
       → IsPlace h journal (e ∷ past) front
       → EndsWell r me orders past e front
-  pub signs :
-      (past : List Entry) (x : Line) (front : List Line) → IsPlace h journal past front
-      → IsPlace h journal past (x ∷ front)
-      → is_signing x.deed ≡ true → SignsFairly r me orders past x front
+  pub signs : SignaturesAreFair r me orders h journal
 
 -- Then nobody lowers the share, and a signature of the person lowers it no more than a payment ordered.
 abbrev pub NobodyLowersShares : Type 0

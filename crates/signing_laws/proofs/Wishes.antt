@@ -20,7 +20,7 @@ use Rattle.share_model.specs.Books.{outcome_in, books_under}
 use Rattle.share_model.specs.Places.{Order, plan, possible, counting, balances, share}
 use Rattle.share_model.specs.Bases.{all_bases}
 use Rattle.signing_laws.specs.Moves.{SetsAside, Joins, IsFair, stays, improves, sets_aside, takes_back, joins, parts}
-use Rattle.signing_laws.specs.Targets.{pays, lowered, raised}
+use Rattle.signing_laws.specs.Items.{pays, lowered, raised}
 use Rattle.signing_laws.specs.Signatures.{signing, IsFairAt}
 use Rattle.signing_laws.specs.Wanted.{MovesFor, up, down, together, apart, IsTarget, WantedVotesKeepShares, FirstStatesKeepShares, WantedRepeatsKeepShares, PaymentsAfford}
 use Rattle.channel_calls.proofs.Names.{same_bytes}

@@ -20,7 +20,7 @@ use Rattle.share_model.specs.Places.{Order, plan, possible, outcomes_of, share, 
 use Rattle.signing_laws.specs.Plans.{IsPlan}
 use Rattle.share_model.specs.Bases.{all_bases}
 use Rattle.signing_laws.specs.Moves.{SetsAside}
-use Rattle.signing_laws.specs.Targets.{lowered, raised}
+use Rattle.signing_laws.specs.Items.{lowered, raised}
 use Rattle.signing_laws.specs.Signatures.{signing, IsOwn}
 use Rattle.funding_value.specs.Shapes.{items_in, list_in}
 use Rattle.signing_laws.specs.Settled.{Has, MayJoin}

@@ -2,11 +2,9 @@
 
 ghost use Rattle.std.specs.Prelude.{◌≡◌, ℕ, List, Bool, Option, IfOk, reverse};
 ghost use Rattle.std.specs.Option.{option_map};
-ghost use Rattle.nitro_bytes.specs.Parts.{FixedParts};
-ghost use Rattle.net_model.specs.Journals.{Line};
-ghost use Rattle.share_model.specs.Places.{Order};
+ghost use Rattle.node_model.specs.Places.{Told as ToldEvent};
 ghost use Rattle.world_laws.specs.Standing.{AreKept};
-ghost use Rattle.told_party.specs.Telling.{AreTold, HaveFixed, SharesAreReal, ExitsAreReal, KeepsShares};
+ghost use Rattle.told_party.specs.Telling.{AreTold, HaveFixed, LinesAreTold, TellsCommands, SharesAreReal, ExitsAreReal, JournalsAreByRules, KeepsShares};
 
 use net_party::Party;
 use nitro_bytes::NoMemory;
@@ -20,14 +18,8 @@ pub trait Told: Party {
     // each asset that the node knew then.
     ghost exits: { Self → Option (List (ℕ × ℕ)) };
 
-    // The lines of its journal up to that command and with it.
-    ghost left: { Self → Option (List Line) };
-
-    // What each of its commands asks for, by the number of lines before it.
-    ghost orders: { Self → ℕ → Order };
-
-    // The fixed parts that its accepted commands name.
-    ghost named: { Self → List FixedParts };
+    // The events of its journal with their commands, the newest first.
+    ghost told: { Self → List ToldEvent };
 
     // Whether memory failed it.
     ghost lost: { Self → Bool };
@@ -53,12 +45,20 @@ pub trait Told: Party {
     // Its lines are the events of its journal, the newest first.
     ghost tells: { (p : Self) → AreTold (Self.ways.lines p) (reverse (Self.ways.journal p)) };
 
+    // And what they open is what the commands open, which are those of the steps.
+    ghost opens: { LinesAreTold Self.ways told };
+
+    ghost commands: { TellsCommands Self.ways told };
+
     // Where it followed the whole history, its shares are those of the definition.
-    ghost gets: { SharesAreReal Self.ways Self.stands lost shares orders };
+    ghost gets: { SharesAreReal Self.ways Self.stands lost shares told };
 
     // What it tells of its exit are those of the definition just after the command.
-    ghost got: { ExitsAreReal Self.ways Self.stands lost exits left orders };
+    ghost got: { ExitsAreReal Self.ways Self.stands lost exits told };
 
-    // Nobody lowers the share of its person, and it can leave with it, where its premises hold.
-    ghost holds: { KeepsShares Self.ways Self.stands orders named };
+    // Each event is what the rules and tables of the network's node give.
+    ghost plays: { JournalsAreByRules Self.ways Self.stands told };
+
+    // Its own signatures are fair, nobody lowers the share of its person, and it can leave with it, where its premises hold.
+    ghost holds: { KeepsShares Self.ways Self.stands told };
 }

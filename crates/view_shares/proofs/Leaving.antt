@@ -14,7 +14,7 @@ use Rattle.history_view.specs.Standing.{KnowsChannel, StandsFor}
 use Rattle.stage_rules.specs.Gathered.{view_in}
 use Rattle.exit_script.specs.Calls.{Ended, exit_calls}
 use Rattle.exit_script.specs.Exits.{is_final_at, settled_at, ended_in}
-use Rattle.exit_laws.specs.Exits.{ended}
+use Rattle.exit_laws.specs.Endings.{ended}
 use Rattle.view_shares.specs.Exits.{ViewsTellExits}
 use mathlib.Core.Path.{fun_ext}
 

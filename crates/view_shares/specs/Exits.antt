@@ -7,7 +7,7 @@ use Rattle.history_view.specs.Standing.{StandsFor}
 use Rattle.funding_value.specs.declared.plan.Part.{Part}
 use Rattle.exit_script.specs.Calls.{exit_calls}
 use Rattle.exit_script.specs.Exits.{ended_in}
-use Rattle.exit_laws.specs.Exits.{ended}
+use Rattle.exit_laws.specs.Endings.{ended}
 
 -- the calls of any person's exit, by the view and by the history
 abbrev pub ViewsTellExits : Type 0

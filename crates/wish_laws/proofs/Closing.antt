@@ -40,7 +40,7 @@ use Rattle.node_model.specs.Openings.{parts_of, goals_of, are_apart}
 use Rattle.node_model.specs.Places.{Told, line_of, lines_of, mind_at, AreFew}
 use Rattle.node_model.specs.Playing.{Signing, signings, pending, Plays}
 use Rattle.node_model.specs.Refusing.{not_open, unfinished, has_left, not_running, part_with, close_part}
-use Rattle.node_tables.specs.Stages.{stages}
+use Rattle.wish_laws.specs.Table.{stages}
 use Rattle.store_laws.proofs.Places.{found_at_place, found_passes}
 use Rattle.chain_laws.proofs.Tests.{some-eq, none-eq, or-right, not-false, clash, lt-true, le-true, eqb-true}
 use Rattle.chain_laws.proofs.Lists.{In-get, get-within, get-some, get-append, append_assoc'}

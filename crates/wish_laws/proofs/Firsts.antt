@@ -41,7 +41,7 @@ use Rattle.node_model.specs.Places.{Told, lines_of, mind_at, AreFew}
 use Rattle.node_model.specs.Playing.{Signing, signings, payment_in, pending, Allowed, Plays}
 use Rattle.node_model.specs.Refusing as refusing
 use Rattle.node_model.specs.Refusing.{not_open, unfinished_part, unfinished, has_left, part_joined, not_running, pay_refusal, are_new, is_planned, are_planned, open_refusal, command_refusal}
-use Rattle.node_tables.specs.Stages.{stages}
+use Rattle.wish_laws.specs.Table.{stages}
 use Rattle.store_laws.proofs.Places.{found_passes}
 use Rattle.chain_laws.proofs.Lists.{split_of, suffix_of, In-get, get-within, append_assoc'}
 use Rattle.chain_laws.proofs.Tests.{some-eq, none-eq, and-left, and-right, eqb-true, not-false, clash, cond-false}

@@ -28,7 +28,7 @@ use Rattle.node_model.specs.Places.{Told, mind_at, AreFew}
 use Rattle.node_model.specs.Playing.{Signing, Plays, Allowed}
 use Rattle.node_model.specs.Refusing.{command_refusal, wish, signs_in}
 use Rattle.node_tables.specs.Fitting.{fits}
-use Rattle.node_tables.specs.Stages.{stages}
+use Rattle.wish_laws.specs.Table.{stages}
 use Rattle.node_laws.proofs.Keepers.{same-tail}
 use Rattle.wish_laws.specs.Forged.{GuardBites}
 

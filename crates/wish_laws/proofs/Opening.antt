@@ -33,7 +33,7 @@ use Rattle.ledger_channel.specs.Stages.{direct_with, direct_of, direct_in, stage
 use Rattle.plan_stages.specs.Asked.{is_closing, wanted_of, takes_of}
 use Rattle.node_model.specs.Minds.{Mind, facts_of}
 use Rattle.node_model.specs.Openings.{opened_by, takes_part, virtual, parts_of, goal_with}
-use Rattle.node_tables.specs.Stages.{stages}
+use Rattle.wish_laws.specs.Table.{stages}
 use Rattle.chain_laws.proofs.Tests.{some-eq, none-eq, lt-false, clash}
 use Rattle.wish_laws.specs.Roots.{is_repeated}
 use Rattle.wish_laws.specs.Carried.{OpensWith}

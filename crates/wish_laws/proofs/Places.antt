@@ -16,7 +16,7 @@ use Rattle.channel_store.specs.declared.kept.Kept.{Kept}
 use Rattle.funding_value.specs.declared.plan.Goal.{Goal}
 use Rattle.node_model.specs.Places.{Told, lines_of, mind_at}
 use Rattle.node_model.specs.Playing.{Signing, SignsWell, Plays}
-use Rattle.node_tables.specs.Stages.{stages}
+use Rattle.wish_laws.specs.Table.{stages}
 use Rattle.chain_laws.proofs.Tests.{some-eq, none-eq}
 use Rattle.chain_laws.proofs.Chains.{newest-in}
 use Rattle.chain_laws.proofs.Lists.{get-within}

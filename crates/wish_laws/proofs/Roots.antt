@@ -31,7 +31,7 @@ use Rattle.ledger_channel.specs.Stages.{direct_with, direct_of, direct_in, stage
 use Rattle.plan_stages.specs.Asked.{wanted_of}
 use Rattle.node_model.specs.Minds.{Mind, facts_of}
 use Rattle.node_model.specs.Refusing.{is_open, stands_in, first_fault, not_open_in, not_open_part, not_open, wish_staying, follows, can_sign, if_signable, signs_of}
-use Rattle.node_tables.specs.Stages.{stages}
+use Rattle.wish_laws.specs.Table.{stages}
 use Rattle.node_laws.proofs.Allowing.{first_none, rest_none, holds_not}
 use Rattle.chain_laws.proofs.Tests.{some-eq, none-eq, and-left, and-right, and-both, cond-true, cond-false, not-false, lt-true, le-true}
 use Rattle.wish_laws.specs.Roots.{SetsUp, RootsSignWhatTheyWant}

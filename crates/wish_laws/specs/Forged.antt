@@ -10,7 +10,7 @@ use Rattle.channel_store.specs.declared.kept.Kept.{Kept}
 use Rattle.node_model.specs.Places.{Told, mind_at}
 use Rattle.node_model.specs.Playing.{Signing, SignsWell, signings, Plays}
 use Rattle.node_model.specs.Refusing.{wish, signs_in}
-use Rattle.node_tables.specs.Stages.{stages}
+use Rattle.wish_laws.specs.Table.{stages}
 
 -- Rules with the network's steps, a legal history, and a journal that they give, in which the node signed nothing: at its end
 -- a stage wants a state that the node doesn't sign.

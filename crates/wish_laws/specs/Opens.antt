@@ -10,7 +10,7 @@ use Rattle.net_party.specs.declared.command.Command.TheVariants.{Open}
 use Rattle.support_chain.specs.Real.{real}
 use Rattle.node_model.specs.Places.{Told, lines_of}
 use Rattle.node_model.specs.Playing.{Signing, Plays}
-use Rattle.node_tables.specs.Stages.{stages}
+use Rattle.wish_laws.specs.Table.{stages}
 use Rattle.wish_laws.specs.Carried.{OpensWith}
 
 -- the command stands in the journal and wasn't refused

@@ -18,7 +18,7 @@ use Rattle.node_model.specs.Minds.{facts_of}
 use Rattle.node_model.specs.Places.{Told, lines_of, mind_at, AreFew}
 use Rattle.node_model.specs.Playing.{Signing, SignsWell, Plays}
 use Rattle.node_model.specs.Refusing.{wish, signs_in}
-use Rattle.node_tables.specs.Stages.{stages}
+use Rattle.wish_laws.specs.Table.{stages}
 
 -- A place of a history and a journal, and a root that the journal opened, with its goal and what is kept of it there. No
 -- event but a look had seen more.

@@ -16,7 +16,7 @@ use Rattle.stage_rules.specs.Seats.{has_no_data}
 use Rattle.node_model.specs.Minds.{Mind, facts_of}
 use Rattle.node_model.specs.Openings.{are_apart}
 use Rattle.node_model.specs.Refusing.{wish, signs_in}
-use Rattle.node_tables.specs.Stages.{stages}
+use Rattle.wish_laws.specs.Table.{stages}
 
 -- not final, with the outcome with which the channel opens and no data
 abbrev pub is_repeated : List AssetOutcome → StateParts → Bool

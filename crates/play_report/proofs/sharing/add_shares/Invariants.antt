@@ -1,6 +1,6 @@
 use Rattle.std.proofs.Common.{◌≡◌, ◌++◌, take}
-use Rattle.play_report.specs.Shares.{shares_of}
+use Rattle.play_report.specs.Shares.{known_shares}
 use Rattle.play_report.proofs.sharing.add_shares.Given as goal
 
 abbrev pub invariant-loop-asset : goal.invariant-loop-asset
-invariant-loop-asset g l = l.all.items ≡ l.initial.all.items ++ shares_of g.P.Party.ways g.P.Told.shares (take l.asset-index l.assets) l.node
+invariant-loop-asset g l = l.all.items ≡ l.initial.all.items ++ known_shares g.P.Party.ways g.P.Told.shares (take l.asset-index l.assets) l.node

@@ -1,5 +1,5 @@
 use Rattle.std.proofs.Common.{take}
-use Rattle.play_report.specs.Reported.{AllFixed}
+use Rattle.play_report.specs.Members.{AllFixed}
 use Rattle.play_report.proofs.walking.openings_are_fixed.Given as goal
 
 abbrev pub invariant-loop-person : goal.invariant-loop-person

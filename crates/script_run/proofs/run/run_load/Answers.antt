@@ -1,14 +1,12 @@
 -- A load that was played runs to its report.
 use Rattle.std.proofs.Common.{◌≡◌, ◌∙◌}
-use Rattle.told_party.specs.Telling.{tale_of}
 use Rattle.script_run.proofs.Counts.{wanted_load}
 use Rattle.script_run.proofs.Loaded.{loads_run}
 use Rattle.script_run.proofs.run.run_load.Goals as goal
 
 pub returns-in_ok-report-in-Ok-clause-ends : goal.returns-in_ok-report-in-Ok-clause-ends
 returns-in_ok-report-in-Ok-clause-ends g c given asks unread =
-    loads_run (tale_of g.P.Party.ways g.P.Told.shares g.P.Told.exits) g.P.Told.left g.P.Told.orders g.P.Told.named given c.args.seed c.args.count
+    loads_run g.P.Party.ways given c.args.seed c.args.count
     c.in_ok-report-in-Ok.report c.as_slice.result.now (wanted_load given.words c.args.seed c.args.count asks c.in-Ok.ensures.two) unread
     (c.as_slice.ensures ∙ c.in-Ok.ensures.steps)
-    c.in_ok-report-in-Ok.ensures.played c.in_ok-report-in-Ok.ensures.honest c.in_ok-report-in-Ok.ensures.safe c.in_ok-report-in-Ok.ensures.kept
-    c.in_ok-report-in-Ok.ensures.shares c.in_ok-report-in-Ok.ensures.exits
+    c.in_ok-report-in-Ok.ensures.played

@@ -1,0 +1,112 @@
+-- What a whole plan keeps of its exits: no channel pays in two parts' exits, and each ledger is a root.
+use Rattle.std.proofs.Common.{◌≡◌, ℕ, Bool, true, false, ◌||◌, List, [], ◌∷◌, flat_map, refl, sym, ap}
+use Rattle.std.specs.List.{AllByRecursion}
+use Rattle.std.specs.Str.{bytes_eq}
+use Rattle.std.proofs.lemmas.Bool.{false≢true}
+use Rattle.nitro_bytes.specs.Outcomes.{AreApart}
+use Rattle.channel_calls.proofs.Names.{bytes_eq_self}
+use Rattle.channel_calls.specs.Flows.{is_among}
+use Rattle.net_model.specs.Journals.{In}
+use Rattle.funding_value.specs.Parts.{own_ledger, own_guarantor, channels_of}
+use Rattle.funding_value.specs.declared.plan.Part.{Part}
+use Rattle.funding_value.specs.declared.plan.Part.TheVariants.{Root, OnLedger, End, Middle}
+use Rattle.share_model.proofs.Apart.{or-none}
+use Rattle.share_model.proofs.Choices.{differ-flip}
+use Rattle.share_laws.proofs.Plans.{all-are, picked-apart}
+use Rattle.signing_laws.proofs.Counts.{part-apart}
+use Rattle.signing_laws.proofs.Funded.{ledger-root}
+use Rattle.signing_laws.specs.Plans.{IsPlan}
+use Rattle.exit_script.specs.Calls.{exits}
+use Rattle.exit_laws.specs.Exits.{IsOnRoots, IsApartFromGuarantors}
+
+-- ---- one of four channels
+
+last-or-first : (r s t u : Bool) → (u || (r || false)) ≡ true → (r || (s || (t || (u || false)))) ≡ true
+last-or-first true s t u e = refl
+last-or-first false true t u e = refl
+last-or-first false false true u e = refl
+last-or-first false false false true e = refl
+last-or-first false false false false e = absurd (false≢true e)
+
+last-or-second : (r s t u : Bool) → (u || (s || false)) ≡ true → (r || (s || (t || (u || false)))) ≡ true
+last-or-second true s t u e = refl
+last-or-second false true t u e = refl
+last-or-second false false true u e = refl
+last-or-second false false false true e = refl
+last-or-second false false false false e = absurd (false≢true e)
+
+first-two : (r s t u : Bool) → (r || (s || false)) ≡ true → (r || (s || (t || (u || false)))) ≡ true
+first-two true s t u e = refl
+first-two false true t u e = refl
+first-two false false t u e = absurd (false≢true e)
+
+last-none : (r s t : Bool) → (r || (s || (t || false))) ≡ false → t ≡ false
+last-none true s t e = absurd (false≢true (sym e))
+last-none false true t e = absurd (false≢true (sym e))
+last-none false false true e = absurd (false≢true (sym e))
+last-none false false false e = refl
+
+-- ---- the channels that pay in a part's exit
+
+-- a virtual channel isn't a guarantor of its own
+from-guarantors : (p : Part) → AreApart bytes_eq (channels_of p) → IsApartFromGuarantors p
+from-guarantors (Root c) a = tt
+from-guarantors (OnLedger l c) a = tt
+from-guarantors (End v) a = go v.side_b
+  where
+    go : (b : Bool) → bytes_eq v.channel (own_guarantor (record v { side_b = b })) ≡ false
+    go true = differ-flip v.guarantor_b v.channel (last-none false (bytes_eq v.guarantor_b v.joint) (bytes_eq v.guarantor_b v.channel) a.1.0)
+    go false = differ-flip v.guarantor_a v.channel (last-none (bytes_eq v.guarantor_a v.guarantor_b) (bytes_eq v.guarantor_a v.joint) (bytes_eq v.guarantor_a v.channel) a.0)
+from-guarantors (Middle v) a = (
+  differ-flip v.guarantor_a v.channel (last-none (bytes_eq v.guarantor_a v.guarantor_b) (bytes_eq v.guarantor_a v.joint) (bytes_eq v.guarantor_a v.channel) a.0),
+  differ-flip v.guarantor_b v.channel (last-none false (bytes_eq v.guarantor_b v.joint) (bytes_eq v.guarantor_b v.channel) a.1.0),
+)
+
+exits-within : (p : Part) (y : List ℕ) → is_among y (exits p) ≡ true → is_among y (channels_of p) ≡ true
+exits-within (Root c) y i = i
+exits-within (OnLedger l c) y i = i
+exits-within (End v) y i = go v.side_b i
+  where
+    go : (b : Bool) → is_among y (v.channel ∷ own_guarantor (record v { side_b = b }) ∷ []) ≡ true → is_among y (channels_of (End v)) ≡ true
+    go true e = last-or-second (bytes_eq y v.guarantor_a) (bytes_eq y v.guarantor_b) (bytes_eq y v.joint) (bytes_eq y v.channel) e
+    go false e = last-or-first (bytes_eq y v.guarantor_a) (bytes_eq y v.guarantor_b) (bytes_eq y v.joint) (bytes_eq y v.channel) e
+exits-within (Middle v) y i = first-two (bytes_eq y v.guarantor_a) (bytes_eq y v.guarantor_b) (bytes_eq y v.joint) (bytes_eq y v.channel) i
+
+exits-once : (p : Part) → AreApart bytes_eq (channels_of p) → AreApart bytes_eq (exits p)
+exits-once (Root c) a = a
+exits-once (OnLedger l c) a = a
+exits-once (End v) a = (ap (λ (t : Bool). t || false) (from-guarantors (End v) a), (refl, tt))
+exits-once (Middle v) a = (
+  ap (λ (t : Bool). t || false) (or-none (bytes_eq v.guarantor_a v.guarantor_b) (is_among v.guarantor_a (v.joint ∷ v.channel ∷ [])) a.0).0,
+  (refl, tt),
+)
+
+pub exits-apart : (ps : List Part) → IsPlan ps → AreApart bytes_eq (flat_map exits ps)
+exits-apart ps plan = picked-apart exits exits-within exits-once ps plan.apart
+
+pub apart-from-guarantors : (ps : List Part) → IsPlan ps → AllByRecursion IsApartFromGuarantors ps
+apart-from-guarantors ps plan = all-are IsApartFromGuarantors ps (λ p i. from-guarantors p (part-apart ps plan.apart p i))
+
+-- ---- ledgers
+
+first-among : (x : List ℕ) (xs : List (List ℕ)) → is_among x (x ∷ xs) ≡ true
+first-among x xs = ap (λ (t : Bool). t || is_among x xs) (bytes_eq_self x)
+
+second-among : (x y : List ℕ) → is_among y (x ∷ y ∷ []) ≡ true
+second-among x y = go (bytes_eq y x)
+  where
+    go : (b : Bool) → (b || is_among y (y ∷ [])) ≡ true
+    go true = refl
+    go false = first-among y []
+
+on-roots : (ps : List Part) → IsPlan ps → (p : Part) → In p ps → IsOnRoots ps p
+on-roots ps plan (Root c) i = tt
+on-roots ps plan (OnLedger l c) i = ledger-root ps plan (OnLedger l c) i l (first-among l [])
+on-roots ps plan (End v) i = ledger-root ps plan (End v) i (own_ledger v) (first-among (own_ledger v) [])
+on-roots ps plan (Middle v) i = (
+  ledger-root ps plan (Middle v) i v.ledger_a (first-among v.ledger_a (v.ledger_b ∷ [])),
+  ledger-root ps plan (Middle v) i v.ledger_b (second-among v.ledger_a v.ledger_b),
+)
+
+pub all-on-roots : (ps : List Part) → IsPlan ps → AllByRecursion (IsOnRoots ps) ps
+all-on-roots ps plan = all-are (IsOnRoots ps) ps (on-roots ps plan)

@@ -1,0 +1,58 @@
+-- The lines of a node are those of its journal's events, for what they add.
+use Rattle.std.proofs.Common.{◌≡◌, ℕ, suc, Bool, true, false, cond, List, [], ◌∷◌, length, refl, sym, ◌∙◌, ap, subst, arith}
+use Rattle.std.specs.Prelude.{◌==◌, ◌<◌}
+use Rattle.std.specs.List.{AllByRecursion}
+use Rattle.nitro_bytes.specs.Parts.{FixedParts, IsFixed}
+use Rattle.channel_calls.specs.declared.event.Event.{Event}
+use Rattle.net_model.specs.Journals.{Line, lines}
+use Rattle.network_laws.specs.Valid.{AddsFixed}
+use Rattle.told_party.specs.Telling.{AreTold, HaveFixed}
+
+-- what the line adds that has so many before it
+pub adds_in : List Line → ℕ → List FixedParts
+adds_in [] place = []
+adds_in (x ∷ front) place = cond (length front == place) x.adds (adds_in front place)
+
+-- so far in front nothing else is looked at
+lines-same : (some more : ℕ → List FixedParts) (events : List Event) → ((place : ℕ) → place < length events → some place ≡ more place) → lines some events ≡ lines more events
+lines-same some more [] same = refl
+lines-same some more (e ∷ front) same =
+    λ i. record { seen = e.seen; deed = e.deed; adds = same (length front) (omega arith) i } ∷ lines-same some more front (λ place below. same place (omega (arith, below))) i
+
+told-length : (journal : List Line) (events : List Event) → AreTold journal events → length journal ≡ length events
+told-length [] [] told = refl
+told-length [] (e ∷ events) told = absurd told
+told-length (x ∷ journal) [] told = absurd told
+told-length (x ∷ journal) (e ∷ events) told = ap suc (told-length journal events told.1)
+
+same-place : (n : ℕ) → (n == n) ≡ true
+same-place n = grind arith
+
+other-place : (n k : ℕ) → k < n → (n == k) ≡ false
+other-place n k l = grind arith
+
+pub lines_told : (journal : List Line) (events : List Event) → AreTold journal events → lines (adds_in journal) events ≡ journal
+unfolding adds_in
+lines_told [] [] told = refl
+lines_told [] (e ∷ events) told = absurd told
+lines_told (x ∷ journal) [] told = absurd told
+lines_told (x ∷ journal) (e ∷ events) told =
+    let long : length journal ≡ length events = told-length journal events told.1 in
+    let here : adds_in (x ∷ journal) (length events) ≡ x.adds =
+    ap (λ b. cond b x.adds (adds_in journal (length events))) (ap (λ n. n == length events) long ∙ same-place (length events))
+    in
+    let rest : lines (adds_in (x ∷ journal)) events ≡ journal =
+    lines-same (adds_in (x ∷ journal)) (adds_in journal) events
+    (λ place below. ap (λ b. cond b x.adds (adds_in journal place)) (other-place (length journal) place (subst (λ n. place < n) (sym long) below)))
+    ∙ lines_told journal events told.1
+    in
+    λ i. record { seen = sym told.0.0 i; deed = sym told.0.1 i; adds = here i } ∷ rest i
+
+pub adds_fixed : (journal : List Line) → HaveFixed journal → AddsFixed (adds_in journal)
+unfolding adds_in
+adds_fixed [] fixed place = tt
+adds_fixed (x ∷ journal) fixed place = go (length journal == place) (adds_fixed journal fixed.1 place)
+  where
+    go : (b : Bool) → AllByRecursion IsFixed (adds_in journal place) → AllByRecursion IsFixed (cond b x.adds (adds_in journal place))
+    go true later = fixed.0
+    go false later = later
