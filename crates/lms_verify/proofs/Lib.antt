@@ -1,3 +1,4 @@
 pub mod Steps
+pub mod Beside
 pub mod Signed
 mod Examples

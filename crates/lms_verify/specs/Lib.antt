@@ -1,5 +1,6 @@
 pub mod Types
 pub mod Ots
+pub mod Runs
 pub mod Tree
 pub mod Parts
 pub mod Verifies

@@ -8,6 +8,7 @@ ghost use Rattle.lms_verify.specs.IsSigned.{is_signed};
 pub mod laws;
 pub mod ots;
 pub mod parts;
+pub mod runs;
 pub mod tree;
 pub mod types;
 

@@ -1,10 +1,12 @@
 //! LM-OTS (RFC 8554, section 4): the hash of a message, the digits that are signed, and the chains.
 
-ghost use Rattle.std.specs.Prelude.{List, ◌≡◌, ◌≤◌, ◌<◌, ℕ, ◌+◌, ◌-◌, ◌*◌, ◌/◌, length};
+ghost use Rattle.std.specs.Prelude.{◌≡◌, ◌≤◌, ◌<◌, ℕ, ◌+◌, ◌-◌, ◌*◌, ◌/◌, length};
 ghost use Rattle.sha2.specs.Hashers.{Holds256};
 ghost use Rattle.lms_verify.specs.Types.{width, chain_count};
 ghost use Rattle.lms_verify.specs.Ots.{opening, coef, coef_gap, checksum, message_hash, with_checksum, chain_step, chain, string_at, ends_hash, chain_end};
+ghost use Rattle.lms_verify.specs.Runs.{run_at, signed_run};
 
+use crate::runs::{Run, empty_runs, hash_of_ends, run_chains};
 use crate::types::OtsType;
 use sha2::{Digest, Sha256};
 
@@ -98,21 +100,20 @@ pub fn chain(id: &[u8; 16], index: u32, i: u16, from: u8, to: u8, start: [u8; 32
     tmp
 }
 
-/// The end of chain i of a signature.
-pub fn chain_end(
-    ots: OtsType,
-    id: &[u8; 16],
-    index: u32,
-    signed: &[u8; 34],
-    chains: &[u8],
-    i: u16,
-) -> [u8; 32]
-    requires in_range { i < chain_count ots }
+// The chains of a signature, which go on from the digits of the hash.
+fn start_runs(ots: OtsType, hash: &[u8; 32], chains: &[u8], runs: &mut [Run])
     requires long { length chains.now ≡ 32 * chain_count ots }
-    ensures { (s : List ℕ) → signed.now ≡ with_checksum ots s → result ≡ chain_end ots id.now index s chains.now i }
+    requires count { length runs.old ≡ chain_count ots }
+    ensures count { length runs.new ≡ chain_count ots }
+    ensures runs { (i : ℕ) → i < chain_count ots → run_at runs.new i ≡ signed_run ots hash.now chains.now i }
 {
-    let from = coef(signed, i, ots);
-    chain(id, index, i, from, ots.max_digit(), string_at(chains, i))
+    let signed = with_checksum(ots, hash);
+    for i in 0..ots.chain_count() {
+        let string = string_at(chains, i);
+        let at = coef(&signed, i, ots);
+        let to = ots.max_digit();
+        runs[usize::from(i)] = Run { string, at, to };
+    }
 }
 
 /// Kc, the public key that a signature gives for the hash of a message.
@@ -127,12 +128,11 @@ pub fn ends_hash(
     requires { length chains.now ≡ 32 * chain_count ots }
     ensures { result ≡ ends_hash ots id.now index (chain_end ots id.now index hash.now chains.now) }
 {
-    let signed = with_checksum(ots, hash);
-    let mut hasher = opening(id, index, D_PBLC);
-    for i in 0..ots.chain_count() {
-        hasher.update(chain_end(ots, id, index, &signed, chains, i));
-    }
-    hasher.finalize()
+    let mut room = empty_runs();
+    let runs = &mut room[..usize::from(ots.chain_count())];
+    start_runs(ots, hash, chains, runs);
+    run_chains(id, index, ots.max_digit(), runs);
+    hash_of_ends(id, index, runs)
 }
 
 /// Q, the hash of a message.

@@ -1,5 +1,6 @@
 pub mod Trees
 pub mod Chains
+pub mod Filling
 pub mod Climbs
 pub mod Reading
 pub mod Signatures

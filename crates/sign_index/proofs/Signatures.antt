@@ -9,7 +9,8 @@ use Rattle.lms_verify.specs.Parts.{IsUnder}
 use Rattle.sign_index.specs.Secret.{Secret, leaf_count, along, private_element, ots_public, randomizer, node}
 use Rattle.sign_index.specs.Made.{public_of, made, signed_chains, path_of}
 use Rattle.sign_index.specs.Laws.{MadeVerifies}
-use Rattle.sign_index.proofs.Chains.{chain_rest, digit_le, length-along, length-joined, string_at-joined, joined_alike}
+use Rattle.sign_index.proofs.Chains.{chain_rest, digit_le, length-along, length-joined, string_at-joined}
+use Rattle.lms_verify.proofs.Beside.{joined_alike}
 use Rattle.sign_index.proofs.Climbs.{length-node, climb_node}
 use Rattle.sign_index.proofs.Reading.{key_again, signature_again}
 

@@ -1,12 +1,13 @@
 -- The tree as a list of nodes by their numbers.
-use Rattle.std.proofs.Common.{◌≡◌, ℕ, zero, suc, ◌+◌, ◌*◌, ◌-◌, ◌/◌, ◌^◌, ◌<◌, ◌≤◌, List, [], ◌++◌, length, take, drop, get_or, replicate, length-append, append_assoc, refl, sym, ap, subst, ◌∙◌, inl, inr, arith}
-use Rattle.std.proofs.lemmas.List.{get_or_default, get_or-set_other, get_or-set_same, append-nil, take_at, drop_at}
+use Rattle.std.proofs.Common.{◌≡◌, ℕ, zero, suc, ◌+◌, ◌*◌, ◌-◌, ◌/◌, ◌^◌, ◌<◌, ◌≤◌, List, [], ◌++◌, length, get_or, replicate, length-append, refl, ap, subst, ◌∙◌, inl, inr, arith}
+use Rattle.std.proofs.lemmas.List.{get_or_default, get_or-set_other, get_or-set_same, append-nil}
 use Rattle.std.proofs.lemmas.Bool.{cases_lt}
 use Rattle.std.proofs.lemmas.Bool.Decides.{nat_tests}
 use Rattle.std.proofs.Math.Nat.{pow-suc}
 use Rattle.std.proofs.Math.Pow.{pow_mono}
 use Rattle.std.proofs.Math.ListN.{set}
 use borrow.Rule.Slice.PartMut.{put_mid}
+use Rattle.lms_verify.proofs.Beside.{put_next}
 use Rattle.lms_verify.specs.Types.{height}
 use Rattle.lms_verify.specs.Tree.{interior}
 use Rattle.sign_index.specs.Secret.{Secret, node, leaf_count}
@@ -69,13 +70,6 @@ tree_sibling s t is level k r e low high =
     let a : 2 ^ (suc k) ≤ sibling r = rw double (sibling_low_at r (2 ^ k) (omega arith)) in
     let b : sibling r < 2 * 2 ^ (suc k) = sibling_high r (2 ^ (suc k)) high in
     tree_node s t is level (suc k) (sibling r) e a b
-
--- the next part of a buffer is written
-pub put_next : (front rest new : List ℕ) (n k : ℕ) → length front ≡ n → put_mid n k (front ++ rest) new ≡ front ++ new ++ drop k rest
-put_next front rest new n k e =
-    let a : take n (front ++ rest) ≡ front = take_at front rest n e in
-    let b : drop n (front ++ rest) ≡ rest = drop_at front rest n e in
-    rw (a, b) (sym (append_assoc front new (drop k rest)))
 
 -- the parts of a public key, one behind the other
 pub key_written : (a b c d : List ℕ) → length a ≡ 4 → length b ≡ 4 → length c ≡ 16 → length d ≡ 32

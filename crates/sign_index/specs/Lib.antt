@@ -1,4 +1,5 @@
 pub mod Secret
+pub mod Runs
 pub mod Made
 pub mod Signing
 pub mod IsSigner

@@ -1,12 +1,16 @@
 //! What a seed makes.
 
-ghost use Rattle.std.specs.Prelude.{◌≡◌, ◌≤◌, ◌<◌, ◌^◌, ◌-◌, ◌+◌, ◌++◌, IfOk};
+ghost use Rattle.std.specs.Prelude.{ℕ, ◌≡◌, ◌≤◌, ◌<◌, ◌^◌, ◌-◌, ◌++◌, length, IfOk};
 ghost use Rattle.lms_verify.specs.declared.types.OtsType.TheVariants.{W4};
-ghost use Rattle.lms_verify.specs.Ots.{with_checksum};
-ghost use Rattle.sign_index.specs.Secret.{Secret, private_element, randomizer, along, ots_public, leaf_count};
+ghost use Rattle.lms_verify.specs.Types.{chain_count, width};
+ghost use Rattle.lms_verify.specs.Ots.{digit};
+ghost use Rattle.lms_verify.specs.Runs.{run_at};
+ghost use Rattle.sign_index.specs.Secret.{Secret, randomizer, ots_public, leaf_count};
+ghost use Rattle.sign_index.specs.Runs.{private_run};
 ghost use Rattle.sign_index.specs.Made.{signed_chains};
 
-use lms_verify::ots::{D_PBLC, chain, coef, opening, with_checksum};
+use lms_verify::ots::{coef, with_checksum};
+use lms_verify::runs::{Run, empty_runs, end_of, four_steps, hash_of_ends, run_chains};
 use lms_verify::types::{LmsType, OtsType};
 use sha2::{Digest, Sha256};
 use std::alloc::{AllocError, Global};
@@ -42,6 +46,13 @@ impl Seed {
         &self.id
     }
 
+    // The secret string.
+    fn seed(&self) -> &[u8; 32]
+        ensures { result.now ≡ self.now.seed }
+    {
+        &self.seed
+    }
+
     /// The type of the tree.
     pub(crate) fn lms(&self) -> LmsType
         ensures { result ≡ self.now.lms }
@@ -61,20 +72,6 @@ impl Seed {
         }
     }
 
-    // x_q[i]
-    #[tactic(auto, unfolding(crate::specs::Secret::private_element, lms_verify::specs::Types::u32str, lms_verify::specs::Types::u16str))]
-    fn private_element(&self, q: u32, i: u16) -> [u8; 32]
-        ensures { result ≡ private_element self.now q i }
-    {
-        let mut hasher = Sha256::new();
-        hasher.update(self.id);
-        hasher.update(q.to_be_bytes());
-        hasher.update(i.to_be_bytes());
-        hasher.update([0xff]);
-        hasher.update(self.seed);
-        hasher.finalize()
-    }
-
     // C
     #[tactic(auto, unfolding(crate::specs::Secret::randomizer, lms_verify::specs::Types::u32str))]
     pub(crate) fn randomizer(&self, q: u32) -> [u8; 32]
@@ -87,11 +84,45 @@ impl Seed {
         hasher.finalize()
     }
 
-    // The string that stands some steps along chain i.
-    fn along(&self, q: u32, steps: u8, i: u16) -> [u8; 32]
-        ensures { result ≡ along self.now q steps i }
+    // Puts the private elements at the start of the chains.
+    fn start_runs(&self, q: u32, runs: &mut [Run])
+        requires { length runs.old ≡ chain_count self.now.ots }
+        ensures long { length runs.new ≡ chain_count self.now.ots }
+        ensures runs { (i : ℕ) → i < chain_count self.now.ots → run_at runs.new i ≡ private_run self.now q (2 ^ width self.now.ots - 1) i }
     {
-        chain(&self.id, q, i, 0, steps, self.private_element(q, i))
+        let ots = self.ots();
+        let to = ots.max_digit();
+        let last = ots.chain_count() - 1;
+        let start = Run {
+            string: *self.seed(),
+            at: 0xff,
+            to,
+        };
+        for g in 0..last / 4 + 1 {
+            let a = 4 * g;
+            let b = at_most(a + 1, last);
+            let c = at_most(a + 2, last);
+            let d = at_most(a + 3, last);
+            let strings = four_steps(self.id(), q, [a, b, c, d], [start; 4]);
+            runs[usize::from(a)] = first_run(strings[0], to);
+            runs[usize::from(b)] = first_run(strings[1], to);
+            runs[usize::from(c)] = first_run(strings[2], to);
+            runs[usize::from(d)] = first_run(strings[3], to);
+        }
+    }
+
+    // The same, where each chain ends at its digit of a message's hash.
+    fn start_signing(&self, q: u32, hash: &[u8; 32], runs: &mut [Run])
+        requires { length runs.old ≡ chain_count self.now.ots }
+        ensures long { length runs.new ≡ chain_count self.now.ots }
+        ensures runs { (i : ℕ) → i < chain_count self.now.ots → run_at runs.new i ≡ private_run self.now q (digit self.now.ots hash.now i) i }
+    {
+        let ots = self.ots();
+        self.start_runs(q, runs);
+        let signed = with_checksum(ots, hash);
+        for i in 0..ots.chain_count() {
+            runs[usize::from(i)].to = coef(&signed, i, ots);
+        }
     }
 
     // K of an index.
@@ -100,11 +131,11 @@ impl Seed {
         ensures { result ≡ ots_public self.now q }
     {
         let ots = self.ots();
-        let mut hasher = opening(self.id(), q, D_PBLC);
-        for i in 0..ots.chain_count() {
-            hasher.update(self.along(q, ots.max_digit(), i));
-        }
-        hasher.finalize()
+        let mut room = empty_runs();
+        let runs = &mut room[..usize::from(ots.chain_count())];
+        self.start_runs(q, runs);
+        run_chains(self.id(), q, ots.max_digit(), runs);
+        hash_of_ends(self.id(), q, runs)
     }
 
     // Appends the strings y of a message's hash.
@@ -118,11 +149,29 @@ impl Seed {
         ensures { IfOk result (λ _. out.new.items ≡ out.old.items ++ signed_chains self.now q hash.now) }
     {
         let ots = self.ots();
-        let signed = with_checksum(ots, hash);
+        let mut room = empty_runs();
+        let runs = &mut room[..usize::from(ots.chain_count())];
+        self.start_signing(q, hash, runs);
+        run_chains(self.id(), q, ots.max_digit(), runs);
         for i in 0..ots.chain_count() {
-            let y = self.along(q, coef(&signed, i, ots), i);
+            let y = end_of(self.id(), q, i, &runs[usize::from(i)]);
             out.extend_from_slice(&y)?;
         }
         Ok(())
     }
+}
+
+// The lower of two numbers of chains.
+fn at_most(i: u16, last: u16) -> u16
+    ensures low { result ≤ last }
+    ensures same { i ≤ last → result ≡ i }
+{
+    if i < last { i } else { last }
+}
+
+// A chain at its private element.
+fn first_run(string: [u8; 32], to: u8) -> Run
+    ensures { result ≡ record { string = string; at = 0; to = to } }
+{
+    Run { string, at: 0, to }
 }

@@ -1,15 +1,20 @@
-use Rattle.std.proofs.Common.{◌≡◌, ℕ, ap, ◌∙◌, ◌-◌, ◌^◌}
-use Rattle.lms_verify.specs.Types.{width}
-use Rattle.sign_index.specs.Secret.{along}
-use Rattle.lms_verify.proofs.Steps.{joined_none, joined_more}
+use Rattle.std.proofs.Common.{◌≡◌, ap, refl, ◌∙◌, ◌-◌, ◌^◌}
+use Rattle.lms_verify.specs.Types.{chain_count, width}
+use Rattle.lms_verify.specs.Ots.{ends_hash, joined}
+use Rattle.lms_verify.specs.Runs.{run_at, end_of}
+use Rattle.lms_verify.proofs.Beside.{joined_alike}
+use Rattle.sign_index.specs.Secret.{along, ots_public}
+use Rattle.sign_index.proofs.Filling.{private_end}
 use Rattle.sign_index.proofs.secret.Seed.ots_public.Goals as goal
 
-pub loop-i-init : goal.loop-i-init
-loop-i-init c = rw (joined_none, ← c.id.ensures) c.opening-hasher.ensures
-
-pub loop-i-preserved : goal.loop-i-preserved
-loop-i-preserved c =
-    let top : c.max_digit.result ≡ 2 ^ width c.args.self.now.ots - 1 = rw (c.max_digit.ensures, c.ots-ots.ensures) in
-    let e : c.along.result ≡ along c.args.self.now c.args.q (2 ^ width c.args.self.now.ots - 1) c.loop-i.i =
-    c.along.ensures ∙ ap (λ (n : ℕ). along c.args.self.now c.args.q n c.loop-i.i) top in
-    rw (joined_more, ← e) (c.update.ensures _ c.loop-i.invariant)
+pub returns : goal.returns
+unfolding ots_public ends_hash
+returns c =
+    let s = c.args.self.now in
+    let q = c.args.q in
+    let top = 2 ^ width s.ots - 1 in
+    let ran = c.run_chains.new.runs in
+    let count = chain_count s.ots in
+    let alike : joined (λ i. end_of s.id q i (run_at ran i)) count ≡ joined (λ i. along s q top i) count =
+    joined_alike _ _ count (λ i lt. rw c.id.ensures at (c.run_chains.ensures.alike i) ∙ ap (end_of s.id q i) (c.start_runs.ensures.runs i lt) ∙ private_end s q top i) in
+    c.hash_of_ends.ensures ∙ rw (c.id-2.ensures, c.run_chains.ensures.long, c.start_runs.ensures.long, alike) refl

@@ -1,9 +1,11 @@
-use Rattle.std.proofs.Common.{◌≡◌, ℕ, ap, ◌∙◌, sym, arith}
+use Rattle.std.proofs.Common.{◌≡◌, ◌<◌, ℕ, ap, ◌∙◌, sym, arith}
 use Rattle.lms_verify.specs.Types.{chain_count}
 use Rattle.lms_verify.specs.Ots.{digit}
+use Rattle.lms_verify.specs.Runs.{end_of}
+use Rattle.lms_verify.proofs.Steps.{joined_none, joined_written}
 use Rattle.sign_index.specs.Secret.{along}
 use Rattle.sign_index.specs.Made.{signed_chains}
-use Rattle.lms_verify.proofs.Steps.{joined_none, joined_written}
+use Rattle.sign_index.proofs.Filling.{private_end}
 use Rattle.sign_index.proofs.secret.Seed.push_chains.Goals as goal
 
 pub loop-i-init : goal.loop-i-init
@@ -11,10 +13,15 @@ loop-i-init c = sym (joined_none _ _)
 
 pub loop-i-preserved : goal.loop-i-preserved
 loop-i-preserved c =
-    let a : c.coef.result ≡ digit c.args.self.now.ots c.args.hash.now c.loop-i.i =
-    rw (c.coef.ensures, c.with_checksum-signed.ensures, c.ots-ots.ensures) in
-    let e : c.along-y.result ≡ along c.args.self.now c.args.q (digit c.args.self.now.ots c.args.hash.now c.loop-i.i) c.loop-i.i =
-    c.along-y.ensures ∙ ap (λ (n : ℕ). along c.args.self.now c.args.q n c.loop-i.i) a in
+    let s = c.args.self.now in
+    let q = c.args.q in
+    let i = c.loop-i.i in
+    let steps : ℕ = digit s.ots c.args.hash.now i in
+    let counted : c.chain_count-i-end.result ≡ chain_count s.ots = c.chain_count-i-end.ensures ∙ ap chain_count c.ots-ots.ensures in
+    let lt : i < chain_count s.ots = omega (arith, counted, c.loop-i-test.true) in
+    let e : c.end_of-y.result ≡ along s q steps i =
+    c.end_of-y.ensures ∙ rw (c.id-in-loop-i.ensures, c.from-in-loop-i.ensures)
+    (rw c.id.ensures at (c.run_chains.ensures.alike i) ∙ ap (end_of s.id q i) (c.start_signing.ensures.runs i lt) ∙ private_end s q steps i) in
     joined_written _ _ _ _ _ _ c.loop-i.invariant e c.in_ok-extend_from_slice.ensures.items
 
 pub returns : goal.returns
