@@ -1,2 +1,3 @@
 pub mod Countings
 pub mod Skips
+pub mod Unnamed

@@ -26,11 +26,11 @@ use mathlib.Core.Path.{fun_ext}
 
 -- ---- two outcomes that are the same in an asset
 
-and-left : (a b : Bool) → (a && b) ≡ true → a ≡ true
+pub and-left : (a b : Bool) → (a && b) ≡ true → a ≡ true
 and-left true b h = refl
 and-left false b h = absurd (false≢true h)
 
-and-right : (a b : Bool) → (a && b) ≡ true → b ≡ true
+pub and-right : (a b : Bool) → (a && b) ≡ true → b ≡ true
 and-right true b h = h
 and-right false b h = absurd (false≢true h)
 
@@ -173,7 +173,7 @@ module _ (held : List ℕ → ℕ) (ks : List Counting) (asset : ℕ) where
           let same : g (narrow asset ks b.0) ≡ g b.0 = ap f (books-narrow held ks asset b.0) in
           omega (arith, a.2, b.2, upper, lower, same)
 
-  at_each-all : (t cs : List (List ℕ)) (test : List (List ℕ) → Bool) → ((s : List (List ℕ)) → Takes t cs s → test s ≡ true) → at_each cs test t ≡ true
+  pub at_each-all : (t cs : List (List ℕ)) (test : List (List ℕ) → Bool) → ((s : List (List ℕ)) → Takes t cs s → test s ≡ true) → at_each cs test t ≡ true
   at_each-all t [] test h = h t ends
   at_each-all t (c ∷ cs) test h = both (at_each cs test t) (at_each cs test (c ∷ t)) (at_each-all t cs test (λ s p. h s (skips p))) (at_each-all (c ∷ t) cs test (λ s p. h s (takes p)))
     where

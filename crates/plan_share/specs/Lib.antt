@@ -1,3 +1,4 @@
 pub mod Seen
 pub mod Pages
 pub mod Owed
+pub mod Whole

@@ -17,7 +17,7 @@ use crate::amounts::{are_same_dests, are_same_items};
 use channel_calls::{Known, WorldView};
 use deadline_clock::{Standing, mode};
 use history_view::view_of;
-use nitro_bytes::{ByteFault, Name, NoMemory, Outcome, read_outcome};
+use nitro_bytes::{AssetOutcome, ByteFault, Name, NoMemory, Outcome, read_outcome};
 use outcome_targets::{items_in, list_in};
 use std::alloc::Global;
 use std::marker::Model;
@@ -57,6 +57,22 @@ impl<'a> Ending<'a> {
         ensures { result ≡ self.now.channel }
     {
         self.channel
+    }
+
+    pub(crate) fn outcome(&self) -> &[AssetOutcome]
+        ensures { result.now ≡ self.now.outcome }
+    {
+        self.outcome.assets()
+    }
+
+    /// What is proposed, or nothing.
+    pub(crate) fn proposal(&self) -> &[AssetOutcome]
+        ensures { result.now ≡ or_empty self.now.proposal }
+    {
+        match &self.proposal {
+            None => &[],
+            Some(proposal) => proposal.assets(),
+        }
     }
 
     fn is_of(&self, channel: &Name) -> bool

@@ -1,13 +1,14 @@
-//! Whether a plan is funded in an asset: its ledgers and guarantors reach as far as the items that they are for.
+//! Whether a plan is funded: its ledgers and guarantors reach as far as the items that they are for.
 
-ghost use Rattle.std.specs.Prelude.{◌≡◌, ◌+◌, ◌&&◌, nat_le, IfOk};
+ghost use Rattle.std.specs.Prelude.{◌≡◌, ◌+◌, ◌&&◌, ◌↔◌, nat_le, IfOk, IsTrue};
+ghost use Rattle.std.specs.List.{list_all};
 ghost use Rattle.channel_model.specs.Amounts.{amt, has};
 ghost use Rattle.nitro_bytes.specs.declared.value.Dest.TheVariants.{Person, Channel};
 ghost use Rattle.funding_value.specs.Parts.{own_ledger, own_guarantor};
 ghost use Rattle.funding_value.specs.declared.plan.Part.TheVariants as parts;
 ghost use Rattle.share_model.specs.Funded as funded;
 ghost use Rattle.plan_share.specs.Pages.{books_of, reaches, left_of, funded_among};
-ghost use Rattle.plan_share.specs.Seen.{is_funded_seen};
+ghost use Rattle.plan_share.specs.Whole.{AreFunded, funded_in, passes_each, passes_both};
 
 use crate::amounts::{sum_up_to, total};
 use crate::endings::{Ending, read_endings};
@@ -16,7 +17,7 @@ use crate::reach::reach_in;
 use crate::worth::with_taken;
 use channel_calls::{Known, WorldView};
 use funding_value::{Part, Plan, Virtual};
-use nitro_bytes::{Dest, Name, NoMemory};
+use nitro_bytes::{AssetOutcome, Dest, Name, NoMemory};
 use outcome_targets::has;
 use std::alloc::Global;
 
@@ -166,21 +167,92 @@ fn is_funded_at_each(
 
 /// Whether the plan is funded in the asset, whichever outcomes its channels end with.
 #[tactic(auto, using(crate::proofs::Skips::funded_is))]
+fn is_funded_in(
+    alloc: Global,
+    plan: &Plan,
+    view: &WorldView,
+    endings: &[Ending],
+    asset: u32,
+) -> Result<bool, NoMemory>
+    ensures { IfOk result (λ b. b ≡ funded_in view.entry.now plan.now endings.now asset) }
+{
+    let page = Page {
+        view,
+        endings,
+        asset,
+        taken: &[],
+    };
+    is_funded_at_each(alloc, plan, &page, endings)
+}
+
+/// Whether it is funded in each asset of an outcome.
+fn is_funded_through(
+    alloc: Global,
+    plan: &Plan,
+    view: &WorldView,
+    endings: &[Ending],
+    outcome: &[AssetOutcome],
+) -> Result<bool, NoMemory>
+    ensures { IfOk result (λ b. b ≡ passes_each (funded_in view.entry.now plan.now endings.now) outcome.now) }
+{
+    match outcome {
+        [] => Ok(true),
+        [o, others @ ..] => {
+            if !is_funded_in(alloc, plan, view, endings, o.asset)? {
+                return Ok(false);
+            }
+            is_funded_through(alloc, plan, view, endings, others)
+        }
+    }
+}
+
+/// Whether it is funded in each asset of both outcomes of a channel.
+fn is_funded_with(
+    alloc: Global,
+    plan: &Plan,
+    view: &WorldView,
+    endings: &[Ending],
+    ending: &Ending,
+) -> Result<bool, NoMemory>
+    ensures { IfOk result (λ b. b ≡ passes_both (funded_in view.entry.now plan.now endings.now) ending.now) }
+{
+    if !is_funded_through(alloc, plan, view, endings, ending.outcome())? {
+        return Ok(false);
+    }
+    is_funded_through(alloc, plan, view, endings, ending.proposal())
+}
+
+/// And of each of these channels.
+fn is_funded_among(
+    alloc: Global,
+    plan: &Plan,
+    view: &WorldView,
+    endings: &[Ending],
+    left: &[Ending],
+) -> Result<bool, NoMemory>
+    ensures { IfOk result (λ b. b ≡ list_all (passes_both (funded_in view.entry.now plan.now endings.now)) left.now) }
+{
+    match left {
+        [] => Ok(true),
+        [ending, others @ ..] => {
+            if !is_funded_with(alloc, plan, view, endings, ending)? {
+                return Ok(false);
+            }
+            is_funded_among(alloc, plan, view, endings, others)
+        }
+    }
+}
+
+/// Whether the plan is funded in every asset, whichever outcomes its channels end with.
+#[tactic(auto, using(crate::proofs::Unnamed::funded_everywhere))]
 pub fn is_funded(
     alloc: Global,
     plan: &Plan,
     view: &WorldView,
     known: &[Known],
-    asset: u32,
 ) -> Result<bool, NoMemory>
-    ensures { IfOk result (λ b. b ≡ is_funded_seen view.entry.now plan.now known.now asset) }
+    ensures { IfOk result (λ b. IsTrue b ↔ AreFunded view.entry.now plan.now known.now) }
 {
     let endings = read_endings(alloc, view, known)?;
-    let page = Page {
-        view,
-        endings: &endings,
-        asset,
-        taken: &[],
-    };
-    is_funded_at_each(alloc, plan, &page, &endings)
+    is_funded_among(alloc, plan, view, &endings, &endings)
 }

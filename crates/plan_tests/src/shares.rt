@@ -135,7 +135,7 @@ fn worth_of(
     known: &[Known],
 ) -> Result<Worth, NoMemory> {
     let share = share(alloc, plan, view, known, 0)?;
-    let funded = is_funded(alloc, plan, view, known, 0)?;
+    let funded = is_funded(alloc, plan, view, known)?;
     let owed = is_owed(alloc, plan, view, known)?;
     Ok((share, funded, owed))
 }
