@@ -5,9 +5,9 @@ ghost use Rattle.channel_model.specs.Rules.{Rules};
 ghost use Rattle.channel_calls.specs.History.{Legal};
 ghost use Rattle.channel_calls.specs.declared.entry.Entry.{Entry as AnEntry};
 ghost use Rattle.channel_calls.specs.Naming.{NamesChannels};
-ghost use Rattle.channel_watcher.specs.Watching.{StandsFor, unseeing, saw, is_stale, checkpoints, history_after, looks};
+ghost use Rattle.channel_watcher.specs.Watching.{StandsFor, unseeing, saw, watched_row, is_stale, checkpoints, history_after, looks};
 
-use crate::rows::{Told, record_told, watched_row};
+use crate::rows::{Told, Watched, record_told, watched_row};
 use channel_calls::{Call, Entry, HeldChain, time_set, top_turn};
 use deadline_clock::{Standing, mode};
 use indexmap::IndexMap;
@@ -55,6 +55,20 @@ impl Watcher {
         self.seen
     }
 
+    /// The time, as the entries that it has followed tell it.
+    pub fn now(&self) -> u64
+        ensures { result ≡ self.now.time }
+    {
+        self.time
+    }
+
+    /// What is recorded of a channel, as the entries that it has followed tell it.
+    pub fn row(&self, channel: &Name) -> Watched
+        ensures { result ≡ watched_row self.now.rows channel.now }
+    {
+        watched_row(&self.rows, channel)
+    }
+
     fn see(&mut self, entry: &Entry) -> Result<(), NoMemory>
         ensures { OnOk result (self.new ≡ saw self.old entry.now) }
     {
@@ -84,7 +98,8 @@ impl Watcher {
             && row.turn < top_turn(held.chain.states.as_slice())
     }
 
-    fn checkpoints(&self, chains: &[HeldChain]) -> Result<Vec<Call>, NoMemory>
+    /// One checkpoint for each of these chains whose channel is challenged below the chain's turn, in their order.
+    pub fn checkpoints(&self, chains: &[HeldChain]) -> Result<Vec<Call>, NoMemory>
         ensures { IfOk result (λ calls. calls.items ≡ checkpoints (is_stale self.now) chains.now) }
     {
         let mut calls = Vec::new(*self.rows.allocator());
