@@ -12,7 +12,7 @@ pub struct CalmSource<'a> {
 }
 
 impl Source for CalmSource<'_> {
-    ghost left = { λ s. Some s.bytes.now };
+    ghost remaining = { λ s. Some s.bytes.now };
 
     ghost faults = { λ s. 0 };
 
@@ -53,7 +53,7 @@ impl<'a> ListSource<'a> {
 }
 
 impl Source for ListSource<'_> {
-    ghost left = { λ s. Some s.bytes.now };
+    ghost remaining = { λ s. Some s.bytes.now };
 
     ghost faults = { λ s. s.faults };
 

@@ -23,13 +23,13 @@ pub enum Took {
 /// Where bytes come from.
 pub trait Source {
     /// The bytes that are left, where the source tells them.
-    ghost left: { Self → Option (List ℕ) };
+    ghost remaining: { Self → Option (List ℕ) };
 
     /// How often it has failed.
     ghost faults: { Self → ℕ };
 
     fn take(&mut self, into: &mut [u8]) -> Took
-        ensures gives { TakeGives (left self.old) (left self.new) into.new result }
+        ensures gives { TakeGives (remaining self.old) (remaining self.new) into.new result }
         ensures later { faults self.old ≤ faults self.new }
         ensures failed { result ≡ Took.Failed → Rose (faults self.old) (faults self.new) };
 }
@@ -69,23 +69,23 @@ impl From<AllocError> for ReadEnd {
 
 /// All bytes that the source has left.
 pub fn read_all<S: Source>(alloc: Global, source: &mut S) -> Result<Vec<u8>, ReadEnd>
-    ensures bytes { IfOk result (λ bytes. Consumes (S.left source.old) (S.left source.new) bytes.items) }
-    ensures end { IfOk result (λ bytes. IsAtEnd (S.left source.new)) }
+    ensures bytes { IfOk result (λ bytes. Consumes (S.remaining source.old) (S.remaining source.new) bytes.items) }
+    ensures end { IfOk result (λ bytes. IsAtEnd (S.remaining source.new)) }
     ensures short { IfOk result (λ bytes. length bytes.items ≤ READ_LIMIT) }
 
     // The count never falls, and a fault is told only where it rose, before the limit was passed.
     ensures later { S.faults source.old ≤ S.faults source.new }
     ensures failed { IsErrOf result ReadEnd.Failed → Rose (S.faults source.old) (S.faults source.new) }
     ensures failed_early { IsErrOf result ReadEnd.Failed → (taken : List ℕ)
-        × Consumes (S.left source.old) (S.left source.new) taken × (length taken ≤ READ_LIMIT) }
+        × Consumes (S.remaining source.old) (S.remaining source.new) taken × (length taken ≤ READ_LIMIT) }
 
     // Else more was taken: of a source that doesn't tell its bytes, some list of that many.
     ensures too_long { IsErrOf result ReadEnd.TooLong → (taken : List ℕ)
-        × Consumes (S.left source.old) (S.left source.new) taken × (READ_LIMIT < length taken) }
+        × Consumes (S.remaining source.old) (S.remaining source.new) taken × (READ_LIMIT < length taken) }
 
     // For want of memory the source is somewhere behind its start.
     ensures no_memory { IsErrOf result ReadEnd.NoMemory → (taken : List ℕ)
-        × Consumes (S.left source.old) (S.left source.new) taken }
+        × Consumes (S.remaining source.old) (S.remaining source.new) taken }
 {
     let mut bytes = Vec::new(alloc);
     let mut buffer = [0u8; 4096];

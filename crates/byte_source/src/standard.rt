@@ -12,7 +12,7 @@ pub struct StdSource<R: Read + Drop> {
 }
 
 impl<R: Read + Drop> Source for StdSource<R> {
-    ghost left = { λ s. R.Read.remaining s.reader };
+    ghost remaining = { λ s. R.Read.remaining s.reader };
 
     ghost faults = { λ s. s.faults };
 

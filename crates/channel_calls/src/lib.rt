@@ -37,7 +37,7 @@ pub use laws::{
     no_channel_pays_more_than_it_holds, nobody_holds_more_than_was_deposited, payouts_lower_both,
     same_calls_are_one,
 };
-pub use reading::{read_call, read_message};
+pub use reading::{read_call, read_message, take_call};
 pub use refusal::{Refusal, Reply};
 pub use row::{Row, row_or_blank};
 pub use same::{is_op, parts_are_valid, same_call};

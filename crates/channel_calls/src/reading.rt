@@ -119,8 +119,9 @@ fn take_claim(alloc: Global, whole: usize, bytes: &[u8]) -> Result<(Call, &[u8])
     Ok((call, rest))
 }
 
+/// A call, and the bytes after it; a fault's place is counted in `whole` bytes, of which `bytes` are the last.
 #[tactic(auto, unfolding(crate::specs::Reading::call_at))]
-fn take_call(alloc: Global, whole: usize, bytes: &[u8]) -> Result<(Call, &[u8]), ByteFault>
+pub fn take_call(alloc: Global, whole: usize, bytes: &[u8]) -> Result<(Call, &[u8]), ByteFault>
     ensures { Gives (λ x. (x.0, x.1.now)) result (call_at whole bytes.now) }
 {
     let place = place_of(whole, bytes);

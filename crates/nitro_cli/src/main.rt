@@ -2,9 +2,10 @@
 //! one that it makes from a seed.
 #![tactic(auto)]
 
+use byte_sink::StdSink;
 use byte_source::StdSource;
 use nitro_bytes::{Label, NoMemory};
-use script_run::{StdSink, run_words};
+use script_run::run_words;
 use std::process::ExitCode;
 use std::rt::Env;
 use std::{env, io};

@@ -5,7 +5,7 @@ use Rattle.byte_source.proofs.source.read_all.Given as goal
 abbrev pub invariant-loop-buffer : goal.invariant-loop-buffer
 invariant-loop-buffer g l = record {
   later : g.S.Source.faults l.fn.source ≤ g.S.Source.faults l.source;
-  taken : Consumes (g.S.Source.left l.fn.source) (g.S.Source.left l.source) l.bytes.items;
+  taken : Consumes (g.S.Source.remaining l.fn.source) (g.S.Source.remaining l.source) l.bytes.items;
   room : length l.buffer ≡ 4096;
 }
 

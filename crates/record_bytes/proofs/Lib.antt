@@ -1,0 +1,5 @@
+pub mod Fields
+pub mod Lists
+pub mod Lines
+pub mod Plans
+pub mod Whole

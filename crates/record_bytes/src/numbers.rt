@@ -1,0 +1,27 @@
+//! The numbers by which records tell sums apart.
+
+ghost use Rattle.std.specs.Prelude.{◌≡◌};
+ghost use Rattle.record_bytes.specs.Numbers as numbers;
+
+use crate::run_record::SumOf;
+
+pub(crate) fn sum_number(kind: SumOf) -> u8
+    ensures { result ≡ numbers.sum_number kind }
+{
+    match kind {
+        SumOf::Deposited => 1,
+        SumOf::Held => 2,
+        SumOf::Paid => 3,
+    }
+}
+
+pub(crate) fn sum_of(number: u8) -> Option<SumOf>
+    ensures { result ≡ numbers.sum_of number }
+{
+    match number {
+        1 => Some(SumOf::Deposited),
+        2 => Some(SumOf::Held),
+        3 => Some(SumOf::Paid),
+        _ => None,
+    }
+}
