@@ -23,7 +23,7 @@ use Rattle.channel_calls.specs.History.{paid_to}
 use Rattle.share_laws.proofs.Guaranteed.{signed_such}
 use Rattle.exit_laws.specs.Exits.{IsBackedBy, IsBacked}
 use Rattle.exit_laws.specs.Fair.{Signs, HasAsset, HasNoOther, SignsInAsset, FairExitsPay, FairLeaversArePaid}
-use Rattle.exit_laws.proofs.Plans.{exits-apart, apart-from-guarantors, all-on-roots}
+use Rattle.exit_laws.proofs.Plans.{exits-apart, apart-from-guarantors, all-on-ledgers}
 use Rattle.exit_laws.proofs.Whole.{exits_pay}
 use Rattle.signing_laws.specs.Plans.{IsPlan}
 
@@ -67,7 +67,7 @@ fair_exits r key me orders h journal keeps possibly legal honest unforged distin
       sound = fair_sound r key me orders h journal keeps possibly legal honest unforged distinct valid in_time fair.plans past front place;
       apart = exits-apart (plan orders front) whole;
       channels = apart-from-guarantors (plan orders front) whole;
-      on_roots = all-on-roots (plan orders front) whole;
+      on_ledgers = all-on-ledgers (plan orders front) whole;
       backed = all-both (SignsInAsset r journal) (HasSigned r me journal) (IsBacked (counting r past front)) backed (plan orders front)
           (all-left (SignsInAsset r journal) (plan orders front) w.0 (subst (λ (ps : List Part). AllByRecursion (SignsInAsset r journal) ps) w.1 fair.assets))
           (all-left (HasSigned r me journal) (plan orders front) w.0 (subst (λ (ps : List Part). AllByRecursion (HasSigned r me journal) ps) w.1 fair.plans.guarantors));

@@ -27,7 +27,7 @@ use Rattle.channel_calls.proofs.Names.{same_bytes}
 use Rattle.channel_calls.specs.Rows.{fixed_of}
 use Rattle.net_model.specs.Journals.{In, Line, opened}
 use Rattle.net_model.specs.Strings.{states_in, outcomes_in, signed_of}
-use Rattle.net_model.specs.Premises.{OccursFixed, OccursState, OccursOutcome, in_call, in_line, NoCollision}
+use Rattle.net_model.specs.Occurring.{OccursFixed, OccursState, OccursOutcome, NoCollision, in_call, in_line}
 use Rattle.net_model.proofs.Members.{all-in}
 use Rattle.chain_laws.proofs.Tests.{some-eq, none-eq}
 use Rattle.funding_value.specs.Shapes.{items_of}
@@ -161,7 +161,7 @@ can = record {
   sound = record { payers = (refl, (refl, tt)); apart = (tt, (tt, tt)); guarantors = (tt, (tt, tt)) };
   apart = (refl, (refl, tt));
   channels = (tt, (tt, tt));
-  on_roots = (tt, (inl refl, tt));
+  on_ledgers = (tt, (inl (inl refl), tt));
   backed = (tt, (tt, tt));
   final = ended-well;
 }

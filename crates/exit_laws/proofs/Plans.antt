@@ -1,10 +1,11 @@
--- What a whole plan keeps of its exits: no channel pays in two parts' exits, and each ledger is a root.
-use Rattle.std.proofs.Common.{◌≡◌, ℕ, Bool, true, false, ◌||◌, List, [], ◌∷◌, flat_map, refl, sym, ap}
+-- What a whole plan keeps of its exits: no channel pays in two parts' exits, and each ledger is a root or the channel of an
+-- earlier end.
+use Rattle.std.proofs.Common.{◌≡◌, ℕ, Bool, true, false, ◌||◌, List, [], ◌∷◌, flat_map, inl, inr, refl, sym, ap, subst}
 use Rattle.std.specs.List.{AllByRecursion}
 use Rattle.std.specs.Str.{bytes_eq}
 use Rattle.std.proofs.lemmas.Bool.{false≢true}
 use Rattle.nitro_bytes.specs.Outcomes.{AreApart}
-use Rattle.channel_calls.proofs.Names.{bytes_eq_self}
+use Rattle.channel_calls.proofs.Names.{same_bytes}
 use Rattle.channel_calls.specs.Flows.{is_among}
 use Rattle.net_model.specs.Journals.{In}
 use Rattle.funding_value.specs.Parts.{own_ledger, own_guarantor, channels_of}
@@ -14,10 +15,9 @@ use Rattle.share_model.proofs.Apart.{or-none}
 use Rattle.share_model.proofs.Choices.{differ-flip}
 use Rattle.share_laws.proofs.Plans.{all-are, picked-apart}
 use Rattle.signing_laws.proofs.Counts.{part-apart}
-use Rattle.signing_laws.proofs.Funded.{ledger-root}
-use Rattle.signing_laws.specs.Plans.{IsPlan}
+use Rattle.signing_laws.specs.Plans.{StandsOn, ledgers_after, AllStandOn, IsPlan}
 use Rattle.exit_script.specs.Calls.{exits}
-use Rattle.exit_laws.specs.Exits.{IsOnRoots, IsApartFromGuarantors}
+use Rattle.exit_laws.specs.Exits.{IsLedger, IsOnLedgers, AreOnLedgers, IsApartFromGuarantors}
 
 -- ---- one of four channels
 
@@ -89,24 +89,39 @@ apart-from-guarantors ps plan = all-are IsApartFromGuarantors ps (λ p i. from-g
 
 -- ---- ledgers
 
-first-among : (x : List ℕ) (xs : List (List ℕ)) → is_among x (x ∷ xs) ≡ true
-first-among x xs = ap (λ (t : Bool). t || is_among x xs) (bytes_eq_self x)
+module _ (ps before : List Part) (ledgers : List (List ℕ)) (there : (l : List ℕ) → is_among l ledgers ≡ true → IsLedger ps before l) where
+  stands-there : (p : Part) → StandsOn ledgers p → IsOnLedgers ps before p
+  stands-there (Root c) on = tt
+  stands-there (OnLedger l c) on = there l on
+  stands-there (End v) on = there (own_ledger v) on
+  stands-there (Middle v) on = (there v.ledger_a on.0, there v.ledger_b on.1)
 
-second-among : (x y : List ℕ) → is_among y (x ∷ y ∷ []) ≡ true
-second-among x y = go (bytes_eq y x)
-  where
-    go : (b : Bool) → (b || is_among y (y ∷ [])) ≡ true
-    go true = refl
-    go false = first-among y []
+  earlier : (q : Part) (l : List ℕ) → IsLedger ps before l → IsLedger ps (q ∷ before) l
+  earlier q l (inl i) = inl i
+  earlier q l (inr w) = inr (w.0, inr w.1, w.2)
 
-on-roots : (ps : List Part) → IsPlan ps → (p : Part) → In p ps → IsOnRoots ps p
-on-roots ps plan (Root c) i = tt
-on-roots ps plan (OnLedger l c) i = ledger-root ps plan (OnLedger l c) i l (first-among l [])
-on-roots ps plan (End v) i = ledger-root ps plan (End v) i (own_ledger v) (first-among (own_ledger v) [])
-on-roots ps plan (Middle v) i = (
-  ledger-root ps plan (Middle v) i v.ledger_a (first-among v.ledger_a (v.ledger_b ∷ [])),
-  ledger-root ps plan (Middle v) i v.ledger_b (second-among v.ledger_a v.ledger_b),
+  -- a root, or the channel of an end, is there for the parts after it
+  there-after : (q : Part) → In q ps → (l : List ℕ) → is_among l (ledgers_after ledgers q) ≡ true → IsLedger ps (q ∷ before) l
+  there-after (Root c) i l h = by_test (bytes_eq l c) (same_bytes l c) h
+    where
+      by_test : (t : Bool) → (t ≡ true → l ≡ c) → (t || is_among l ledgers) ≡ true → IsLedger ps (Root c ∷ before) l
+      by_test true is k = inl (subst (λ (n : List ℕ). In (Root n) ps) (sym (is refl)) i)
+      by_test false is k = earlier (Root c) l (there l k)
+  there-after (OnLedger m c) i l h = earlier (OnLedger m c) l (there l h)
+  there-after (End v) i l h = by_test (bytes_eq l v.channel) (same_bytes l v.channel) h
+    where
+      by_test : (t : Bool) → (t ≡ true → l ≡ v.channel) → (t || is_among l ledgers) ≡ true → IsLedger ps (End v ∷ before) l
+      by_test true is k = inr (v, inl refl, sym (is refl))
+      by_test false is k = earlier (End v) l (there l k)
+  there-after (Middle v) i l h = earlier (Middle v) l (there l h)
+
+all-stand : (ps before qs : List Part) (ledgers : List (List ℕ)) → ((l : List ℕ) → is_among l ledgers ≡ true → IsLedger ps before l) → ((p : Part) → In p qs → In p ps) → AllStandOn ledgers qs
+    → AreOnLedgers ps before qs
+all-stand ps before [] ledgers there within on = tt
+all-stand ps before (q ∷ qs) ledgers there within on = (
+  stands-there ps before ledgers there q on.0,
+  all-stand ps (q ∷ before) qs (ledgers_after ledgers q) (there-after ps before ledgers there q (within q (inl refl))) (λ p i. within p (inr i)) on.1,
 )
 
-pub all-on-roots : (ps : List Part) → IsPlan ps → AllByRecursion (IsOnRoots ps) ps
-all-on-roots ps plan = all-are (IsOnRoots ps) ps (on-roots ps plan)
+pub all-on-ledgers : (ps : List Part) → IsPlan ps → AreOnLedgers ps [] ps
+all-on-ledgers ps plan = all-stand ps [] ps [] (λ l h. absurd (false≢true h)) (λ p i. i) plan.on_ledgers

@@ -1,6 +1,6 @@
--- The edges of the roots, with those of items that aren't there, supply every part of a plan whose ledgers are roots.
-use Rattle.std.proofs.Common.{◌≡◌, ℕ, Bool, true, false, cond, ◌||◌, ◌&&◌, List, [], ◌∷◌, ◌++◌, refl, sym, subst, inl, inr, ◌⊎◌}
-use Rattle.std.specs.List.{AllByRecursion}
+-- The edges of the roots and of virtual ledgers, with those of items that aren't there, pay all that these lend the parts of a
+-- plan.
+use Rattle.std.proofs.Common.{◌≡◌, ℕ, Bool, true, false, cond, ◌||◌, ◌&&◌, List, [], ◌∷◌, ◌++◌, refl, sym, ◌∙◌, ap, subst, inl, inr, ◌⊎◌}
 use Rattle.std.proofs.lemmas.Bool.{false≢true}
 use Rattle.std.specs.Str.{bytes_eq}
 use Rattle.nitro_bytes.specs.Outcomes.{is_same, AreApart}
@@ -14,14 +14,14 @@ use Rattle.net_model.specs.Journals.{In}
 use Rattle.funding_value.specs.declared.plan.Part.{Part}
 use Rattle.funding_value.specs.declared.plan.Part.TheVariants.{Root, OnLedger, End, Middle}
 use Rattle.funding_value.specs.declared.plan.Virtual.{Virtual}
-use Rattle.funding_value.specs.Parts.{own_ledger, own_guarantor, channels_of, channels}
-use Rattle.exit_script.specs.Calls.{exits}
-use Rattle.exit_laws.specs.Exits.{IsOnRoots}
+use Rattle.funding_value.specs.Parts.{own_ledger, own_guarantor, channels_of, channels, ledgers_of}
+use Rattle.exit_script.specs.Calls.{exits, is_ledger, passed_to}
+use Rattle.exit_laws.specs.Exits.{IsApartFromGuarantors, AreOnLedgers}
 use Rattle.exit_laws.proofs.Edges.{Edge, moving, claiming, payer, payee, is_shut}
 use Rattle.exit_laws.proofs.Leaves.{is_same-true}
-use Rattle.exit_laws.proofs.Listing.{edge_to, edges_to, root_edges, all_root_edges}
+use Rattle.exit_laws.proofs.Listing.{edge_to, edges_to, out_edges, root_edges, all_root_edges, onward_edges}
 use Rattle.share_model.proofs.Apart.{among-first}
-use Rattle.exit_laws.proofs.Order.{all_exits, FromRoots, Supplied, AllSupplied, ExitCalls, or-left, or-right, shut-here, unique, not-true}
+use Rattle.exit_laws.proofs.Order.{all_exits, FromRoots, Lends, Serves, AreFrom, ExitCalls, or-left, or-right, shut-here, unique, not-true}
 
 from-append : (ps : List Part) (xs ys : List Edge) → FromRoots ps xs → FromRoots ps ys → FromRoots ps (xs ++ ys)
 from-append ps [] ys h k = k
@@ -40,20 +40,7 @@ shut-right : (xs ys : List Edge) (n : List ℕ) (d : Dest) → is_shut ys n d �
 shut-right [] ys n d h = h
 shut-right (x ∷ xs) ys n d h = or-right (bytes_eq n (payer x) && is_same d (payee x)) _ (shut-right xs ys n d h)
 
--- ---- the transfers of a root
-
-to-from : (ps : List Part) (f : List ℕ) (ns : List (List ℕ)) (d : Dest) → In (Root f) ps → FromRoots ps (edge_to f ns d)
-to-from ps f ns (Person n) i = tt
-to-from ps f ns (Channel n) i = by_test (is_among n ns) (bytes_eq n f)
-  where
-    by_test : (t u : Bool) → FromRoots ps (cond t (cond u [] (moving f (Channel n) ∷ [])) [])
-    by_test true true = tt
-    by_test true false = (i, tt)
-    by_test false u = tt
-
-named-from : (ps : List Part) (f : List ℕ) (ns : List (List ℕ)) (xs : List Item) → In (Root f) ps → FromRoots ps (edges_to f ns xs)
-named-from ps f ns [] i = tt
-named-from ps f ns (x ∷ xs) i = from-append ps (edge_to f ns x.to) (edges_to f ns xs) (to-from ps f ns x.to i) (named-from ps f ns xs i)
+-- ---- the transfers of a ledger
 
 or-case : (t u : Bool) → (t || u) ≡ true → (t ≡ true) ⊎ (u ≡ true)
 or-case true u h = inl refl
@@ -97,121 +84,221 @@ own-among v ns = go v.side_b
     go true = later v.guarantor_a v.guarantor_b (v.guarantor_b ∷ ns) (self v.guarantor_b ns)
     go false = self v.guarantor_a (v.guarantor_b ∷ ns)
 
+-- transfers from a root of the plan are from roots
+moved-roots : (ps : List Part) (f : List ℕ) (xs : List Edge) → In (Root f) ps → AreFrom f xs → FromRoots ps xs
+moved-roots ps f [] i h = tt
+moved-roots ps f (moving g d ∷ xs) i h = (subst (λ (n : List ℕ). In (Root n) ps) (sym h.0) i, moved-roots ps f xs i h.1)
+moved-roots ps f (claiming g j d ∷ xs) i h = absurd h
+
+are-from : (f : List ℕ) (xs ys : List Edge) → AreFrom f xs → AreFrom f ys → AreFrom f (xs ++ ys)
+are-from f [] ys h k = k
+are-from f (moving g d ∷ xs) ys h k = (h.0, are-from f xs ys h.1 k)
+are-from f (claiming g j d ∷ xs) ys h k = absurd h
+
+to-from : (f : List ℕ) (ns : List (List ℕ)) (d : Dest) → AreFrom f (edge_to f ns d)
+to-from f ns (Person n) = tt
+to-from f ns (Channel n) = by_test (is_among n ns) (bytes_eq n f)
+  where
+    by_test : (t u : Bool) → AreFrom f (cond t (cond u [] (moving f (Channel n) ∷ [])) [])
+    by_test true true = tt
+    by_test true false = (refl, tt)
+    by_test false u = tt
+
+named-from : (f : List ℕ) (ns : List (List ℕ)) (xs : List Item) → AreFrom f (edges_to f ns xs)
+named-from f ns [] = tt
+named-from f ns (x ∷ xs) = are-from f (edge_to f ns x.to) (edges_to f ns xs) (to-from f ns x.to) (named-from f ns xs)
+
+-- ---- what is lent is a channel of the plan, and stands on a ledger of it
+
+lent-channel : (p : Part) (l c : List ℕ) → Lends p l c → is_among c (channels_of p) ≡ true
+lent-channel (Root x) l c w = absurd w
+lent-channel (OnLedger m x) l c w = subst (λ (n : List ℕ). is_among n (x ∷ []) ≡ true) w.1 (self x [])
+lent-channel (End v) l c w = subst (λ (n : List ℕ). is_among n (channels_of (End v)) ≡ true) w.1 (own-among v (v.joint ∷ v.channel ∷ []))
+lent-channel (Middle v) l c (inl w) = subst (λ (n : List ℕ). is_among n (channels_of (Middle v)) ≡ true) w.1 (self v.guarantor_a (v.guarantor_b ∷ v.joint ∷ v.channel ∷ []))
+lent-channel (Middle v) l c (inr w) =
+    subst (λ (n : List ℕ). is_among n (channels_of (Middle v)) ≡ true) w.1 (later v.guarantor_a v.guarantor_b (v.guarantor_b ∷ v.joint ∷ v.channel ∷ []) (self v.guarantor_b (v.joint ∷ v.channel ∷ [])))
+
+lent-exit : (p : Part) (l c : List ℕ) → Lends p l c → is_among c (exits p) ≡ true
+lent-exit (Root x) l c w = absurd w
+lent-exit (OnLedger m x) l c w = subst (λ (n : List ℕ). is_among n (x ∷ []) ≡ true) w.1 (self x [])
+lent-exit (End v) l c w = subst (λ (n : List ℕ). is_among n (exits (End v)) ≡ true) w.1 (later v.channel (own_guarantor v) (own_guarantor v ∷ []) (self (own_guarantor v) []))
+lent-exit (Middle v) l c (inl w) = subst (λ (n : List ℕ). is_among n (exits (Middle v)) ≡ true) w.1 (self v.guarantor_a (v.guarantor_b ∷ []))
+lent-exit (Middle v) l c (inr w) = subst (λ (n : List ℕ). is_among n (exits (Middle v)) ≡ true) w.1 (later v.guarantor_a v.guarantor_b (v.guarantor_b ∷ []) (self v.guarantor_b []))
+
+lent-ledger : (p : Part) (l c : List ℕ) → Lends p l c → is_among l (ledgers_of p) ≡ true
+lent-ledger (Root x) l c w = absurd w
+lent-ledger (OnLedger m x) l c w = subst (λ (n : List ℕ). is_among n (m ∷ []) ≡ true) w.0 (self m [])
+lent-ledger (End v) l c w = subst (λ (n : List ℕ). is_among n (ledgers_of (End v)) ≡ true) w.0 (self (own_ledger v) [])
+lent-ledger (Middle v) l c (inl w) = subst (λ (n : List ℕ). is_among n (ledgers_of (Middle v)) ≡ true) w.0 (self v.ledger_a (v.ledger_b ∷ []))
+lent-ledger (Middle v) l c (inr w) = subst (λ (n : List ℕ). is_among n (ledgers_of (Middle v)) ≡ true) w.0 (later v.ledger_a v.ledger_b (v.ledger_b ∷ []) (self v.ledger_b []))
+
+ledger-there : (l : List ℕ) (p : Part) (ps : List Part) → In p ps → is_among l (ledgers_of p) ≡ true → is_ledger ps l ≡ true
+ledger-there l p [] i h = absurd i
+ledger-there l p (q ∷ qs) (inl e) h = or-left (is_among l (ledgers_of q)) (is_ledger qs l) (subst (λ (r : Part). is_among l (ledgers_of r) ≡ true) e h)
+ledger-there l p (q ∷ qs) (inr i) h = or-right (is_among l (ledgers_of q)) (is_ledger qs l) (ledger-there l p qs i h)
+
 module _ (items : List ℕ → List Item) (me : List ℕ) (ps : List Part) (d : AreApart bytes_eq (all_exits ps)) where
   abbrev ns : List (List ℕ)
   ns = channels ps
 
-  roots-from : (qs : List Part) → ((p : Part) → In p qs → In p ps) → FromRoots ps (all_root_edges items me ns qs)
+  -- ---- the edges that a part would want of a ledger, where the outcome has no item for them
+
+  abbrev pub missing_one : List ℕ → Dest → List Edge
+  missing_one l e = cond (has (items l) e) [] (moving l e ∷ [])
+
+  abbrev pub missing_on : (m l : List ℕ) → Dest → List Edge
+  missing_on m l e = cond (bytes_eq m l) (missing_one l e) []
+
+  abbrev pub missing : List ℕ → Part → List Edge
+  missing l (Root x) = []
+  missing l (OnLedger m x) = missing_on m l (Channel x)
+  missing l (End v) = missing_on (own_ledger v) l (Channel (own_guarantor v))
+  missing l (Middle v) = missing_on v.ledger_a l (Channel v.guarantor_a) ++ missing_on v.ledger_b l (Channel v.guarantor_b)
+
+  abbrev pub all_missing : List Part → List ℕ → List Edge
+  all_missing [] l = []
+  all_missing (q ∷ qs) l = missing l q ++ all_missing qs l
+
+  missing-from : (m l : List ℕ) (e : Dest) → AreFrom l (missing_on m l e)
+  missing-from m l e = by_test (bytes_eq m l) (has (items l) e)
+    where
+      by_test : (t u : Bool) → AreFrom l (cond t (cond u [] (moving l e ∷ [])) [])
+      by_test true true = tt
+      by_test true false = (refl, tt)
+      by_test false u = tt
+
+  part-from : (l : List ℕ) (p : Part) → AreFrom l (missing l p)
+  part-from l (Root x) = tt
+  part-from l (OnLedger m x) = missing-from m l (Channel x)
+  part-from l (End v) = missing-from (own_ledger v) l (Channel (own_guarantor v))
+  part-from l (Middle v) = are-from l (missing_on v.ledger_a l (Channel v.guarantor_a)) (missing_on v.ledger_b l (Channel v.guarantor_b))
+      (missing-from v.ledger_a l (Channel v.guarantor_a)) (missing-from v.ledger_b l (Channel v.guarantor_b))
+
+  pub all-from : (qs : List Part) (l : List ℕ) → AreFrom l (all_missing qs l)
+  all-from [] l = tt
+  all-from (q ∷ qs) l = are-from l (missing l q) (all_missing qs l) (part-from l q) (all-from qs l)
+
+  -- what is lent and has no item is there
+  missing-there : (m l c : List ℕ) → m ≡ l → has (items l) (Channel c) ≡ false → is_shut (missing_on m l (Channel c)) l (Channel c) ≡ true
+  missing-there m l c e h = by_test (bytes_eq m l) (has (items l) (Channel c)) (subst (λ (n : List ℕ). bytes_eq m n ≡ true) e (bytes_eq_self m)) h
+    where
+      by_test : (t u : Bool) → t ≡ true → u ≡ false → is_shut (cond t (cond u [] (moving l (Channel c) ∷ [])) []) l (Channel c) ≡ true
+      by_test true false e w = shut-here (moving l (Channel c)) []
+      by_test true true e w = absurd (false≢true (sym w))
+      by_test false u e w = absurd (false≢true e)
+
+  missing-part : (p : Part) (l c : List ℕ) → Lends p l c → has (items l) (Channel c) ≡ false → is_shut (missing l p) l (Channel c) ≡ true
+  missing-part (Root x) l c w h = absurd w
+  missing-part (OnLedger m x) l c w h =
+      subst (λ (n : List ℕ). is_shut (missing_on m l (Channel n)) l (Channel c) ≡ true) (sym w.1) (missing-there m l c w.0 h)
+  missing-part (End v) l c w h =
+      subst (λ (n : List ℕ). is_shut (missing_on (own_ledger v) l (Channel n)) l (Channel c) ≡ true) (sym w.1) (missing-there (own_ledger v) l c w.0 h)
+  missing-part (Middle v) l c (inl w) h =
+      shut-left (missing_on v.ledger_a l (Channel v.guarantor_a)) (missing_on v.ledger_b l (Channel v.guarantor_b)) l (Channel c)
+      (subst (λ (n : List ℕ). is_shut (missing_on v.ledger_a l (Channel n)) l (Channel c) ≡ true) (sym w.1) (missing-there v.ledger_a l c w.0 h))
+  missing-part (Middle v) l c (inr w) h =
+      shut-right (missing_on v.ledger_a l (Channel v.guarantor_a)) (missing_on v.ledger_b l (Channel v.guarantor_b)) l (Channel c)
+      (subst (λ (n : List ℕ). is_shut (missing_on v.ledger_b l (Channel n)) l (Channel c) ≡ true) (sym w.1) (missing-there v.ledger_b l c w.0 h))
+
+  missing-in : (qs : List Part) (p : Part) (l : List ℕ) (e : Dest) → In p qs → is_shut (missing l p) l e ≡ true → is_shut (all_missing qs l) l e ≡ true
+  missing-in [] p l e i h = absurd i
+  missing-in (q ∷ qs) p l e (inl is) h =
+      shut-left (missing l q) (all_missing qs l) l e (subst (λ (y : Part). is_shut (missing l y) l e ≡ true) is h)
+  missing-in (q ∷ qs) p l e (inr i) h = shut-right (missing l q) (all_missing qs l) l e (missing-in qs p l e i h)
+
+  -- ---- a ledger's edges to the plan's channels pay all that it lends
+
+  abbrev pub more : List ℕ → List Edge
+  more = all_missing ps
+
+  serves-by : (names : List (List ℕ)) (l : List ℕ) → ((p : Part) (c : List ℕ) → In p ps → Lends p l c → (is_among c names ≡ true) × (bytes_eq c l ≡ false)) →
+      Serves ps (out_edges items more names l) l
+  serves-by names l known p c i w = by_test (has (items l) (Channel c)) refl
+    where
+      by_test : (t : Bool) → has (items l) (Channel c) ≡ t → is_shut (out_edges items more names l) l (Channel c) ≡ true
+      by_test true h = shut-left (edges_to l names (items l)) (more l) l (Channel c) (named-shut l c names (items l) (known p c i w).0 (known p c i w).1 h)
+      by_test false h = shut-right (edges_to l names (items l)) (more l) l (Channel c) (missing-in ps p l (Channel c) i (missing-part p l c w h))
+
+  out-from : (names : List (List ℕ)) (l : List ℕ) → AreFrom l (out_edges items more names l)
+  out-from names l = are-from l (edges_to l names (items l)) (more l) (named-from l names (items l)) (all-from ps l)
+
+  lent-among : (p : Part) (l c : List ℕ) → In p ps → Lends p l c → is_among c ns ≡ true
+  lent-among p l c i w = among-channels c p ps i (lent-channel p l c w)
+
+  -- what a root or an end's channel lends isn't itself
+  apart-root : (l c : List ℕ) (p : Part) → In (Root l) ps → In p ps → Lends p l c → bytes_eq c l ≡ false
+  apart-root l c p i j w = not-true (bytes_eq c l) (λ e. differ p w (unique l ps d (Root l) p i j (self l []) (subst (λ (n : List ℕ). is_among n (exits p) ≡ true) (same_bytes c l e) (lent-exit p l c w))))
+    where
+      differ : (q : Part) → Lends q l c → Root l ≡ q → ⊥
+      differ (Root x) w e = absurd w
+      differ (OnLedger m x) w e = cc
+      differ (End v) w e = cc
+      differ (Middle v) w e = cc
+
+  apart-end : (v : Virtual) (c : List ℕ) (p : Part) → IsApartFromGuarantors (End v) → In (End v) ps → In p ps → Lends p v.channel c → bytes_eq c v.channel ≡ false
+  apart-end v c p ne i j w = not-true (bytes_eq c v.channel) (λ e. differ p w e (unique v.channel ps d (End v) p i j (self v.channel (own_guarantor v ∷ []))
+      (subst (λ (n : List ℕ). is_among n (exits p) ≡ true) (same_bytes c v.channel e) (lent-exit p v.channel c w))))
+    where
+      -- the end itself lends its own guarantor, which isn't its channel
+      own : (q : Part) → Lends q v.channel c → End v ≡ q → c ≡ own_guarantor v
+      own (Root x) w e = absurd w
+      own (OnLedger m x) w e = cc
+      own (End u) w e = sym w.1 ∙ ap (λ (r : Part). elim r as (λ y. List ℕ) [ Root y ↦ y | OnLedger y z ↦ z | End y ↦ own_guarantor y | Middle y ↦ y.channel ]) (sym e)
+      own (Middle u) w e = cc
+
+      differ : (q : Part) → Lends q v.channel c → bytes_eq c v.channel ≡ true → End v ≡ q → ⊥
+      differ q w e same =
+          let is : v.channel ≡ own_guarantor v = sym (same_bytes c v.channel e) ∙ own q w same in
+          false≢true (sym ne ∙ subst (λ (n : List ℕ). bytes_eq v.channel n ≡ true) is (bytes_eq_self v.channel))
+
+  -- ---- the roots, and the other parts
+
+  abbrev pub roots : List Edge
+  roots = all_root_edges items more me ns ps
+
+  abbrev pub onward : List ℕ → List Edge
+  onward = onward_edges items more ps
+
+  roots-from : (qs : List Part) → ((p : Part) → In p qs → In p ps) → FromRoots ps (all_root_edges items more me ns qs)
   roots-from [] i = tt
   roots-from (Root x ∷ qs) i =
-      from-append ps (edges_to x ns (items x) ++ moving x (Person me) ∷ []) (all_root_edges items me ns qs)
-      (from-append ps (edges_to x ns (items x)) (moving x (Person me) ∷ []) (named-from ps x ns (items x) (i (Root x) (inl refl))) (i (Root x) (inl refl), tt))
+      from-append ps (out_edges items more ns x ++ moving x (Person me) ∷ []) (all_root_edges items more me ns qs)
+      (from-append ps (out_edges items more ns x) (moving x (Person me) ∷ []) (moved-roots ps x (out_edges items more ns x) (i (Root x) (inl refl)) (out-from ns x)) (i (Root x) (inl refl), tt))
       (roots-from qs (λ p j. i p (inr j)))
   roots-from (OnLedger l x ∷ qs) i = roots-from qs (λ p j. i p (inr j))
   roots-from (End v ∷ qs) i = roots-from qs (λ p j. i p (inr j))
   roots-from (Middle v ∷ qs) i = roots-from qs (λ p j. i p (inr j))
 
   -- a root's edges are among all roots'
-  roots-shut : (qs : List Part) (l : List ℕ) (e : Dest) → In (Root l) qs → is_shut (root_edges items me ns (Root l)) l e ≡ true →
-      is_shut (all_root_edges items me ns qs) l e ≡ true
+  roots-shut : (qs : List Part) (l : List ℕ) (e : Dest) → In (Root l) qs → is_shut (root_edges items more me ns (Root l)) l e ≡ true →
+      is_shut (all_root_edges items more me ns qs) l e ≡ true
   roots-shut [] l e i h = absurd i
   roots-shut (q ∷ qs) l e (inl is) h =
-      shut-left (root_edges items me ns q) (all_root_edges items me ns qs) l e (subst (λ (p : Part). is_shut (root_edges items me ns p) l e ≡ true) is h)
+      shut-left (root_edges items more me ns q) (all_root_edges items more me ns qs) l e (subst (λ (p : Part). is_shut (root_edges items more me ns p) l e ≡ true) is h)
   roots-shut (q ∷ qs) l e (inr i) h =
-      shut-right (root_edges items me ns q) (all_root_edges items me ns qs) l e (roots-shut qs l e i h)
+      shut-right (root_edges items more me ns q) (all_root_edges items more me ns qs) l e (roots-shut qs l e i h)
 
-  to-channel : (l x : List ℕ) → In (Root l) ps → is_among x ns ≡ true → bytes_eq x l ≡ false → has (items l) (Channel x) ≡ true →
-      is_shut (all_root_edges items me ns ps) l (Channel x) ≡ true
-  to-channel l x i a ne h =
-      roots-shut ps l (Channel x) i (shut-left (edges_to l ns (items l)) (moving l (Person me) ∷ []) l (Channel x) (named-shut l x ns (items l) a ne h))
+  root-serves : (l : List ℕ) → In (Root l) ps → Serves ps roots l
+  root-serves l i p c j w =
+      roots-shut ps l (Channel c) i (shut-left (out_edges items more ns l) (moving l (Person me) ∷ []) l (Channel c)
+      (serves-by ns l (λ q n k u. (lent-among q l n k u, apart-root l n q i k u)) p c j w))
 
-  to-person : (x : List ℕ) → In (Root x) ps → is_shut (all_root_edges items me ns ps) x (Person me) ≡ true
-  to-person x i = roots-shut ps x (Person me) i (shut-right (edges_to x ns (items x)) (moving x (Person me) ∷ []) x (Person me) (shut-here (moving x (Person me)) []))
-
-  -- the edges that a part would want of the roots, where the outcome has no item for them
-  abbrev pub missing_one : List ℕ → Dest → List Edge
-  missing_one l e = cond (has (items l) e) [] (moving l e ∷ [])
-
-  missing-from : (l : List ℕ) (e : Dest) → In (Root l) ps → FromRoots ps (missing_one l e)
-  missing-from l e i = by_test (has (items l) e)
+  end-serves : (v : Virtual) → IsApartFromGuarantors (End v) → In (End v) ps → Serves ps (onward v.channel) v.channel
+  end-serves v ne i = serves-by (passed_to ps v.channel) v.channel (λ q n k u. (passes q n k u, apart-end v n q ne i k u))
     where
-      by_test : (t : Bool) → FromRoots ps (cond t [] (moving l e ∷ []))
-      by_test true = tt
-      by_test false = (i, tt)
+      passes : (q : Part) (n : List ℕ) → In q ps → Lends q v.channel n → is_among n (passed_to ps v.channel) ≡ true
+      passes q n k u = by_test (is_ledger ps v.channel) (ledger-there v.channel q ps k (lent-ledger q v.channel n u))
+        where
+          by_test : (t : Bool) → t ≡ true → is_among n (cond t (channels ps) []) ≡ true
+          by_test true e = lent-among q v.channel n k u
+          by_test false e = absurd (false≢true e)
 
-  abbrev pub missing : Part → List Edge
-  missing (Root x) = []
-  missing (OnLedger l x) = missing_one l (Channel x)
-  missing (End v) = missing_one (own_ledger v) (Channel (own_guarantor v))
-  missing (Middle v) = missing_one v.ledger_a (Channel v.guarantor_a) ++ missing_one v.ledger_b (Channel v.guarantor_b)
-
-  abbrev pub all_missing : List Part → List Edge
-  all_missing [] = []
-  all_missing (q ∷ qs) = missing q ++ all_missing qs
-
-  part-from : (p : Part) → IsOnRoots ps p → FromRoots ps (missing p)
-  part-from (Root x) o = tt
-  part-from (OnLedger l x) o = missing-from l (Channel x) o
-  part-from (End v) o = missing-from (own_ledger v) (Channel (own_guarantor v)) o
-  part-from (Middle v) o = from-append ps (missing_one v.ledger_a (Channel v.guarantor_a)) (missing_one v.ledger_b (Channel v.guarantor_b))
-      (missing-from v.ledger_a (Channel v.guarantor_a) o.0) (missing-from v.ledger_b (Channel v.guarantor_b) o.1)
-
-  all-from : (qs : List Part) → AllByRecursion (IsOnRoots ps) qs → FromRoots ps (all_missing qs)
-  all-from [] o = tt
-  all-from (q ∷ qs) o = from-append ps (missing q) (all_missing qs) (part-from q o.0) (all-from qs o.1)
-
-  abbrev pub wanted : List Edge
-  wanted = all_root_edges items me ns ps ++ all_missing ps
-
-  missing-in : (qs : List Part) (p : Part) (l : List ℕ) (e : Dest) → In p qs → is_shut (missing p) l e ≡ true → is_shut (all_missing qs) l e ≡ true
-  missing-in [] p l e i h = absurd i
-  missing-in (q ∷ qs) p l e (inl is) h =
-      shut-left (missing q) (all_missing qs) l e (subst (λ (y : Part). is_shut (missing y) l e ≡ true) is h)
-  missing-in (q ∷ qs) p l e (inr i) h = shut-right (missing q) (all_missing qs) l e (missing-in qs p l e i h)
-
-  -- an edge that the outcome has an item for is among the roots', and another among the missing
-  either : (p : Part) (l : List ℕ) (e : Dest) → In p ps → (has (items l) e ≡ true → is_shut (all_root_edges items me ns ps) l e ≡ true) →
-      (is_shut (missing_one l e) l e ≡ true → is_shut (missing p) l e ≡ true) → is_shut wanted l e ≡ true
-  either p l e i here away = by_test (has (items l) e) refl
-    where
-      one : (t : Bool) → t ≡ false → is_shut (cond t [] (moving l e ∷ [])) l e ≡ true
-      one true w = absurd (false≢true (sym w))
-      one false w = shut-here (moving l e) []
-
-      by_test : (t : Bool) → has (items l) e ≡ t → is_shut wanted l e ≡ true
-      by_test true w = shut-left (all_root_edges items me ns ps) (all_missing ps) l e (here w)
-      by_test false w = shut-right (all_root_edges items me ns ps) (all_missing ps) l e (missing-in ps p l e i (away (one (has (items l) e) w)))
-
-  -- a root isn't a channel of another part's exit
-  apart : (l x : List ℕ) (p : Part) → In (Root l) ps → In p ps → is_among x (exits p) ≡ true → (Root l ≡ p → ⊥) → bytes_eq x l ≡ false
-  apart l x p i j k differ = not-true (bytes_eq x l) (λ e. differ (unique l ps d (Root l) p i j (self l []) (subst (λ (n : List ℕ). is_among n (exits p) ≡ true) (same_bytes x l e) k)))
-
-  part-supplied : (p : Part) → In p ps → IsOnRoots ps p → Supplied me wanted p
-  part-supplied (Root x) i o = shut-left (all_root_edges items me ns ps) (all_missing ps) x (Person me) (to-person x i)
-  part-supplied (OnLedger l x) i o =
-      either (OnLedger l x) l (Channel x) i
-      (to-channel l x o (among-channels x (OnLedger l x) ps i (self x [])) (apart l x (OnLedger l x) o i (self x []) (λ e. cc))) (λ h. h)
-  part-supplied (End v) i o =
-      either (End v) (own_ledger v) (Channel (own_guarantor v)) i
-      (to-channel (own_ledger v) (own_guarantor v) o (among-channels (own_guarantor v) (End v) ps i (own-among v (v.joint ∷ v.channel ∷ [])))
-      (apart (own_ledger v) (own_guarantor v) (End v) o i (later v.channel (own_guarantor v) (own_guarantor v ∷ []) (self (own_guarantor v) [])) (λ e. cc))) (λ h. h)
-  part-supplied (Middle v) i o = (
-    either (Middle v) v.ledger_a (Channel v.guarantor_a) i
-        (to-channel v.ledger_a v.guarantor_a o.0 (among-channels v.guarantor_a (Middle v) ps i (self v.guarantor_a (v.guarantor_b ∷ v.joint ∷ v.channel ∷ [])))
-        (apart v.ledger_a v.guarantor_a (Middle v) o.0 i (self v.guarantor_a (v.guarantor_b ∷ [])) (λ e. cc)))
-        (λ h. shut-left (missing_one v.ledger_a (Channel v.guarantor_a)) (missing_one v.ledger_b (Channel v.guarantor_b)) v.ledger_a (Channel v.guarantor_a) h),
-    either (Middle v) v.ledger_b (Channel v.guarantor_b) i
-        (to-channel v.ledger_b v.guarantor_b o.1 (among-channels v.guarantor_b (Middle v) ps i (later v.guarantor_a v.guarantor_b (v.guarantor_b ∷ v.joint ∷ v.channel ∷ []) (self v.guarantor_b (v.joint ∷ v.channel ∷ []))))
-        (apart v.ledger_b v.guarantor_b (Middle v) o.1 i (later v.guarantor_a v.guarantor_b (v.guarantor_b ∷ []) (self v.guarantor_b [])) (λ e. cc)))
-        (λ h. shut-right (missing_one v.ledger_a (Channel v.guarantor_a)) (missing_one v.ledger_b (Channel v.guarantor_b)) v.ledger_b (Channel v.guarantor_b) h),
-  )
-
-  all-supplied : (qs : List Part) → ((p : Part) → In p qs → In p ps) → AllByRecursion (IsOnRoots ps) qs → AllSupplied me wanted qs
-  all-supplied [] i o = tt
-  all-supplied (q ∷ qs) i o = (part-supplied q (i q (inl refl)) o.0, all-supplied qs (λ p j. i p (inr j)) o.1)
-
-  pub supplies : AllByRecursion (IsOnRoots ps) ps → ExitCalls me ps wanted
-  supplies o = record {
-    from = from-append ps (all_root_edges items me ns ps) (all_missing ps) (roots-from ps (λ p i. i)) (all-from ps o);
-    supplied = all-supplied ps (λ p i. i) o;
+  pub supplies : ((v : Virtual) → In (End v) ps → IsApartFromGuarantors (End v)) → AreOnLedgers ps [] ps → ExitCalls me ps roots onward
+  supplies apart stand = record {
+    from = roots-from ps (λ p i. i);
+    own = λ x i. roots-shut ps x (Person me) i (shut-right (out_edges items more ns x) (moving x (Person me) ∷ []) x (Person me) (shut-here (moving x (Person me)) []));
+    serve = root-serves;
+    moves = λ x. out-from (passed_to ps x) x;
+    passes = λ v i. end-serves v (apart v i) i;
+    stand = stand;
   }

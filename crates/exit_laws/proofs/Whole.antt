@@ -27,6 +27,7 @@ use Rattle.net_model.specs.Journals.{In, Line}
 use Rattle.net_model.specs.Held.{held}
 use Rattle.funding_value.specs.declared.plan.Part.{Part}
 use Rattle.funding_value.specs.declared.plan.Part.TheVariants.{Root, OnLedger, End, Middle}
+use Rattle.funding_value.specs.declared.plan.Virtual.{Virtual}
 use Rattle.channel_calls.specs.Flows.{is_among}
 use Rattle.share_model.specs.Books.{one_of, Books, Counting, outcome_in, counts_in, varying}
 use Rattle.funding_value.specs.Shapes.{items_of, list_of, items_in, list_in, is_listed}
@@ -34,7 +35,7 @@ use Rattle.funding_value.specs.Parts.{own_guarantor}
 use Rattle.share_model.specs.Worth.{worth, no_reach}
 use Rattle.share_model.specs.Share.{least_over, worth_under, share_of}
 use Rattle.share_model.specs.Places.{plan, channels, possible_after, is_held, last_made, counting_of, counting_among, counting, balances, share, IsPlace}
-use Rattle.net_model.specs.Premises.{NoCollision}
+use Rattle.net_model.specs.Occurring.{NoCollision}
 use Rattle.share_laws.specs.Laws.{AreSeen}
 use Rattle.nitro_bytes.specs.Outcomes.{AreApart}
 use Rattle.share_laws.specs.Sound.{IsPromise, Guarantees, IsGuaranteed, IsSound}
@@ -47,7 +48,7 @@ use Rattle.share_laws.proofs.Fewer.{fewer}
 use Rattle.share_laws.proofs.Finals.{final-is}
 use Rattle.exit_script.specs.Calls.{items_ended, exit_calls}
 use Rattle.exit_laws.specs.Endings.{ended, Stand}
-use Rattle.exit_laws.specs.Exits.{IsOnRoots, IsApartFromGuarantors, IsBackedBy, IsBacked, CanExit, ExitPaysShare}
+use Rattle.exit_laws.specs.Exits.{AreOnLedgers, IsApartFromGuarantors, IsBackedBy, IsBacked, CanExit, ExitPaysShare}
 use Rattle.exit_laws.proofs.Answered.{transfer-answered, claim-answered, has-less}
 use Rattle.exit_laws.proofs.Edges.{Edge, moving, claiming, left, IsBare, AllListed, Run, ends}
 use Rattle.exit_laws.proofs.Frozen.{counted, counting-counted, Counted, counted-in, Lasts, IsOk, ok-older, still-seen, lasting, steps-at, names-stay, lists-stay}
@@ -56,7 +57,7 @@ use Rattle.exit_laws.proofs.Leaving.{by_list-unlisted, left-absent}
 use Rattle.exit_laws.proofs.Listing.{IsLive, IsFor, IsFit, FitsPart, list-run}
 use Rattle.exit_laws.proofs.Order.{all_exits, other_edges, list-is-exit}
 use Rattle.exit_laws.proofs.Standing.{Follows, nothing, gone, onto, onto-twice, follows-append, follows-onto, stands-run}
-use Rattle.exit_laws.proofs.Wanted.{missing_one, missing, all_missing, wanted, supplies}
+use Rattle.exit_laws.proofs.Wanted.{missing_one, missing_on, missing, all_missing, all-from, more, roots, onward, supplies}
 use mathlib.Core.List.{reverse_aux}
 
 onto_reverse : {X : Type 0} (xs ys : List X) → onto xs ys ≡ reverse_aux xs ys
@@ -130,7 +131,7 @@ held-if false xs o os h = cc
 module _ (r : Rules) (me : List ℕ) (ps : List Part) (past later : List Entry) (front : List Line) (fs : List FixedParts) (a : ℕ) (legal : Legal r (later ++ past)) (tell : NoCollision r (later ++ past) front)
     (legal_past : Legal r past) (seen : AreSeen past front) (start : (f : FixedParts) → In f fs → Lasts r past front f) (sound : IsSound me ps (counting_among r past front fs))
     (final : (n : List ℕ) → counts_in (counting_among r past front fs) n ≡ true → is_final (mode r n past) ≡ true)
-    (exits_apart : AreApart bytes_eq (all_exits ps)) (apart : AllByRecursion IsApartFromGuarantors ps) (on_roots : AllByRecursion (IsOnRoots ps) ps)
+    (exits_apart : AreApart bytes_eq (all_exits ps)) (apart : AllByRecursion IsApartFromGuarantors ps) (on_ledgers : AreOnLedgers ps [] ps)
     (backed : AllByRecursion (IsBacked (counting_among r past front fs)) ps) where
   abbrev C : List Counting
   C = counting_among r past front fs
@@ -249,15 +250,24 @@ module _ (r : Rules) (me : List ℕ) (ps : List Part) (past later : List Entry) 
       go false e (inl g) = gone (moving l d) g nothing
       go false e (inr o) = absurd (false≢true (sym e ∙ subst (λ (x : Option (List AssetOutcome)). has (items_ended x a) d ≡ true) (sym o.1) o.2))
 
-  part_missing : (p : Part) → Runs (missing E me ps exits_apart p) []
-  part_missing (Root x) = nothing
-  part_missing (OnLedger l x) = one_missing l (Channel x)
-  part_missing (End v) = one_missing _ (Channel (own_guarantor v))
-  part_missing (Middle v) = follows-append Gone For _ _ [] [] (one_missing v.ledger_a (Channel v.guarantor_a)) (one_missing v.ledger_b (Channel v.guarantor_b))
+  missing_there : (m l : List ℕ) (d : Dest) → Runs (missing_on E me ps exits_apart m l d) []
+  missing_there m l d = go (bytes_eq m l)
+    where
+      go : (t : Bool) → Runs (cond t (missing_one E me ps exits_apart l d) []) []
+      go true = one_missing l d
+      go false = nothing
 
-  parts_missing : (qs : List Part) → Runs (all_missing E me ps exits_apart qs) []
-  parts_missing [] = nothing
-  parts_missing (q ∷ qs) = follows-append Gone For (missing E me ps exits_apart q) (all_missing E me ps exits_apart qs) [] [] (part_missing q) (parts_missing qs)
+  part_missing : (l : List ℕ) (p : Part) → Runs (missing E me ps exits_apart l p) []
+  part_missing l (Root x) = nothing
+  part_missing l (OnLedger m x) = missing_there m l (Channel x)
+  part_missing l (End v) = missing_there _ l (Channel (own_guarantor v))
+  part_missing l (Middle v) =
+      follows-append Gone For _ _ [] [] (missing_there v.ledger_a l (Channel v.guarantor_a)) (missing_there v.ledger_b l (Channel v.guarantor_b))
+
+  parts_missing : (qs : List Part) (l : List ℕ) → Runs (all_missing E me ps exits_apart qs l) []
+  parts_missing [] l = nothing
+  parts_missing (q ∷ qs) l =
+      follows-append Gone For (missing E me ps exits_apart l q) (all_missing E me ps exits_apart qs l) [] [] (part_missing l q) (parts_missing qs l)
 
   -- ---- the lists of the guarantors
 
@@ -289,14 +299,20 @@ module _ (r : Rules) (me : List ℕ) (ps : List Part) (past later : List Entry) 
   -- ---- the run
 
   abbrev edges : List Edge
-  edges = wanted E me ps exits_apart ++ other_edges me ps
+  edges = roots E me ps exits_apart ++ other_edges (onward E me ps exits_apart) me ps
 
   follows : Runs edges (exit_calls (ended r past) me ps)
-  follows = list-run (ended r past) a Backs Gone classify me ps (all_missing E me ps exits_apart ps) (fits ps sound.guarantors apart) (parts_missing ps)
+  follows = list-run (ended r past) a Backs Gone classify (more E me ps exits_apart) (all-from E me ps exits_apart ps) (parts_missing ps) me ps (fits ps sound.guarantors apart)
+
+  end_apart : (qs : List Part) → AllByRecursion IsApartFromGuarantors qs → (v : Virtual) → In (End v) qs → IsApartFromGuarantors (End v)
+  end_apart [] h v i = absurd i
+  end_apart (q ∷ qs) h v (inl e) = subst (λ (p : Part). IsApartFromGuarantors p) (sym e) h.0
+  end_apart (q ∷ qs) h v (inr i) = end_apart qs h.1 v i
 
   pub paid-share : Stand (reverse (exit_calls (ended r past) me ps)) later → paid [] + worth (B []) me ps no_reach ≤ paid later
   paid-share stood =
-      exit_pays me ps edges (list-is-exit me ps exits_apart (wanted E me ps exits_apart) (supplies E me ps exits_apart on_roots)) (B []) (B later) (paid []) (paid later)
+      exit_pays me ps edges
+      (list-is-exit me ps exits_apart (onward E me ps exits_apart) (roots E me ps exits_apart) (supplies E me ps exits_apart (end_apart ps apart) on_ledgers)) (B []) (B later) (paid []) (paid later)
       (all_listed ps sound.guarantors backed)
       (subst (λ (xs : List Edge). Run me ps xs (B []) (paid []) (B later) (paid later)) (onto-twice edges)
       (stands-run me ps B paid For Ok (λ e l ok. ok-older r front e (l ++ past) ok) (λ e l ok. steps-at r me ps past front fs a seen start sound e l ok) answered (B later) (paid later)
@@ -320,7 +336,7 @@ exits_pay r me orders h journal legal tell = record { pays = λ past later front
         (paid-share r me (plan orders front) past later front fs asset legal' tell' (legal_older r later past legal') place.before start
         (subst (λ (xs : List Counting). IsSound me (plan orders front) xs) (sym same) can.sound)
         (λ n c. can.final n (subst (λ (xs : List Counting). counts_in xs n ≡ true) same c))
-        can.apart can.channels can.on_roots
+        can.apart can.channels can.on_ledgers
         (subst (λ (xs : List Counting). AllByRecursion (IsBacked xs) (plan orders front)) (sym same) can.backed) stood)))
       where
         legal' : Legal r (later ++ past)

@@ -1,5 +1,5 @@
 -- The exit pays the share: once its calls stand in a history, whatever else does and whatever they were answered.
-use Rattle.std.specs.Prelude.{◌≡◌, ℕ, ◌≤◌, true, false, List, [], ◌++◌, reverse, None}
+use Rattle.std.specs.Prelude.{◌≡◌, ℕ, ◌≤◌, true, false, List, [], ◌∷◌, ◌++◌, ◌⊎◌, reverse, None}
 use Rattle.std.specs.List.{AllByRecursion, flat_map}
 use Rattle.std.specs.Str.{bytes_eq}
 use Rattle.channel_model.specs.Rules.{Rules}
@@ -9,22 +9,31 @@ use Rattle.channel_calls.specs.declared.entry.Entry.{Entry}
 use Rattle.net_model.specs.Journals.{In, Line}
 use Rattle.funding_value.specs.declared.plan.Part.{Part}
 use Rattle.funding_value.specs.declared.plan.Part.TheVariants.{Root, OnLedger, End, Middle}
+use Rattle.funding_value.specs.declared.plan.Virtual.{Virtual}
 use Rattle.share_model.specs.Books.{Counting, outcome_in, counts_in}
 use Rattle.funding_value.specs.Parts.{own_ledger, own_guarantor}
 use Rattle.share_model.specs.Places.{Order, plan, counting, share, IsPlace}
-use Rattle.net_model.specs.Premises.{NoCollision}
+use Rattle.net_model.specs.Occurring.{NoCollision}
 use Rattle.nitro_bytes.specs.Outcomes.{AreApart}
 use Rattle.share_laws.specs.Sound.{IsSound}
 use Rattle.exit_script.specs.Calls.{exits, exit_calls}
 use Rattle.exit_laws.specs.Endings.{ended, AreFinal, Stand}
 use Rattle.funding_value.specs.Shapes.{items_in}
 
--- the ledgers of a part are roots of the plan
-abbrev pub IsOnRoots : List Part → Part → Type 0
-IsOnRoots parts (Root c) = Unit {0}
-IsOnRoots parts (OnLedger l c) = In (Root l) parts
-IsOnRoots parts (End v) = In (Root (own_ledger v)) parts
-IsOnRoots parts (Middle v) = In (Root v.ledger_a) parts × In (Root v.ledger_b) parts
+-- a ledger is a root of the plan, or the channel of an end among the parts before
+abbrev pub IsLedger : (parts before : List Part) → List ℕ → Type 0
+IsLedger parts before l = In (Root l) parts ⊎ ((v : Virtual) × In (End v) before × (v.channel ≡ l))
+
+abbrev pub IsOnLedgers : (parts before : List Part) → Part → Type 0
+IsOnLedgers parts before (Root c) = Unit {0}
+IsOnLedgers parts before (OnLedger l c) = IsLedger parts before l
+IsOnLedgers parts before (End v) = IsLedger parts before (own_ledger v)
+IsOnLedgers parts before (Middle v) = IsLedger parts before v.ledger_a × IsLedger parts before v.ledger_b
+
+-- these parts, which come after those, stand on such ledgers
+abbrev pub AreOnLedgers : (parts before : List Part) → List Part → Type 0
+AreOnLedgers parts before [] = Unit {0}
+AreOnLedgers parts before (p ∷ ps) = IsOnLedgers parts before p × AreOnLedgers parts (p ∷ before) ps
 
 -- a virtual channel isn't a guarantor of its own
 abbrev pub IsApartFromGuarantors : Part → Type 0
@@ -47,12 +56,13 @@ IsBacked counting (End v) = IsBackedBy counting (own_guarantor v) v.joint
 IsBacked counting (Middle v) = IsBackedBy counting v.guarantor_a v.joint × IsBackedBy counting v.guarantor_b v.joint
 
 -- What a plan keeps so that its person can leave at a place: it is sound, no channel pays in two parts' exits, each
--- ledger is a root, items of a joint channel are guaranteed, and each channel that counts is final.
+-- ledger is a root or the channel of an end before, items of a joint channel are guaranteed, and each channel that counts
+-- is final.
 pub record CanExit (r : Rules) (me : List ℕ) (orders : ℕ → Order) (past : List Entry) (front : List Line) : Type 0 where
   pub sound : IsSound me (plan orders front) (counting r past front)
   pub apart : AreApart bytes_eq (flat_map exits (plan orders front))
   pub channels : AllByRecursion IsApartFromGuarantors (plan orders front)
-  pub on_roots : AllByRecursion (IsOnRoots (plan orders front)) (plan orders front)
+  pub on_ledgers : AreOnLedgers (plan orders front) [] (plan orders front)
   pub backed : AllByRecursion (IsBacked (counting r past front)) (plan orders front)
   pub final : AreFinal r past front
 

@@ -9,7 +9,8 @@ use Rattle.channel_calls.specs.History.{Legal, paid_to}
 use Rattle.channel_calls.specs.declared.entry.Entry.{Entry}
 use Rattle.net_model.specs.Journals.{In, Line, made_in}
 use Rattle.net_model.specs.Honest.{Honest}
-use Rattle.net_model.specs.Premises.{Unforged, NoCollision, AreValid, InTime}
+use Rattle.net_model.specs.Premises.{Unforged, InTime}
+use Rattle.net_model.specs.Occurring.{NoCollision, AreValid}
 use Rattle.funding_value.specs.declared.plan.Part.{Part}
 use Rattle.funding_value.specs.declared.plan.Part.TheVariants.{Root, OnLedger, End, Middle}
 use Rattle.funding_value.specs.Parts.{own_guarantor}

@@ -3,7 +3,7 @@
 ghost use Rattle.std.specs.Prelude.{◌≡◌, ◌≤◌, ◌+◌, ◌*◌, ◌++◌, length, OnOk, IfOk};
 ghost use Rattle.std.specs.List.{flat_map};
 ghost use Rattle.funding_value.specs.Parts.{channels, channels_of, channels_of_virtual};
-ghost use Rattle.funding_value.specs.declared.plan.Part.TheVariants as parts;
+ghost use Rattle.funding_value.specs.declared.plan.Part.TheVariants as variants;
 ghost use Rattle.exit_script.specs.Calls as spelled;
 ghost use Rattle.exit_script.specs.Exits as exits;
 ghost use Rattle.exit_script.specs.Exits.{ended_in};
@@ -11,12 +11,29 @@ ghost use Rattle.exit_script.specs.Exits.{ended_in};
 use crate::assets::{assets_of, assets_of_part};
 use crate::claims::put_claim;
 use crate::fault::ExitFault;
-use crate::transfers::{put_root_transfers, put_transfer};
+use crate::transfers::{put_transfer, put_transfers};
 use crate::views::not_final;
 use channel_calls::{Call, HeldChain, WorldView};
 use funding_value::{Part, Plan, Virtual};
 use nitro_bytes::{Dest, Name, NoMemory};
 use std::alloc::Global;
+
+// ---- virtual ledgers
+
+/// Whether a part stands on the channel.
+fn is_ledger(parts: &[Part], name: &Name) -> bool
+    ensures { result ≡ spelled.is_ledger parts.now name.now }
+{
+    parts.iter().any(|part| part.stands_on(name))
+}
+
+/// The channels to which the channel of an end passes on what it is paid, where these are the names of the plan's.
+fn passed_to<'a>(parts: &[Part], names: &'a [Name], name: &Name) -> &'a [Name]
+    requires { names.now ≡ channels parts.now }
+    ensures { result.now ≡ spelled.passed_to parts.now name.now }
+{
+    if is_ledger(parts, name) { names } else { &[] }
+}
 
 // ---- the calls of a part, of one asset
 
@@ -24,34 +41,39 @@ fn put_end_calls(
     calls: &mut Vec<Call>,
     world: &WorldView,
     me: &Name,
+    parts: &[Part],
+    names: &[Name],
     v: &Virtual,
     asset: u32,
 ) -> Result<(), NoMemory>
-    ensures value { OnOk result (calls.new.items ≡ calls.old.items ++ spelled.other_calls (ended_in world.entry.now) me.now (parts.End v.now) asset) }
-    ensures few { OnOk result (length calls.new.items ≤ length calls.old.items + 3) }
+    requires { names.now ≡ channels parts.now }
+    ensures value { OnOk result (calls.new.items ≡ calls.old.items ++ spelled.other_calls (ended_in world.entry.now) me.now parts.now (variants.End v.now) asset) }
+    ensures few { OnOk result (length calls.new.items ≤ length calls.old.items + 19) }
 {
     let guarantor = v.own_guarantor();
     let own = Dest::Person(*me);
-    put_claim(
+    let virtual_channel = Dest::Channel(v.channel);
+    put_claim(calls, world, &guarantor, &v.joint, &virtual_channel, asset)?;
+    put_claim(calls, world, &guarantor, &v.joint, &own, asset)?;
+    put_transfers(
         calls,
         world,
-        &guarantor,
-        &v.joint,
-        &Dest::Channel(v.channel),
+        me,
+        passed_to(parts, names, &v.channel),
+        &v.channel,
         asset,
-    )?;
-    put_claim(calls, world, &guarantor, &v.joint, &own, asset)?;
-    put_transfer(calls, world, &v.channel, &own, asset)
+    )
 }
 
 fn put_middle_calls(
     calls: &mut Vec<Call>,
     world: &WorldView,
     me: &Name,
+    parts: &[Part],
     v: &Virtual,
     asset: u32,
 ) -> Result<(), NoMemory>
-    ensures value { OnOk result (calls.new.items ≡ calls.old.items ++ spelled.other_calls (ended_in world.entry.now) me.now (parts.Middle v.now) asset) }
+    ensures value { OnOk result (calls.new.items ≡ calls.old.items ++ spelled.other_calls (ended_in world.entry.now) me.now parts.now (variants.Middle v.now) asset) }
     ensures few { OnOk result (length calls.new.items ≤ length calls.old.items + 4) }
 {
     let channel = Dest::Channel(v.channel);
@@ -66,19 +88,22 @@ fn put_other_calls(
     calls: &mut Vec<Call>,
     world: &WorldView,
     me: &Name,
+    parts: &[Part],
+    names: &[Name],
     part: &Part,
     asset: u32,
 ) -> Result<(), NoMemory>
-    ensures value { OnOk result (calls.new.items ≡ calls.old.items ++ spelled.other_calls (ended_in world.entry.now) me.now part.now asset) }
-    ensures few { OnOk result (length calls.new.items ≤ length calls.old.items + 4) }
+    requires { names.now ≡ channels parts.now }
+    ensures value { OnOk result (calls.new.items ≡ calls.old.items ++ spelled.other_calls (ended_in world.entry.now) me.now parts.now part.now asset) }
+    ensures few { OnOk result (length calls.new.items ≤ length calls.old.items + 19) }
 {
     match part {
         Part::Root(_) => Ok(()),
         Part::OnLedger(_, channel) => {
             put_transfer(calls, world, channel, &Dest::Person(*me), asset)
         }
-        Part::End(v) => put_end_calls(calls, world, me, v, asset),
-        Part::Middle(v) => put_middle_calls(calls, world, me, v, asset),
+        Part::End(v) => put_end_calls(calls, world, me, parts, names, v, asset),
+        Part::Middle(v) => put_middle_calls(calls, world, me, parts, v, asset),
     }
 }
 
@@ -92,11 +117,11 @@ fn put_root_of(
     root: &Name,
     assets: &[u32],
 ) -> Result<(), NoMemory>
-    ensures value { OnOk result (calls.new.items ≡ calls.old.items ++ flat_map (spelled.root_calls (ended_in world.entry.now) me.now names.now (parts.Root root.now)) assets.now) }
+    ensures value { OnOk result (calls.new.items ≡ calls.old.items ++ flat_map (spelled.root_calls (ended_in world.entry.now) me.now names.now (variants.Root root.now)) assets.now) }
     ensures few { OnOk result (length calls.new.items ≤ length calls.old.items + 17 * length assets.now) }
 {
     for asset in assets {
-        put_root_transfers(calls, world, me, names, root, *asset)?;
+        put_transfers(calls, world, me, names, root, *asset)?;
     }
     Ok(())
 }
@@ -105,14 +130,17 @@ fn put_other_of(
     calls: &mut Vec<Call>,
     world: &WorldView,
     me: &Name,
+    parts: &[Part],
+    names: &[Name],
     part: &Part,
     assets: &[u32],
 ) -> Result<(), NoMemory>
-    ensures value { OnOk result (calls.new.items ≡ calls.old.items ++ flat_map (spelled.other_calls (ended_in world.entry.now) me.now part.now) assets.now) }
-    ensures few { OnOk result (length calls.new.items ≤ length calls.old.items + 4 * length assets.now) }
+    requires { names.now ≡ channels parts.now }
+    ensures value { OnOk result (calls.new.items ≡ calls.old.items ++ flat_map (spelled.other_calls (ended_in world.entry.now) me.now parts.now part.now) assets.now) }
+    ensures few { OnOk result (length calls.new.items ≤ length calls.old.items + 19 * length assets.now) }
 {
     for asset in assets {
-        put_other_calls(calls, world, me, part, *asset)?;
+        put_other_calls(calls, world, me, parts, names, part, *asset)?;
     }
     Ok(())
 }
@@ -144,13 +172,16 @@ fn put_other(
     alloc: Global,
     world: &WorldView,
     me: &Name,
+    parts: &[Part],
+    names: &[Name],
     part: &Part,
 ) -> Result<(), NoMemory>
-    ensures value { OnOk result (calls.new.items ≡ calls.old.items ++ spelled.of_each (ended_in world.entry.now) (spelled.other_calls (ended_in world.entry.now) me.now) part.now) }
-    ensures few { OnOk result (length calls.new.items ≤ length calls.old.items + 32) }
+    requires { names.now ≡ channels parts.now }
+    ensures value { OnOk result (calls.new.items ≡ calls.old.items ++ spelled.of_each (ended_in world.entry.now) (spelled.other_calls (ended_in world.entry.now) me.now parts.now) part.now) }
+    ensures few { OnOk result (length calls.new.items ≤ length calls.old.items + 152) }
 {
     let assets = assets_of_part(alloc, world, part)?;
-    put_other_of(calls, world, me, part, &assets)
+    put_other_of(calls, world, me, parts, names, part, &assets)
 }
 
 fn put_all_roots(
@@ -175,13 +206,15 @@ fn put_all_others(
     alloc: Global,
     world: &WorldView,
     me: &Name,
+    names: &[Name],
     parts: &[Part],
 ) -> Result<(), NoMemory>
-    ensures value { OnOk result (calls.new.items ≡ calls.old.items ++ flat_map (spelled.of_each (ended_in world.entry.now) (spelled.other_calls (ended_in world.entry.now) me.now)) parts.now) }
-    ensures few { OnOk result (length calls.new.items ≤ length calls.old.items + 32 * length parts.now) }
+    requires { names.now ≡ channels parts.now }
+    ensures value { OnOk result (calls.new.items ≡ calls.old.items ++ flat_map (spelled.of_each (ended_in world.entry.now) (spelled.other_calls (ended_in world.entry.now) me.now parts.now)) parts.now) }
+    ensures few { OnOk result (length calls.new.items ≤ length calls.old.items + 152 * length parts.now) }
 {
     for part in parts {
-        put_other(calls, alloc, world, me, part)?;
+        put_other(calls, alloc, world, me, parts, names, part)?;
     }
     Ok(())
 }
@@ -232,12 +265,12 @@ fn all_calls(
     parts: &[Part],
 ) -> Result<Vec<Call>, NoMemory>
     ensures value { IfOk result (λ v. v.items ≡ spelled.exit_calls (ended_in world.entry.now) me.now parts.now) }
-    ensures few { IfOk result (λ v. length v.items ≤ 100 * length parts.now) }
+    ensures few { IfOk result (λ v. length v.items ≤ 220 * length parts.now) }
 {
     let names = names_of(alloc, parts)?;
     let mut calls = Vec::new(alloc);
     put_all_roots(&mut calls, alloc, world, me, &names, parts)?;
-    put_all_others(&mut calls, alloc, world, me, parts)?;
+    put_all_others(&mut calls, alloc, world, me, &names, parts)?;
     Ok(calls)
 }
 
@@ -281,7 +314,7 @@ fn first_not_final(world: &WorldView, chains: &[HeldChain], parts: &[Part]) -> O
     }
 }
 
-/// The calls of an exit, at most a hundred of each part, or the first channel of the plan that has a held chain and isn't
+/// The calls of an exit, at most 220 of each part, or the first channel of the plan that has a held chain and isn't
 /// final.
 pub fn exit_calls(
     alloc: Global,
@@ -290,7 +323,7 @@ pub fn exit_calls(
     chains: &[HeldChain],
 ) -> Result<Vec<Call>, ExitFault>
     ensures value { exits.Exits (λ v. v.items) result plan.now view.entry.now chains.now }
-    ensures few { IfOk result (λ v. length v.items ≤ 100 * length plan.now.parts) }
+    ensures few { IfOk result (λ v. length v.items ≤ 220 * length plan.now.parts) }
 {
     if let Some(name) = first_not_final(view, chains, plan.parts.as_slice()) {
         return Err(ExitFault::NotFinal(name));

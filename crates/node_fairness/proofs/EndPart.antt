@@ -37,13 +37,14 @@ use Rattle.outcome_targets.specs.declared.child.Child.{Child}
 use Rattle.outcome_targets.specs.declared.terms.Terms.{Terms}
 use Rattle.plan_stages.specs.Asked.{wanted_of}
 use Rattle.share_model.specs.Funded.{up_to}
-use Rattle.share_model.specs.Places.{Order, listed, proposed, plan, outcomes_of}
+use Rattle.share_model.specs.Books.{outcome_in}
+use Rattle.share_model.specs.Places.{Order, listed, proposed, plan, counting, outcomes_of}
 use Rattle.signing_laws.proofs.Fits.{together_fits}
 use Rattle.signing_laws.specs.Fairly.{Wants}
 use Rattle.signing_laws.specs.Moves.{IsApart, IsTogether}
 use Rattle.signing_laws.specs.Settled.{EndsWith, ChildHas, InFull, Has, MayJoin}
 use Rattle.signing_laws.specs.Signatures.{IsOwn}
-use Rattle.signing_laws.specs.Wanted.{IsTarget}
+use Rattle.signing_laws.specs.Wanted.{IsTarget, LendsNothing}
 use Rattle.signing_laws.specs.Wanted as wanted
 use Rattle.stage_rules.specs.Gathered.{goal_in}
 use Rattle.stage_rules.specs.Rows as rows
@@ -53,6 +54,8 @@ use Rattle.virtual_channel.specs.Ends as ends
 use Rattle.virtual_channel.specs.Ends.{End, end_rows}
 use Rattle.virtual_channel.specs.Stages.{stage_of_end, wanted_of_end}
 use Rattle.wish_laws.proofs.Finding.{asked-there, flips, or-left}
+use Rattle.node_fairness.proofs.PlanPlans.{plans_are_whole}
+use Rattle.node_fairness.proofs.PlanRoots.{root-bare}
 use Rattle.node_fairness.proofs.PlanNames.{in-among}
 use Rattle.node_fairness.proofs.SeatPast.{several, two-people}
 use Rattle.node_fairness.proofs.Apps.{no-payments}
@@ -375,6 +378,12 @@ module _ (s : Signing) (h : List Entry) (journal : List Told) (fair : IsFair s h
       },
     )
 
+    -- no part stands on its channel
+    lends-nothing : LendsNothing real orders past lines t.asset v.channel
+    lends-nothing taken =
+        let w = plans_are_whole s h journal past front fair.nodes at.front_is in
+        root-bare (plan orders lines) w.on_roots w.whole.apart (parts.End v) in-plan tt (items_in t.asset (outcome_in (counting real past lines) taken v.channel))
+
     j-base : (top : StateParts) → p.joint.top ≡ Some top → Based s.key orders past lines e.joint.fixed (apart t g.amounts) p.joint j-sits top
     j-base top is = based s.key orders past lines e.joint.fixed (apart t g.amounts) p.joint j-sits (no-payments e.joint.fixed e.joint.app) top is
 
@@ -421,7 +430,7 @@ module _ (s : Signing) (h : List Entry) (journal : List Told) (fair : IsFair s h
         target : IsTarget real me orders past lines e.joint.fixed (apart t g.amounts) (together t)
         target = record {
           asset = t.asset;
-          moves = wanted.together (parts.End v) in-plan (may g.amounts e.joint.sum (opened-so set young) (full up (inl (stays, young)) set));
+          moves = wanted.together (parts.End v) in-plan lends-nothing (may g.amounts e.joint.sum (opened-so set young) (full up (inl (stays, young)) set));
           list = together-list t ∙ sym (apart-list t g.amounts);
           others = λ a other. same-others t g.amounts a other;
         }
@@ -472,7 +481,7 @@ module _ (s : Signing) (h : List Entry) (journal : List Told) (fair : IsFair s h
         target : IsTarget real me orders past lines e.joint.fixed (together t) (apart t ab)
         target = record {
           asset = t.asset;
-          moves = wanted.apart (parts.End v) in-plan (may ab sh.sum has (full (keeps.past (inl closing)) (inr (closing, falls)) set));
+          moves = wanted.apart (parts.End v) in-plan lends-nothing (may ab sh.sum has (full (keeps.past (inl closing)) (inr (closing, falls)) set));
           list = apart-list t ab ∙ sym (together-list t);
           others = λ a other. sym (same-others t ab a other);
         }

@@ -30,12 +30,13 @@ use Rattle.outcome_targets.specs.Targets.{apart, together, guarantee}
 use Rattle.outcome_targets.specs.declared.child.Child.{Child}
 use Rattle.outcome_targets.specs.declared.terms.Terms.{Terms}
 use Rattle.plan_stages.specs.Asked.{wanted_of}
-use Rattle.share_model.specs.Places.{Order, plan, outcomes_of}
+use Rattle.share_model.specs.Books.{outcome_in}
+use Rattle.share_model.specs.Places.{Order, plan, counting, outcomes_of}
 use Rattle.signing_laws.specs.Fairly.{Wants}
 use Rattle.signing_laws.specs.Moves.{SetsAside, PaysApart, PaysTogether}
 use Rattle.signing_laws.specs.Settled.{EndsWith, Between, InFull, Has, MayJoin}
 use Rattle.signing_laws.specs.Signatures.{IsOwn}
-use Rattle.signing_laws.specs.Wanted.{IsTarget}
+use Rattle.signing_laws.specs.Wanted.{IsTarget, LendsNothing}
 use Rattle.signing_laws.specs.Wanted as wanted
 use Rattle.stage_rules.specs.Gathered.{goal_in}
 use Rattle.stage_rules.specs.Rows as rows
@@ -47,6 +48,8 @@ use Rattle.virtual_channel.specs.Middles.{Middle, middle_rows, back_to}
 use Rattle.virtual_channel.specs.Stages.{stage_of_middle, wanted_of_middle}
 use Rattle.wish_laws.proofs.Finding.{asked-there, or-left}
 use Rattle.wish_laws.specs.Carried.{OpensWith}
+use Rattle.node_fairness.proofs.PlanPlans.{plans_are_whole}
+use Rattle.node_fairness.proofs.PlanRoots.{root-bare}
 use Rattle.node_fairness.proofs.PlanNames.{in-among}
 use Rattle.node_fairness.proofs.SeatPast.{several}
 use Rattle.node_fairness.proofs.Apps.{no-payments}
@@ -343,6 +346,12 @@ module _ (s : Signing) (h : List Entry) (journal : List Told) (fair : IsFair s h
 
     -- ---- the joint channel
 
+    -- no part stands on its channel
+    lends-nothing : LendsNothing real orders past lines t.asset v.channel
+    lends-nothing taken =
+        let w = plans_are_whole s h journal past front fair.nodes at.front_is in
+        root-bare (plan orders lines) w.on_roots w.whole.apart (parts.Middle v) in-plan tt (items_in t.asset (outcome_in (counting real past lines) taken v.channel))
+
     j-base : (top : StateParts) → p.joint.top ≡ Some top → Based s.key orders past lines e.joint.fixed (apart t g.amounts) p.joint j-sits top
     j-base top is = based s.key orders past lines e.joint.fixed (apart t g.amounts) p.joint j-sits (no-payments e.joint.fixed e.joint.app) top is
 
@@ -384,7 +393,7 @@ module _ (s : Signing) (h : List Entry) (journal : List Told) (fair : IsFair s h
         target : IsTarget real me orders past lines e.joint.fixed (apart t g.amounts) (together t)
         target = record {
           asset = t.asset;
-          moves = wanted.together (parts.Middle v) in-plan (may set late (inl (stays, unsettled)) g.amounts e.joint.sum);
+          moves = wanted.together (parts.Middle v) in-plan lends-nothing (may set late (inl (stays, unsettled)) g.amounts e.joint.sum);
           list = together-list t ∙ sym (apart-list t g.amounts);
           others = λ a other. same-others t g.amounts a other;
         }
@@ -413,7 +422,7 @@ module _ (s : Signing) (h : List Entry) (journal : List Told) (fair : IsFair s h
         target : IsTarget real me orders past lines e.joint.fixed (together t) (apart t ab)
         target = record {
           asset = t.asset;
-          moves = wanted.apart (parts.Middle v) in-plan
+          moves = wanted.apart (parts.Middle v) in-plan lends-nothing
               (may (keeps.set_up (inl closing)) (keeps.past (inl closing)) (inr (closing, ap (λ (z : Bool). p.closing && z) unsettled ∙ ap (λ (z : Bool). z && false) closing)) ab (sum ∙ e.joint.total));
           list = apart-list t ab ∙ sym (together-list t);
           others = λ a other. sym (same-others t ab a other);

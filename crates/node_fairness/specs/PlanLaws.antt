@@ -1,5 +1,5 @@
 -- What the parts of a node's plan are at each place of its journal.
-use Rattle.std.specs.Prelude.{◌≡◌, ℕ, List, Some}
+use Rattle.std.specs.Prelude.{◌≡◌, ℕ, List, [], Some}
 use Rattle.std.specs.Str.{bytes_eq}
 use Rattle.nitro_bytes.specs.Outcomes.{AreApart}
 use Rattle.channel_calls.specs.declared.entry.Entry.{Entry}
@@ -19,6 +19,7 @@ use Rattle.signing_laws.specs.Plans.{IsPlan}
 use Rattle.stage_rules.specs.Gathered.{goal_in}
 use Rattle.support_chain.specs.Real.{real}
 use Rattle.node_fairness.specs.PlanParts.{PartIs}
+use Rattle.node_fairness.specs.PlanRoots.{AllOnRoots}
 use Rattle.node_fairness.specs.PlanSettings.{IsNodes}
 
 -- the goal of a part, and what the part is
@@ -37,6 +38,7 @@ PartsAreKnown =
 -- payment channel.
 pub record PlanIs (s : Signing) (orders : ℕ → Order) (front : List Told) : Type 0 where
   pub whole : IsPlan (plan orders (lines_of s.key front))
+  pub on_roots : AllOnRoots [] (plan orders (lines_of s.key front))
   pub channels_differ : AreApart bytes_eq (names real (channels (lines_of s.key front)))
   pub rests : RestsOnNoPayments real orders (lines_of s.key front)
 

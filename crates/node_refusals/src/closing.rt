@@ -37,8 +37,8 @@ fn standing_among(facts: &Facts, ledger: &Name, parts: &[Part]) -> Option<NodeRe
 }
 
 /// What holds of every part.
-fn close_refusal(known: &Known, channel: &Name, part: &Part) -> Option<NodeRefusal>
-    ensures { result ≡ refusing.close_part stages known.now channel.now (Some part.now) }
+fn close_refusal(known: &Known, part: &Part) -> Option<NodeRefusal>
+    ensures { result ≡ refusing.close_part stages known.now (Some part.now) }
 {
     let facts = known.facts();
     if let Some(refusal) = not_open(&facts) {
@@ -53,15 +53,15 @@ fn close_refusal(known: &Known, channel: &Name, part: &Part) -> Option<NodeRefus
     if let Some(refusal) = not_running(&facts, Some(part)) {
         return Some(refusal);
     }
-    standing_among(&facts, channel, known.parts())
+    standing_among(&facts, &part.own_channel(), known.parts())
 }
 
 /// Why the part that has a channel isn't closed.
 pub(crate) fn close_part(known: &Known, channel: &Name) -> Option<NodeRefusal>
-    ensures { result ≡ refusing.close_part stages known.now channel.now (refusing.part_with channel.now known.now.parts) }
+    ensures { result ≡ refusing.close_part stages known.now (refusing.part_with channel.now known.now.parts) }
 {
     match part_with(channel, known.parts()) {
         None => Some(NodeRefusal::UnknownChannel),
-        Some(part) => close_refusal(known, channel, part),
+        Some(part) => close_refusal(known, part),
     }
 }

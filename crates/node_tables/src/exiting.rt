@@ -1,7 +1,7 @@
 //! The calls of an exit, and when they are given.
 
 ghost use Rattle.std.specs.Prelude.{◌≡◌, ◌≤◌, ◌*◌, length, IfOk};
-ghost use Rattle.node_tables.specs.Exiting.{exits_given};
+ghost use Rattle.node_model.specs.Leaving.{exits_given};
 ghost use Rattle.node_tables.specs.Stages.{stages};
 
 use channel_calls::Call;
@@ -10,10 +10,10 @@ use funding_value::Facts;
 use nitro_bytes::NoMemory;
 use std::alloc::Global;
 
-/// The calls of an exit, at most a hundred of each part: none while a channel with a held chain isn't final.
+/// The calls of an exit, at most 220 of each part: none while a channel with a held chain isn't final.
 pub fn exits(alloc: Global, facts: &Facts) -> Result<Vec<Call>, NoMemory>
     ensures value { IfOk result (λ v. v.items ≡ stages.exits facts.now) }
-    ensures few { IfOk result (λ v. length v.items ≤ 100 * length facts.now.plan.parts) }
+    ensures few { IfOk result (λ v. length v.items ≤ 220 * length facts.now.plan.parts) }
 {
     match exit_calls(alloc, facts.plan, facts.view, facts.chains) {
         Ok(calls) => Ok(calls),
@@ -31,8 +31,8 @@ pub fn is_owed(alloc: Global, facts: &Facts) -> Result<bool, NoMemory>
 
 /// The calls of an exit where none were given before, and later where it is still owed.
 pub fn exit_calls_given(alloc: Global, facts: &Facts, gave: bool) -> Result<Vec<Call>, NoMemory>
-    ensures value { IfOk result (λ v. v.items ≡ exits_given facts.now gave) }
-    ensures few { IfOk result (λ v. length v.items ≤ 100 * length facts.now.plan.parts) }
+    ensures value { IfOk result (λ v. v.items ≡ exits_given stages gave facts.now) }
+    ensures few { IfOk result (λ v. length v.items ≤ 220 * length facts.now.plan.parts) }
 {
     if !gave || is_owed(alloc, facts)? {
         exits(alloc, facts)

@@ -62,7 +62,7 @@ no_more : (o : List AssetOutcome) → (o ∷ []) ≡ [] → ⊥
 no_more o e = cc
 
 whole-plan : IsPlan (Root name ∷ [])
-whole-plan = record { apart = (refl, tt); on_roots = (tt, tt) }
+whole-plan = record { apart = (refl, tt); on_ledgers = (tt, tt) }
 
 fair_0 : SignsFairly rules a orders [] (signs 0 0) after_0
 unfolding supports last_turn message_of_state fixed outcome app_fault message signed state message_at signed_at state_at turn_at flag_at outcome_at asset_at shape_at allocation_at item_at dest_at count_at many_at sized_at all_of

@@ -18,9 +18,9 @@ use Rattle.channel_calls.specs.declared.call.Op.{Op}
 use Rattle.channel_calls.specs.declared.call.Op.TheVariants as ops
 use Rattle.channel_calls.specs.declared.row.Row.{Row}
 use Rattle.channel_calls.specs.declared.entry.Entry.{Entry}
-use Rattle.net_model.specs.Held.{InTurn, InSteps}
+use Rattle.net_model.specs.Good.{InTurn, InSteps}
 use Rattle.net_model.specs.Journals.{Line}
-use Rattle.net_model.specs.Safety.{StepsAfter}
+use Rattle.net_model.specs.Steps.{StepsAfter}
 use Rattle.chain_laws.proofs.Tests.{cond-false, cond-true, and-left, some-eq, none-eq}
 use Rattle.chain_laws.proofs.Lists.{In-get, append_assoc', get-within, get-some, length-up}
 use Rattle.history_laws.proofs.Replies.{taken, conclude_ok, challenge_ok}

@@ -5,7 +5,7 @@ use Rattle.nitro_bytes.specs.declared.value.AssetOutcome.{AssetOutcome}
 use Rattle.channel_model.specs.Rules.{Rules}
 use Rattle.channel_calls.specs.declared.entry.Entry.{Entry}
 use Rattle.net_model.specs.Journals.{Line}
-use Rattle.net_model.specs.Premises.{OccursFixed, OccursState, OccursOutcome, in_call, in_line, NoCollision}
+use Rattle.net_model.specs.Occurring.{OccursFixed, OccursState, OccursOutcome, NoCollision, in_call, in_line}
 use Rattle.chain_laws.proofs.Lists.{In-append_right}
 
 pub fewer : (r : Rules) (later past : List Entry) (newer front : List Line) → NoCollision r (later ++ past) (newer ++ front) → NoCollision r past front

@@ -21,7 +21,8 @@ use Rattle.nitro_bytes.specs.declared.value.Dest.TheVariants.{Person}
 use Rattle.net_model.specs.Journals.{In, Line, opened, is_followed, made_in, is_watched}
 use Rattle.net_model.specs.Held.{held}
 use Rattle.net_model.specs.Honest.{Honest, HonestIn}
-use Rattle.net_model.specs.Premises.{Unforged, NoCollision, AreValid, InTime}
+use Rattle.net_model.specs.Premises.{Unforged, InTime}
+use Rattle.net_model.specs.Occurring.{NoCollision, AreValid}
 use Rattle.net_model.specs.Safety.{IsChannelOf, SettlesWell}
 use Rattle.share_model.specs.Places.{Order, plan, channels, listed, proposed, outcomes_of, possible_after, is_held, last_made, possible, IsPlace}
 use Rattle.share_model.specs.Bases.{all_bases, NoWorse}

@@ -23,7 +23,8 @@ use Rattle.channel_calls.proofs.Payouts.{shape_rest}
 use Rattle.net_model.specs.Journals.{made_in, In, Line, opened, is_watched}
 use Rattle.net_model.specs.Held.{held}
 use Rattle.net_model.specs.Honest.{Honest, HonestIn, HonestLine}
-use Rattle.net_model.specs.Premises.{Unforged, NoCollision, AreValid, InTime}
+use Rattle.net_model.specs.Premises.{Unforged, InTime}
+use Rattle.net_model.specs.Occurring.{NoCollision, AreValid}
 use Rattle.net_model.specs.Safety.{IsChannelOf, SettlesWell}
 use Rattle.share_model.specs.Books.{counts_in, outcome_in}
 use Rattle.share_model.specs.Places.{Order, other, channels, counting, outcomes_of, possible_after, is_held, last_made, possible, IsPlace}

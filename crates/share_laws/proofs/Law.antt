@@ -35,7 +35,7 @@ use Rattle.share_model.specs.Books.{outcome_in, counts_in, varying}
 use Rattle.share_model.specs.Share.{worth_under}
 use Rattle.share_model.specs.Places.{plan, possible, channels, counting, counting_among, balances}
 use Rattle.net_model.specs.Strings.{outcomes_in}
-use Rattle.net_model.specs.Premises.{NoCollision}
+use Rattle.net_model.specs.Occurring.{NoCollision}
 use Rattle.share_laws.specs.Laws.{moves_funds, AreSeen, FlowsKeepShares}
 use Rattle.share_laws.specs.Sound.{IsPromise, Guarantees}
 use Rattle.share_laws.proofs.Counted.{outcome-changed, counts-changed, varying-changed}

@@ -13,9 +13,10 @@ use Rattle.funding_value.specs.declared.plan.Part.{Part}
 use Rattle.funding_value.specs.declared.plan.Part.TheVariants.{Root, OnLedger, End, Middle}
 use Rattle.funding_value.specs.declared.plan.Virtual.{Virtual}
 use Rattle.share_model.proofs.Apart.{among-append, or-none, apart-once, apart-rest, apart-front}
-use Rattle.signing_laws.proofs.Counts.{or-left, or-right, part-apart, part-once}
-use Rattle.signing_laws.proofs.Funded.{ledger-root}
-use Rattle.signing_laws.specs.Plans.{AllStandOn, IsPlan, roots_after}
+use Rattle.share_model.proofs.Choices.{differ-flip}
+use Rattle.signing_laws.proofs.Counts.{or-left, or-right, part-apart}
+use Rattle.signing_laws.proofs.Funded.{ledger-off}
+use Rattle.signing_laws.specs.Plans.{AllStandOn, IsPlan, ledgers_after}
 use Rattle.share_laws.specs.Moved.{payers, all_payers}
 use Rattle.share_laws.specs.Sound.{IsApart}
 
@@ -91,25 +92,18 @@ plan-payers ps plan = subst (AreApart bytes_eq) (payers-flat ps) (picked-apart p
 
 -- ---- the channels of a part
 
-not-root : (v : Virtual) (l : List ℕ) → End v ≡ Root l → ⊥
-not-root v l e = cc
-
-joint-there : (v : Virtual) → is_among v.joint (channels_of (End v)) ≡ true
-joint-there v = third-of (bytes_eq v.joint v.guarantor_a) (bytes_eq v.joint v.guarantor_b) (bytes_eq v.joint v.joint) (bytes_eq v.joint v.channel)
-    (ap (λ (t : Bool). t || false) (bytes_eq_self v.joint))
+third-none : (r s t u : Bool) → (r || (s || (t || (u || false)))) ≡ false → t ≡ false
+third-none true s t u e = absurd (false≢true (sym e))
+third-none false true t u e = absurd (false≢true (sym e))
+third-none false false true u e = absurd (false≢true (sym e))
+third-none false false false u e = refl
 
 -- an end's ledger is the channel of another part
 joint-apart : (ps : List Part) → IsPlan ps → (v : Virtual) → In (End v) ps → bytes_eq v.joint (own_ledger v) ≡ false
-joint-apart ps plan v i = by_test (bytes_eq v.joint (own_ledger v)) refl
-  where
-    root : In (Root (own_ledger v)) ps
-    root = ledger-root ps plan (End v) i (own_ledger v) (ap (λ (t : Bool). t || false) (bytes_eq_self (own_ledger v)))
-
-    by_test : (t : Bool) → bytes_eq v.joint (own_ledger v) ≡ t → t ≡ false
-    by_test true e =
-        absurd (not-root v (own_ledger v)
-        (part-once ps plan.apart (End v) (Root (own_ledger v)) i root v.joint (joint-there v) (ap (λ (t : Bool). t || false) e)))
-    by_test false e = refl
+joint-apart ps plan v i =
+    differ-flip (own_ledger v) v.joint
+    (third-none (bytes_eq (own_ledger v) v.guarantor_a) (bytes_eq (own_ledger v) v.guarantor_b) (bytes_eq (own_ledger v) v.joint) (bytes_eq (own_ledger v) v.channel)
+    (ledger-off ps plan (End v) i (own_ledger v) (ap (λ (t : Bool). t || false) (bytes_eq_self (own_ledger v)))))
 
 pub plan-apart : (ps : List Part) → IsPlan ps → AllByRecursion IsApart ps
 plan-apart ps plan = all-are IsApart ps each
@@ -126,12 +120,12 @@ channels-append : (ps qs : List Part) → channels (ps ++ qs) ≡ channels ps ++
 channels-append [] qs = refl
 channels-append (p ∷ ps) qs = ap (λ (ns : List (List ℕ)). channels_of p ++ ns) (channels-append ps qs) ∙ sym (append_assoc (channels_of p) (channels ps) (channels qs))
 
-left-stand : (roots : List (List ℕ)) (ps qs : List Part) → AllStandOn roots (ps ++ qs) → AllStandOn roots ps
-left-stand roots [] qs on = tt
-left-stand roots (p ∷ ps) qs on = (on.0, left-stand (roots_after roots p) ps qs on.1)
+left-stand : (ledgers : List (List ℕ)) (ps qs : List Part) → AllStandOn ledgers (ps ++ qs) → AllStandOn ledgers ps
+left-stand ledgers [] qs on = tt
+left-stand ledgers (p ∷ ps) qs on = (on.0, left-stand (ledgers_after ledgers p) ps qs on.1)
 
 pub plan-front : (ps qs : List Part) → IsPlan (ps ++ qs) → IsPlan ps
 plan-front ps qs plan = record {
   apart = apart-front (channels ps) (channels qs) (subst (AreApart bytes_eq) (channels-append ps qs) plan.apart);
-  on_roots = left-stand [] ps qs plan.on_roots;
+  on_ledgers = left-stand [] ps qs plan.on_ledgers;
 }

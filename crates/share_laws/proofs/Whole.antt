@@ -9,7 +9,7 @@ use Rattle.channel_calls.specs.declared.entry.Entry.{Entry}
 use Rattle.net_model.specs.Journals.{In, Line, opened}
 use Rattle.share_model.specs.Places.{Order, channels, share, IsPlace}
 use Rattle.share_model.specs.Kept.{is_signing}
-use Rattle.net_model.specs.Premises.{NoCollision}
+use Rattle.net_model.specs.Occurring.{NoCollision}
 use Rattle.nitro_bytes.specs.Outcomes.{AreApart}
 use Rattle.share_laws.specs.Laws.{moves_funds}
 use Rattle.share_laws.specs.Turns.{names}

@@ -14,7 +14,8 @@ use Rattle.channel_calls.specs.History.{Legal}
 use Rattle.channel_calls.specs.declared.entry.Entry.{Entry}
 use Rattle.net_model.specs.Journals.{In, Line}
 use Rattle.net_model.specs.Honest.{Honest}
-use Rattle.net_model.specs.Premises.{Unforged, NoCollision, AreValid, InTime}
+use Rattle.net_model.specs.Premises.{Unforged, InTime}
+use Rattle.net_model.specs.Occurring.{NoCollision, AreValid}
 use Rattle.share_model.specs.Places.{Order, plan, channels, counting, outcomes_of, IsPlace}
 use Rattle.share_model.specs.Kept.{SharesAreKept}
 use Rattle.nitro_bytes.specs.Outcomes.{AreApart}

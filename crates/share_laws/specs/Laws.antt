@@ -8,7 +8,7 @@ use Rattle.channel_calls.specs.declared.call.Op.TheVariants as ops
 use Rattle.channel_calls.specs.declared.entry.Entry.{Entry}
 use Rattle.net_model.specs.Journals.{In, Line, is_watched}
 use Rattle.share_model.specs.Places.{Order, plan, counting, share}
-use Rattle.net_model.specs.Premises.{NoCollision}
+use Rattle.net_model.specs.Occurring.{NoCollision}
 use Rattle.share_laws.specs.Sound.{IsSound}
 
 abbrev pub moves_funds : Op → Bool

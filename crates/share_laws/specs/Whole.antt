@@ -8,7 +8,7 @@ use Rattle.channel_calls.specs.declared.entry.Entry.{Entry}
 use Rattle.net_model.specs.Journals.{In, Line, is_watched}
 use Rattle.share_model.specs.Places.{Order, plan, channels, possible, counting, share, IsPlace}
 use Rattle.share_model.specs.Kept.{is_signing, SharesAreKept}
-use Rattle.net_model.specs.Premises.{NoCollision}
+use Rattle.net_model.specs.Occurring.{NoCollision}
 use Rattle.nitro_bytes.specs.Outcomes.{AreApart}
 use Rattle.share_laws.specs.Laws.{moves_funds, AreSeen}
 use Rattle.share_laws.specs.Lines.{SignaturesAreFair}

@@ -38,10 +38,10 @@ module _ (r : Rules) (me : List ℕ) (orders : ℕ → Order) (past : List Entry
         (subst (λ (xs : List Item). SetsAside me x mine all xs (items_in asset target)) here s)
     | down p x mine all i k s ↦ takes_back p x mine all i (has_backs r me past front p (r.named f) x asset mine all k taken)
         (subst (λ (xs : List Item). SetsAside me x mine all (items_in asset target) xs) here s)
-    | together p i k ↦ joins p i
+    | together p i bare k ↦ joins p i (bare taken)
         (subst (λ (xs : List Item). Joins (books_under (balances past asset) (counting r past front) asset taken) me p (r.named f) xs (items_in asset target)) here
         (may_joins r me past front p (r.named f) asset (items_in asset from) (items_in asset target) k taken))
-    | apart p i k ↦ parts p i
+    | apart p i bare k ↦ parts p i (bare taken)
         (subst (λ (xs : List Item). Joins (books_under (balances past asset) (counting r past front) asset taken) me p (r.named f) (items_in asset target) xs) here
         (may_joins r me past front p (r.named f) asset (items_in asset target) (items_in asset from) k taken))
   ]

@@ -16,14 +16,21 @@ use Rattle.channel_calls.specs.declared.entry.Entry.{Entry}
 use Rattle.net_model.specs.Journals.{In, Line}
 use Rattle.app_rules.specs.Toward.{wanted_toward}
 use Rattle.funding_value.specs.declared.plan.Part.{Part}
-use Rattle.share_model.specs.Places.{Order, plan, possible, outcomes_of, share, Funded}
-use Rattle.signing_laws.specs.Plans.{IsPlan}
+use Rattle.funding_value.specs.Parts.{own_channel}
+use Rattle.share_model.specs.Books.{outcome_in}
+use Rattle.share_model.specs.Places.{Order, plan, possible, counting, outcomes_of, share, Funded}
+use Rattle.signing_laws.specs.Plans.{IsPlan, IsBare}
 use Rattle.share_model.specs.Bases.{all_bases}
 use Rattle.signing_laws.specs.Moves.{SetsAside}
 use Rattle.signing_laws.specs.Items.{lowered, raised}
 use Rattle.signing_laws.specs.Signatures.{signing, IsOwn}
 use Rattle.funding_value.specs.Shapes.{items_in, list_in}
 use Rattle.signing_laws.specs.Settled.{Has, MayJoin}
+
+-- whatever the channel l can end with, it sets nothing aside for a part of the plan
+abbrev pub LendsNothing : Rules → (ℕ → Order) → List Entry → List Line → (asset : ℕ) → (l : List ℕ) → Type 0
+LendsNothing r orders past front asset l =
+    (taken : List (List ℕ)) → IsBare (plan orders front) l (items_in asset (outcome_in (counting r past front) taken l))
 
 -- How the items of one asset move in the channel f from one outcome to a target, for a part of the plan.
 pub data MovesFor (r : Rules) (me : List ℕ) (orders : ℕ → Order) (past : List Entry) (front : List Line)
@@ -34,10 +41,10 @@ pub data MovesFor (r : Rules) (me : List ℕ) (orders : ℕ → Order) (past : L
   down : (p : Part) (x : List ℕ) (mine all : ℕ) → In p (plan orders front)
       → Has r me past front p (r.named f) x asset mine all
       → SetsAside me x mine all target from → MovesFor r me orders past front f asset from target
-  together : (p : Part) → In p (plan orders front) → MayJoin r me past front p (r.named f) asset from target
-      → MovesFor r me orders past front f asset from target
-  apart : (p : Part) → In p (plan orders front) → MayJoin r me past front p (r.named f) asset target from
-      → MovesFor r me orders past front f asset from target
+  together : (p : Part) → In p (plan orders front) → LendsNothing r orders past front asset (own_channel p)
+      → MayJoin r me past front p (r.named f) asset from target → MovesFor r me orders past front f asset from target
+  apart : (p : Part) → In p (plan orders front) → LendsNothing r orders past front asset (own_channel p)
+      → MayJoin r me past front p (r.named f) asset target from → MovesFor r me orders past front f asset from target
 
 -- a target that moves one asset, for a part of the plan, and no other
 pub record IsTarget (r : Rules) (me : List ℕ) (orders : ℕ → Order) (past : List Entry) (front : List Line)

@@ -167,10 +167,10 @@ abbrev pub of_b : Child
 of_b = record { asset = 0; name = guarantor_b; first = i; second = b; a = 400; b = 100 }
 
 abbrev pub end_a : Seat → Seat → Seat → Seat → (closing : Bool) → End
-end_a l g j c closing = record { terms = terms; child = of_a; ledger = l; guarantor = g; joint = j; channel = c; closing = closing }
+end_a l g j c closing = record { terms = terms; child = of_a; ledger = l; guarantor = g; joint = j; channel = c; votes = false; closing = closing }
 
 abbrev pub end_b : Seat → Seat → Seat → Seat → (closing : Bool) → End
-end_b l g j c closing = record { terms = terms; child = of_b; ledger = l; guarantor = g; joint = j; channel = c; closing = closing }
+end_b l g j c closing = record { terms = terms; child = of_b; ledger = l; guarantor = g; joint = j; channel = c; votes = false; closing = closing }
 
 abbrev pub middle : Seat → Seat → Seat → Seat → Seat → (closing : Bool) → Middle
 middle la lb ga gb j closing =

@@ -10,7 +10,8 @@ use Rattle.channel_model.specs.Supported.{Rises}
 use Rattle.channel_calls.specs.Marked.{Marked, nothing, is_supported, answered, next_after, is_step, extends, extended, is_newer}
 use Rattle.channel_calls.specs.Shown.{shown}
 use Rattle.channel_calls.specs.declared.entry.Entry.{Entry}
-use Rattle.net_model.specs.Held.{note, show, held, IsGood}
+use Rattle.net_model.specs.Held.{note, show, held}
+use Rattle.net_model.specs.Good.{IsGood}
 use Rattle.net_model.specs.Journals.{In, Line, opens, noted_in}
 use Rattle.support_chain.specs.Real.{real}
 use Rattle.support_laws.proofs.Finals.{real_keeps_final}

@@ -15,11 +15,11 @@ use Rattle.channel_model.specs.Supported.{Rises, AreSteps}
 use Rattle.channel_model.specs.Words.{fault_if, ◌⊳◌}
 use Rattle.channel_calls.specs.Marked.{marked_of}
 use Rattle.channel_calls.proofs.Names.{same_bytes}
-use Rattle.net_model.specs.Held.{InTurn, InSteps}
+use Rattle.net_model.specs.Good.{InTurn, InSteps}
 use Rattle.net_model.specs.Journals.{In}
 use Rattle.support_chain.specs.Real.{real}
 use Rattle.support_chain.specs.Steps.{persons, step_fault}
-use Rattle.channel_store.specs.Keeping.{IsGoodKept}
+use Rattle.channel_store.specs.Good.{IsGoodKept}
 use Rattle.channel_store.specs.declared.kept.Kept.{Kept}
 use Rattle.funding_value.specs.declared.plan.Goal.{Goal}
 use Rattle.stage_rules.specs.Seats.{has_no_data}

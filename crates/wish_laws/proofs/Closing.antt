@@ -30,9 +30,10 @@ use Rattle.ledger_channel.specs.Roots as direct
 use Rattle.ledger_channel.specs.Stages.{direct_with, direct_of, direct_in, stage_of_root}
 use Rattle.support_chain.specs.Real.{real}
 use Rattle.support_chain.specs.Steps.{persons}
-use Rattle.net_model.specs.Held.{held, IsGoodIfAny}
+use Rattle.net_model.specs.Held.{held}
+use Rattle.net_model.specs.Good.{IsGoodIfAny}
 use Rattle.net_model.specs.Journals.{In, Line, is_watched}
-use Rattle.net_model.specs.Premises.{NoCollision, OccursFixed}
+use Rattle.net_model.specs.Occurring.{NoCollision, OccursFixed}
 use Rattle.net_model.proofs.Members.{In-append_right, In-append_cases, mapped}
 use Rattle.net_party.specs.declared.command.Command.{Command}
 use Rattle.node_model.specs.Minds.{Mind, facts_of, place_with, close_if, did}
@@ -158,7 +159,7 @@ root-runs f m apart third =
 
 -- ---- an accepted Close
 
-closing-runs : (m : Mind) (channel : List ℕ) (p : Part) → None ≡ close_part stages m channel (Some p) → (stages.stage (facts_of m) p == running p) ≡ true
+closing-runs : (m : Mind) (channel : List ℕ) (p : Part) → None ≡ close_part stages m (Some p) → (stages.stage (facts_of m) p == running p) ≡ true
 closing-runs m channel p e =
     let after-open = rest_none (not_open stages (facts_of m)) _ (sym e) in
     let after-left = rest_none (has_left m) _ after-open in
@@ -208,7 +209,7 @@ abbrev pub IsLate : Part → FixedParts → ℕ → Mind → Option Marked → T
 IsLate p f turn m st = (g : Goal) → In g m.goals → g.closing ≡ true → slice_get m.parts g.part ≡ Some p → Reaches real f turn st
 
 module _ (p : Part) (f : FixedParts) (turn : ℕ) (m new : Mind) (st after : Option Marked) (plan : Planned m) (up : Reaches real f turn st → Reaches real f turn after)
-    (accepted : (channel : List ℕ) → None ≡ close_part stages m channel (Some p) → Reaches real f turn st) (was : IsLate p f turn m st) where
+    (accepted : (channel : List ℕ) → None ≡ close_part stages m (Some p) → Reaches real f turn st) (was : IsLate p f turn m st) where
   opens-late : (news : List Part) (fresh : List Goal) → new.parts ≡ m.parts ++ news → new.goals ≡ m.goals ++ fresh → ((g : Goal) → In g fresh → g.closing ≡ false) → IsLate p f turn new after
   opens-late news fresh parts goals open-yet g i closing at = go (In-append_cases g m.goals fresh (subst (In g) goals i))
     where
@@ -217,7 +218,7 @@ module _ (p : Part) (f : FixedParts) (turn : ℕ) (m new : Mind) (st after : Opt
           up (was g i closing (sym (get-append m.parts news g.part (plan.within g i)) ∙ subst (λ (x : List Part). slice_get x g.part ≡ Some p) parts at))
       go (inr i) = absurd (clash g.closing closing (open-yet g i))
 
-  closes-late : (channel : List ℕ) → None ≡ close_part stages m channel (part_with channel m.parts) → new.parts ≡ m.parts
+  closes-late : (channel : List ℕ) → None ≡ close_part stages m (part_with channel m.parts) → new.parts ≡ m.parts
       → new.goals ≡ map (λ goal. close_if (goal.part == place_with channel m.parts) goal) m.goals → IsLate p f turn new after
   closes-late channel taken parts goals g i closing at =
       let old = mapped (λ (goal : Goal). close_if (goal.part == place_with channel m.parts) goal) g m.goals (subst (In g) goals i) in
@@ -232,7 +233,7 @@ module _ (p : Part) (f : FixedParts) (turn : ℕ) (m new : Mind) (st after : Opt
           let place : g.part ≡ place_with channel m.parts = ap (λ (x : Goal). x.part) same ∙ eqb-true from.part (place_with channel m.parts) is in
           let found : part_with channel m.parts ≡ Some p =
           sym (found_at_place (λ (part : Part). is_among channel (channels_of part)) m.parts) ∙ (sym (ap (slice_get m.parts) place) ∙ here) in
-          up (accepted channel (taken ∙ ap (close_part stages m channel) found))
+          up (accepted channel (taken ∙ ap (close_part stages m) found))
 
   change-late : (deed : Deed) (of : Option Command) → Change stages real deed of m new → IsLate p f turn new after
   change-late deed of (stays parts goals) =
@@ -336,7 +337,7 @@ module _ (s : Signing) (h : List Entry) (journal : List Told) (legal : Legal rea
       m : Mind
       m = mind_at real s.key past front
 
-      accepted : (channel : List ℕ) → None ≡ close_part stages m channel (Some p) → Reaches real f turn (held real f past (lines_of s.key front))
+      accepted : (channel : List ℕ) → None ≡ close_part stages m (Some p) → Reaches real f turn (held real f past (lines_of s.key front))
       accepted channel e =
           running-reaches past front (at.newer ++ x ∷ []) (at.events ∙ append_assoc' at.newer (x ∷ []) front) at.plays at.later at.entries at.before
           (at.event.place at.later past at.entries at.len).0 (closing-runs m channel p e)

@@ -17,7 +17,8 @@ use Rattle.channel_calls.specs.Marked.{marked_of, next_after}
 use Rattle.channel_calls.proofs.Names.{bytes_eq_self}
 use Rattle.support_chain.specs.Real.{real}
 use Rattle.support_chain.specs.Steps.{persons, step_fault}
-use Rattle.channel_store.specs.Keeping.{IsGoodKept, is_held, is_ended, next_of, step_after, step_of}
+use Rattle.channel_store.specs.Keeping.{is_held, is_ended, next_of, step_after, step_of}
+use Rattle.channel_store.specs.Good.{IsGoodKept}
 use Rattle.channel_store.specs.declared.kept.Kept.{Kept}
 use Rattle.funding_value.specs.declared.plan.Goal.{Goal}
 use Rattle.stage_rules.specs.Seats.{has_no_data}

@@ -7,9 +7,11 @@ use Rattle.channel_model.specs.Rules.{people, newest}
 use Rattle.channel_calls.specs.History.{Legal}
 use Rattle.channel_calls.specs.Marked.{Marked, marked_of}
 use Rattle.channel_calls.specs.declared.entry.Entry.{Entry}
-use Rattle.net_model.specs.Held.{held, IsGood, IsGoodIfAny}
+use Rattle.net_model.specs.Held.{held}
+use Rattle.net_model.specs.Good.{IsGood, IsGoodIfAny}
 use Rattle.net_model.specs.Journals.{In}
-use Rattle.net_model.specs.Premises.{Unforged, NoCollision, AreValid}
+use Rattle.net_model.specs.Premises.{Unforged}
+use Rattle.net_model.specs.Occurring.{NoCollision, AreValid}
 use Rattle.support_chain.specs.Real.{real}
 use Rattle.channel_store.specs.Keeping.{next_of}
 use Rattle.channel_store.specs.declared.kept.Kept.{Kept}

@@ -40,7 +40,7 @@ pub data Change (t : Tables) (r : Rules) (deed : Deed) (of : Option Command) (m 
   stays : new.parts ≡ m.parts → new.goals ≡ m.goals → Change t r deed of m new
   opens : (command : Command) → is_followed deed ≡ true → of ≡ Some command → None ≡ open_refusal t r m command → new.parts ≡ m.parts ++ parts_of r m.key command
       → new.goals ≡ m.goals ++ goals_of (length m.parts) command → Change t r deed of m new
-  closes : (channel : List ℕ) → None ≡ close_part t m channel (part_with channel m.parts) → new.parts ≡ m.parts
+  closes : (channel : List ℕ) → None ≡ close_part t m (part_with channel m.parts) → new.parts ≡ m.parts
       → new.goals ≡ map (λ goal. close_if (goal.part == place_with channel m.parts) goal) m.goals → Change t r deed of m new
 
 pub event-changes : (t : Tables) (r : Rules) (s : Signing) (past : List Entry) (used : ℕ) (waits : Option Command) (deed : Deed) (command : Option Command) (m : Mind)

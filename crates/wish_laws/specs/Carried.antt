@@ -10,7 +10,8 @@ use Rattle.channel_calls.specs.declared.entry.Entry.{Entry}
 use Rattle.net_model.specs.Held.{held}
 use Rattle.net_model.specs.Honest.{Honest}
 use Rattle.net_model.specs.Journals.{In, Line, noted_in}
-use Rattle.net_model.specs.Premises.{Unforged, NoCollision, AreValid}
+use Rattle.net_model.specs.Premises.{Unforged}
+use Rattle.net_model.specs.Occurring.{NoCollision, AreValid}
 use Rattle.net_model.specs.Safety.{IsChannelOf}
 use Rattle.support_chain.specs.Real.{real}
 use Rattle.wish_laws.specs.Roots.{is_repeated}

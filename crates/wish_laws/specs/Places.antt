@@ -5,7 +5,8 @@ use Rattle.channel_model.specs.Rules.{people}
 use Rattle.channel_calls.specs.History.{Legal}
 use Rattle.channel_calls.specs.declared.entry.Entry.{Entry}
 use Rattle.net_model.specs.Journals.{In, is_watched}
-use Rattle.net_model.specs.Premises.{Unforged, NoCollision, AreValid}
+use Rattle.net_model.specs.Premises.{Unforged}
+use Rattle.net_model.specs.Occurring.{NoCollision, AreValid}
 use Rattle.net_model.specs.Safety.{IsChannelOf}
 use Rattle.support_chain.specs.Real.{real}
 use Rattle.channel_store.specs.Keeping.{next_of}

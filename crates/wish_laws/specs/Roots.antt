@@ -6,7 +6,8 @@ use Rattle.app_rules.specs.Rules.{is_same_outcome}
 use Rattle.channel_model.specs.Rules.{people, newest}
 use Rattle.support_chain.specs.Real.{real}
 use Rattle.net_model.specs.Journals.{In}
-use Rattle.channel_store.specs.Keeping.{IsGoodKept, next_of}
+use Rattle.channel_store.specs.Keeping.{next_of}
+use Rattle.channel_store.specs.Good.{IsGoodKept}
 use Rattle.channel_store.specs.Storing.{kept_of}
 use Rattle.channel_store.specs.declared.kept.Kept.{Kept}
 use Rattle.funding_value.specs.declared.plan.Goal.{Goal}
