@@ -8,7 +8,7 @@ use Rattle.atomic_table.specs.declared.shared.Seat.{Seat}
 use Rattle.adjudicator_book.specs.declared.desk.Desk.{Desk}
 use Rattle.adjudicator_book.specs.declared.rule.View.{View}
 use Rattle.adjudicator_book.specs.History.{same, times, once, IsLegal}
-use Rattle.adjudicator_book.specs.Caller.{Caller, IsSound, Enters, Looks}
+use Rattle.adjudicator_book.specs.Caller.{Caller, IsCaller, Enters, Looks}
 use Rattle.adjudicator_book.specs.Turn.{caller_of, IsAtRest, HasTurn}
 use Rattle.adjudicator_book.specs.Desk.{Adds}
 use Rattle.adjudicator_book.specs.Turns.{idle}
@@ -21,7 +21,7 @@ module _ {A : Type 0} where
 
 module _ {S E : Type 0} where
   -- a token that is between two calls
-  pub rest_at : (z : TableId) (part : ℕ) (s : Seat S (View E)) (h : List E) (made : List ℕ) → s.table_id ≡ z → s.me ≡ (idle h made part, []) → IsSound (record { book = z; seen = h; made = made; part = part })
+  pub rest_at : (z : TableId) (part : ℕ) (s : Seat S (View E)) (h : List E) (made : List ℕ) → s.table_id ≡ z → s.me ≡ (idle h made part, []) → IsCaller (record { book = z; seen = h; made = made; part = part })
       → IsAtRest part s × (caller_of part s ≡ record { book = z; seen = h; made = made; part = part })
   rest_at z part s h made t e sound =
       let seen_is : s.me.0.seen ≡ h = ap (λ (m : Me S (View E)). m.0.seen) e in
@@ -30,7 +30,7 @@ module _ {S E : Type 0} where
         record {
           view = ap (λ (m : Me S (View E)). m.0) e ∙ (λ i. idle (sym seen_is i) (sym made_is i) part);
           empty = ap (λ (m : Me S (View E)). m.1) e;
-          sound = subst (λ (c : Caller E). IsSound c) (sym is) sound;
+          sound = subst (λ (c : Caller E). IsCaller c) (sym is) sound;
         },
         is,
       )

@@ -4,7 +4,7 @@ use Rattle.atomic_table.specs.Table.{Me, rest}
 use Rattle.adjudicator_book.specs.declared.desk.Desk.{Desk}
 use Rattle.adjudicator_book.specs.declared.rule.View.{View}
 use Rattle.adjudicator_book.specs.History.{StartsWith, times}
-use Rattle.adjudicator_book.specs.Turns.{idle, noted, in_hand, Keeps, Took}
+use Rattle.adjudicator_book.specs.Turns.{idle, noted, in_hand, KeepsSeat, Took}
 
 module _ {S : Type 0} where
   pub carried : (l : List (ℕ × S)) (x : ℕ × S) → l ≡ x ∷ [] → l ≡ x ∷ rest l
@@ -22,7 +22,7 @@ module _ {S : Type 0} where
 
 module _ {O E C : Type 0} (stands : O → List E → Type 0) (gives : List E → ℕ → ℕ → C → E) where
   -- what was taken, told from the seat as it was before it waited
-  pub took_from : (v : View E) (m m' : Me (Option (Desk O E)) (View E)) → Keeps v m.0 → m.1 ≡ [] → Took stands gives m m' → Took stands gives (v, []) m'
+  pub took_from : (v : View E) (m m' : Me (Option (Desk O E)) (View E)) → KeepsSeat v m.0 → m.1 ≡ [] → Took stands gives m m' → Took stands gives (v, []) m'
   took_from v m m' k e t = record {
     desk = t.desk;
     slot = t.slot ∙ ap (λ r. (0, Some t.desk) ∷ r) e;

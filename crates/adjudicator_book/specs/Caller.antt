@@ -27,7 +27,7 @@ pub record Caller (E : Type 0) : Type 0 where
 module _ {E : Type 0} where
   -- what is true of every caller between two calls: it has seen what it made, no more than a history can have, and with all of
   -- one it made all that it has seen
-  pub record IsSound (c : Caller E) : Type 0 where
+  pub record IsCaller (c : Caller E) : Type 0 where
     pub some_part : 0 < c.part
     pub at_most : c.part ≤ whole
     pub within : (k : ℕ) → 0 < times k c.made → k ≤ length c.seen

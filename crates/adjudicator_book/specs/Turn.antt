@@ -5,8 +5,8 @@ use Rattle.atomic_table.specs.declared.shared.Seat.{Seat}
 use Rattle.adjudicator_book.specs.declared.rule.View.{View}
 use Rattle.adjudicator_book.specs.declared.desk.Desk.{Desk}
 use Rattle.adjudicator_book.specs.History.{StartsWith, times, once, IsLegal}
-use Rattle.adjudicator_book.specs.Caller.{Caller, IsSound, whole, most_entries}
-use Rattle.adjudicator_book.specs.Turns.{idle, Keeps}
+use Rattle.adjudicator_book.specs.Caller.{Caller, IsCaller, whole, most_entries}
+use Rattle.adjudicator_book.specs.Turns.{idle, KeepsSeat}
 
 module _ {S E : Type 0} where
   -- what contracts see of a token with this part
@@ -17,7 +17,7 @@ module _ {S E : Type 0} where
   pub record IsAtRest (part : ℕ) (s : Seat S (View E)) : Type 0 where
     pub view : s.me.0 ≡ idle s.me.0.seen s.me.0.made part
     pub empty : s.me.1 ≡ []
-    pub sound : IsSound (caller_of part s)
+    pub sound : IsCaller (caller_of part s)
 
   -- it has a ticket out, and waits
   pub record Waits (z : TableId) (ticket : ℕ) (v : View E) (s : Seat S (View E)) : Type 0 where
@@ -27,7 +27,7 @@ module _ {S E : Type 0} where
     pub none_told : s.me.0.told ≡ []
     pub free : s.me.0.holds ≡ false
     pub ticket_is : s.me.0.ticket % 18446744073709551616 ≡ ticket
-    pub keeps : Keeps v s.me.0
+    pub keeps : KeepsSeat v s.me.0
 
 module _ {O E C : Type 0} (stands : O → List E → Type 0) (gives : List E → ℕ → ℕ → C → E) where
   -- it is this seat's turn: the slot is out with it, and this desk was in it
@@ -41,4 +41,4 @@ module _ {O E C : Type 0} (stands : O → List E → Type 0) (gives : List E →
     pub few : length d.history.items ≤ most_entries
     pub sees : StartsWith d.history.items v.seen
     pub all : v.part ≡ whole → (v.seen ≡ d.history.items) × ((k : ℕ) → times k v.made ≡ once k (length d.history.items))
-    pub keeps : Keeps v s.me.0
+    pub keeps : KeepsSeat v s.me.0

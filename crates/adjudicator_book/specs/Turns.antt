@@ -39,8 +39,8 @@ module _ {E : Type 0} where
   both v w = record { seen = v.seen; told = w.seen; made = v.made ++ w.made; part = v.part + w.part; tickets = 0; ticket = 0; holds = false; hand = [] }
 
   -- a step leaves what the seat has seen and made, and its part
-  abbrev pub Keeps : View E → View E → Type 0
-  Keeps v w = (w.seen ≡ v.seen) × (w.made ≡ v.made) × (w.part ≡ v.part) × (w.told ≡ v.told)
+  abbrev pub KeepsSeat : View E → View E → Type 0
+  KeepsSeat v w = (w.seen ≡ v.seen) × (w.made ≡ v.made) × (w.part ≡ v.part) × (w.told ≡ v.told)
 
   -- a history was noted by the seat that has it
   abbrev pub noted : List E → List ℕ → View E → View E
@@ -90,7 +90,7 @@ module _ {O E C : Type 0} (stands : O → List E → Type 0) (gives : List E →
 module _ {S E : Type 0} where
   -- the seat has the ticket that was found
   abbrev pub Draws : Step S → Me S (View E) → ℕ → Me S (View E) → Type 0
-  Draws st m found m' = Keeps m.0 m'.0 × (m'.1 ≡ m.1) × (m'.0.tickets ≡ 1) × (m'.0.holds ≡ false) × (m'.0.ticket % 18446744073709551616 ≡ found)
+  Draws st m found m' = KeepsSeat m.0 m'.0 × (m'.1 ≡ m.1) × (m'.0.tickets ≡ 1) × (m'.0.holds ≡ false) × (m'.0.ticket % 18446744073709551616 ≡ found)
 
   -- the seat has no ticket, and gave the desk back
   abbrev pub Passes : Step S → Me S (View E) → ℕ → Me S (View E) → Type 0
@@ -108,7 +108,7 @@ module _ {O E C : Type 0} (stands : O → List E → Type 0) (gives : List E →
     pub sees : StartsWith desk.history.items m.0.seen
     pub within : (k : ℕ) → 0 < times k m.0.made → k ≤ length m.0.seen
     pub all : m.0.part ≡ whole → (m.0.seen ≡ desk.history.items) × ((k : ℕ) → times k m.0.made ≡ once k (length desk.history.items))
-    pub keeps : Keeps m.0 m'.0
+    pub keeps : KeepsSeat m.0 m'.0
     pub holds : m'.0.holds ≡ true
 
   -- where the word found is the seat's ticket, it took the desk; else nothing changed

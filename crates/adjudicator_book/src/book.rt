@@ -1,6 +1,6 @@
 //! The book that threads share.
 ghost use Rattle.std.specs.Prelude.{◌≡◌, ℕ, ◌%◌, ◌<◌, ◌≤◌, [], ◌∷◌, length, drop, IfOk, IfErr, OnErr, IsOk, ◌↔◌};
-ghost use Rattle.adjudicator_book.specs.Caller.{IsSound, IsLater, Enters, HasEntry, Looks, Ends, opening, halved, fresh_half, joined, whole, most_entries};
+ghost use Rattle.adjudicator_book.specs.Caller.{IsCaller, IsLater, Enters, HasEntry, Looks, Ends, opening, halved, fresh_half, joined, whole, most_entries};
 ghost use Rattle.adjudicator_book.specs.History.{StartsWith};
 
 use crate::desk::{Answer, BookFault, Desk, add};
@@ -70,7 +70,7 @@ impl<O: OneThread> Book<O> {
         call: O::Call,
     ) -> Result<Answer<O>, BookFault>
         requires { seat.old.book ≡ self.now }
-        ensures sound { IsSound seat.new }
+        ensures sound { IsCaller seat.new }
         ensures ok { IfOk result (λ a. Enters O.gives O.reply by call a.number a.reply seat.old seat.new) }
         ensures entry { IfOk result (λ a. HasEntry O.number_of O.by_of O.kept_of seat.new.seen a.number by (O.kept call)) }
         ensures err { OnErr result (IsLater seat.old seat.new) }
@@ -106,7 +106,7 @@ impl<O: OneThread> Book<O> {
     ) -> Result<Vec<O::Entry>, NoMemory>
         requires seat { seat.old.book ≡ self.now }
         requires from { from ≤ length seat.old.seen }
-        ensures sound { IsSound seat.new }
+        ensures sound { IsCaller seat.new }
         ensures ok { IfOk result (λ v. Looks O.gives seat.old seat.new × (v.items ≡ drop from seat.new.seen)) }
         ensures err { OnErr result (seat.new ≡ seat.old) }
     {
@@ -129,9 +129,9 @@ impl<O: OneThread> Book<O> {
     /// changes.
     pub fn split(&self, seat: &mut Seat<O>) -> Result<Seat<O>, NoMemory>
         requires { seat.old.book ≡ self.now }
-        ensures sound { IsSound seat.new }
+        ensures sound { IsCaller seat.new }
         ensures even { IsOk result ↔ (seat.old.part % 2 ≡ 0) }
-        ensures ok { IfOk result (λ s. IsSound s × (s ≡ fresh_half seat.old) × (seat.new ≡ halved seat.old)) }
+        ensures ok { IfOk result (λ s. IsCaller s × (s ≡ fresh_half seat.old) × (seat.new ≡ halved seat.old)) }
         ensures err { OnErr result (seat.new ≡ seat.old) }
     {
         if seat.part % 2 == 1 {
@@ -148,7 +148,7 @@ impl<O: OneThread> Book<O> {
     pub fn join(&self, seat: &mut Seat<O>, other: Seat<O>)
         requires seat { seat.old.book ≡ self.now }
         requires other { other.book ≡ self.now }
-        ensures sound { IsSound seat.new }
+        ensures sound { IsCaller seat.new }
         ensures joined { seat.new ≡ joined seat.old other }
         ensures both { StartsWith seat.new.seen seat.old.seen × StartsWith seat.new.seen other.seen }
     {

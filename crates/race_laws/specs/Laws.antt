@@ -4,7 +4,8 @@ use Rattle.channel_model.specs.Rules.{Rules}
 use Rattle.channel_calls.specs.History.{time_set, now_of}
 use Rattle.channel_calls.specs.declared.entry.Entry.{Entry}
 use Rattle.net_model.specs.Journals.{Line}
-use Rattle.net_model.specs.Premises.{NoCollision, InTime}
+use Rattle.net_model.specs.Premises.{InTime}
+use Rattle.net_model.specs.Occurring.{NoCollision}
 use Rattle.race_laws.specs.Races.{IsRaced, StandForTwo, NotesLasting, over}
 use Rattle.race_laws.specs.Growing.{AreTimeless, HaveSeen, GainsRound}
 
@@ -31,6 +32,10 @@ RacesGoOn =
     → IsRaced h journal ends → AreTimeless entered → HaveSeen (over ends) gained
     → IsRaced (entered ++ h) (gained ++ journal) ends
 
+-- a participant that has noted nothing yet comes to a race
+abbrev pub RacersJoin : Type 0
+RacersJoin = (h : List Entry) (journal : List Line) (ends : List ℕ) → IsRaced h journal ends → IsRaced h [] ends
+
 -- a round is run, and then its time is entered
 abbrev pub RoundsEnd : Type 0
 RoundsEnd =
@@ -38,3 +43,10 @@ RoundsEnd =
     → IsRaced h journal ends → AreTimeless entered → GainsRound (length h) (entered ++ h) gained
     → time_set e.op e.reply ≡ Some (now_of (entered ++ h) + 1)
     → IsRaced (e ∷ (entered ++ h)) (gained ++ journal) (length (entered ++ h) ∷ ends)
+
+-- a round without a participant
+abbrev pub RoundsPass : Type 0
+RoundsPass =
+    (h entered : List Entry) (ends : List ℕ) (e : Entry)
+    → IsRaced h [] ends → AreTimeless entered → time_set e.op e.reply ≡ Some (now_of (entered ++ h) + 1)
+    → IsRaced (e ∷ (entered ++ h)) [] (length (entered ++ h) ∷ ends)

@@ -1,6 +1,6 @@
 //! Callers that enter at the same time.
 ghost use Rattle.std.specs.Prelude.{◌≡◌, ◌+◌, length, IfSome};
-ghost use Rattle.adjudicator_book.specs.Caller.{IsSound};
+ghost use Rattle.adjudicator_book.specs.Caller.{IsCaller};
 ghost use Rattle.adjudicator_book.specs.History.{StartsWith};
 
 use crate::counter::Counter;
@@ -55,7 +55,7 @@ pub fn two_callers<R: Threads + Wait + Sync>(
     times: u32,
 ) -> Option<(Tally, Tally)>
     requires { seat.old.book ≡ book.now }
-    ensures sound { IfSome result (λ r. IsSound seat.new) }
+    ensures sound { IfSome result (λ r. IsCaller seat.new) }
     ensures seat { IfSome result (λ r. (seat.new.book ≡ seat.old.book) × (seat.new.part ≡ seat.old.part) × StartsWith seat.new.seen seat.old.seen) }
     ensures entered { IfSome result (λ r. length seat.new.made ≡ length seat.old.made + r.0.entered + r.1.entered) }
 {

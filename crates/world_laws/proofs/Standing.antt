@@ -2,6 +2,8 @@
 use Rattle.std.proofs.Common.{◌≡◌, ◌≤◌, ℕ, List, [], ◌∷◌, length, reverse, drop, refl, sym, ◌∙◌, ap, subst, arith, ◌⊎◌, inl, inr, length-drop, length-append}
 use Rattle.std.proofs.lemmas.List.{length-reverse}
 use Rattle.std.specs.Prelude.{Option, Some, None, slice_get}
+use Rattle.std.specs.List.{find}
+use Rattle.std.specs.Option.{option_map}
 use Rattle.channel_calls.specs.History.{Legal}
 use Rattle.channel_calls.specs.declared.call.Op.{Op}
 use Rattle.channel_calls.specs.declared.entry.Entry.{Entry}
@@ -9,36 +11,37 @@ use Rattle.channel_watcher.proofs.Standing.{looks_are_kept}
 use Rattle.channel_watcher.specs.Watching.{StandsFor, history_after}
 use Rattle.net_model.specs.Journals.{In}
 use Rattle.support_chain.specs.Real.{real}
-use Rattle.net_party.specs.Ways.{Ways, followed, HasLooked}
+use Rattle.net_party.specs.Ways.{Ways, followed}
+use Rattle.net_party.specs.Histories.{HasLooked}
 use Rattle.net_party.specs.declared.lookout.Lookout.{Lookout}
 use Rattle.net_world.specs.Entered.{entered}
 use Rattle.net_world.specs.Members.{MemberOf, sees, told, handed, acts, looks, looks_with}
-use Rattle.net_world.specs.Worlds.{WorldOf, place_of, changed_if, changed_at, happened}
+use Rattle.net_world.specs.Worlds.{WorldOf, has_number, replaced, changed, happened}
 use Rattle.net_world.specs.declared.happening.Happening.{Happening}
 use Rattle.net_world.specs.declared.happening.Happening.TheVariants.{Enter, Time, See, Command, Deliver, Tick, Watch}
 use Rattle.world_laws.specs.Standing.{AreKept, Follows, IsWorld, AreHonest}
-use Rattle.world_laws.proofs.Fronts.{front, front_length, parts, rest_after, rest_comes, same_end, in_set, in_get}
+use Rattle.world_laws.proofs.Fronts.{front, front_length, parts, rest_after, rest_comes, same_end, in_set, in_get, in_found, in_parts}
 
 module _ {P : Type 0} (ways : Ways P) (stands : List Entry → P → Type 0) (kept : AreKept ways stands) where
   -- a node and its watchers stand for a history
-  record IsMember (h : List Entry) (m : MemberOf P) : Type 0 where
-    node : stands h m.node
-    watchers : (l : Lookout) → In l m.watchers → Follows h l
+  pub record IsMember (h : List Entry) (m : MemberOf P) : Type 0 where
+    pub node : stands h m.node
+    pub watchers : (l : Lookout) → In l m.watchers → Follows h l
 
   one : (w : WorldOf P) → IsWorld stands w → (m : MemberOf P) → In m w.members → IsMember w.history m
   one w is m i = record { node = is.nodes m i; watchers = is.watchers m i }
 
   -- ---- a node is changed
 
-  at_place : (w : WorldOf P) (f : MemberOf P → MemberOf P) (place : ℕ) (o : Option (MemberOf P)) → slice_get w.members place ≡ o
-      → ((m : MemberOf P) → IsMember w.history m → IsMember w.history (f m)) → IsWorld stands w → IsWorld stands (changed_at ways w f place o)
-  at_place w f place None e keeps is = is
-  at_place w f place (Some m) e keeps is =
-      let new : IsMember w.history (f m) = keeps m (one w is m (in_get w.members place m e)) in
+  at_found : (w : WorldOf P) (f : MemberOf P → MemberOf P) (number : ℕ) (o : Option (MemberOf P)) → find (has_number ways number) w.members ≡ o
+      → ((m : MemberOf P) → IsMember w.history m → IsMember w.history (f m)) → IsWorld stands w → IsWorld stands (replaced ways w number (option_map f o))
+  at_found w f number None e keeps is = is
+  at_found w f number (Some m) e keeps is =
+      let new : IsMember w.history (f m) = keeps m (one w is m (in_found (has_number ways number) w.members m e)) in
       record {
         legal = is.legal;
-        nodes = λ x i. node_of x new (in_set w.members place (f m) x i);
-        watchers = λ x i. watchers_of x new (in_set w.members place (f m) x i);
+        nodes = λ x i. node_of x new (in_parts (has_number ways number) w.members m (f m) x e i);
+        watchers = λ x i. watchers_of x new (in_parts (has_number ways number) w.members m (f m) x e i);
       }
     where
       node_of : (x : MemberOf P) → IsMember w.history (f m) → (x ≡ f m) ⊎ In x w.members → stands w.history x.node
@@ -49,10 +52,9 @@ module _ {P : Type 0} (ways : Ways P) (stands : List Entry → P → Type 0) (ke
       watchers_of x new (inl same) = subst (λ (y : MemberOf P). (l : Lookout) → In l y.watchers → Follows w.history l) (sym same) new.watchers
       watchers_of x new (inr i) = is.watchers x i
 
-  at_number : (w : WorldOf P) (f : MemberOf P → MemberOf P) (o : Option ℕ)
-      → ((m : MemberOf P) → IsMember w.history m → IsMember w.history (f m)) → IsWorld stands w → IsWorld stands (changed_if ways w f o)
-  at_number w f None keeps is = is
-  at_number w f (Some place) keeps is = at_place w f place (slice_get w.members place) refl keeps is
+  at_number : (w : WorldOf P) (f : MemberOf P → MemberOf P) (number : ℕ)
+      → ((m : MemberOf P) → IsMember w.history m → IsMember w.history (f m)) → IsWorld stands w → IsWorld stands (changed ways number f w)
+  at_number w f number keeps is = at_found w f number (find (has_number ways number) w.members) refl keeps is
 
   -- ---- an entry comes
 
@@ -111,7 +113,7 @@ module _ {P : Type 0} (ways : Ways P) (stands : List Entry → P → Type 0) (ke
       same : f.past ≡ front h l.seen
       same = same_end f.later f.past (reverse (drop l.seen (reverse h))) (front h l.seen) (sym f.is ∙ sym (parts h l.seen)) (f.count ∙ sym (front_length h l.seen (seen_within h l f)))
 
-  watcher_looks : (h : List Entry) (place : ℕ) (m : MemberOf P) (o : Option Lookout) → slice_get m.watchers place ≡ o → Legal real h → IsMember h m
+  pub watcher_looks : (h : List Entry) (place : ℕ) (m : MemberOf P) (o : Option Lookout) → slice_get m.watchers place ≡ o → Legal real h → IsMember h m
       → IsMember h (looks_with ways (reverse h) place m o)
   watcher_looks h place m None e legal is = is
   watcher_looks h place m (Some l) e legal is =
@@ -132,19 +134,19 @@ module _ {P : Type 0} (ways : Ways P) (stands : List Entry → P → Type 0) (ke
   stays w (Enter by call) is = enters w by _ is
   stays w (Time to) is = enters w 0 _ is
   stays w (See number) is =
-      at_number w (sees ways (reverse w.history)) (place_of ways w.members number)
+      at_number w (sees ways (reverse w.history)) number
       (λ m i. record { node = kept.saw w.history _ m.node is.legal (rest_comes w.history (ways.seen m.node) (kept.within w.history m.node i.node)) i.node; watchers = i.watchers }) is
   stays w (Command number step command) is =
-      at_number w (told ways step command) (place_of ways w.members number)
+      at_number w (told ways step command) number
       (λ m i. record { node = kept.commanded w.history step command m.node is.legal i.node; watchers = i.watchers }) is
   stays w (Deliver number bytes) is =
-      at_number w (handed ways bytes) (place_of ways w.members number)
+      at_number w (handed ways bytes) number
       (λ m i. record { node = kept.handled w.history bytes m.node is.legal i.node; watchers = i.watchers }) is
   stays w (Tick number) is =
-      at_number w (acts ways) (place_of ways w.members number)
+      at_number w (acts ways) number
       (λ m i. record { node = kept.ticked w.history m.node is.legal i.node; watchers = i.watchers }) is
   stays w (Watch number place) is =
-      at_number w (looks ways (reverse w.history) place) (place_of ways w.members number)
+      at_number w (looks ways (reverse w.history) place) number
       (λ m i. watcher_looks w.history place m (slice_get m.watchers place) refl is.legal i) is
 
   -- and its journals are honest

@@ -9,7 +9,8 @@ use Rattle.net_model.specs.Valid.{IsValidEntry}
 use Rattle.std.specs.List.{AllByRecursion}
 use Rattle.sign_index.specs.Signing.{Signing}
 use Rattle.support_chain.specs.Real.{real}
-use Rattle.net_party.specs.Ways.{Ways, IsFresh, followed, looked, ComeNext, HasLooked}
+use Rattle.net_party.specs.Ways.{Ways, followed, looked}
+use Rattle.net_party.specs.Histories.{IsFresh, ComeNext, HasLooked}
 use Rattle.net_party.specs.declared.command.Command.{Command}
 use Rattle.net_party.specs.declared.lookout.Lookout.{Lookout}
 use Rattle.net_world.specs.Members.{MemberOf}
