@@ -13,7 +13,7 @@ use Rattle.channel_model.specs.Supported.{Rises, AreSteps}
 use Rattle.channel_model.proofs.Turns.{last_turn_at_most, last_turn_greatest, last_turn_mine}
 use Rattle.channel_calls.specs.Marked.{Marked, is_supported, put, longer, lowest, lowered, answered}
 use Rattle.net_model.specs.Journals.{In}
-use Rattle.net_model.specs.Held.{InTurn, InSteps}
+use Rattle.net_model.specs.Good.{InTurn, InSteps}
 use Rattle.net_model.specs.Strings.{signed_marks}
 use Rattle.chain_laws.proofs.Tests.{cond-false, cond-true, le_or_lt, some-eq, none-eq}
 use Rattle.chain_laws.proofs.Lists.{In-append_cases, In-drop, get-within, get-append, get-end, get-drop, Mapped, get-map, get-set, get-push}

@@ -21,9 +21,9 @@ use Rattle.channel_model.proofs.Exact.{support_is_by_marks}
 use Rattle.channel_model.proofs.Turns.{last_turn_greatest}
 use Rattle.channel_calls.specs.Marked.{Marked, chain_of, is_supported}
 use Rattle.net_model.specs.Journals.{In}
-use Rattle.net_model.specs.Held.{InTurn, InSteps}
+use Rattle.net_model.specs.Good.{InTurn, InSteps}
 use Rattle.net_model.specs.Strings.{with_mark, signed_marks}
-use Rattle.net_model.specs.Safety.{StepsAfter}
+use Rattle.net_model.specs.Steps.{StepsAfter}
 use Rattle.chain_laws.proofs.Tests.{true-le, some-eq, none-eq, ok-is}
 use Rattle.chain_laws.proofs.Lists.{get-within, get-some}
 

@@ -11,7 +11,7 @@ use Rattle.channel_model.specs.Chains.{last_of, last_turn}
 use Rattle.channel_model.specs.Rules.{Rules, people, newest, turn_of, top_turn, signs_state, is_signed_well}
 use Rattle.channel_model.proofs.Turns.{last_turn_at_most, last_turn_mine}
 use Rattle.channel_calls.specs.Marked.{Marked, nothing, is_supported, longer, lowest, lowered, cut, answered, next_after, is_step, extends}
-use Rattle.net_model.specs.Held.{InTurn, InSteps, IsYoung, IsGood}
+use Rattle.net_model.specs.Good.{InTurn, InSteps, IsYoung, IsGood}
 use Rattle.chain_laws.specs.Laws.{Grown}
 use Rattle.chain_laws.proofs.Tests.{cond-true, and-left, and-right, some-eq, none-eq, is-none, eqb-true}
 use Rattle.chain_laws.proofs.Lists.{get-within, get-some, get-append, get-end, get-push}

@@ -4,7 +4,7 @@ use Rattle.nitro_bytes.specs.Parts.{FixedParts}
 use Rattle.nitro_bytes.specs.declared.chain.Signed.{Signed}
 use Rattle.channel_model.specs.Rules.{Rules, people, newest}
 use Rattle.channel_calls.specs.Marked.{Marked, is_supported, answered, extends}
-use Rattle.net_model.specs.Held.{IsGood}
+use Rattle.net_model.specs.Good.{IsGood}
 
 -- the longer chain is good again, ends with the state, and is supported from turn n-1 on
 pub record Grown (r : Rules) (f : FixedParts) (s : Signed) (w : Marked) : Type 0 where

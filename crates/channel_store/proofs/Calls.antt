@@ -7,8 +7,10 @@ use Rattle.std.proofs.lemmas.Option.{slice_get_within, get_or_from_slice_get}
 use Rattle.nitro_bytes.specs.declared.chain.Signed.{Signed}
 use Rattle.channel_model.specs.Rules.{Rules}
 use Rattle.channel_calls.specs.Marked.{Marked, marked_of, is_newer}
-use Rattle.channel_store.specs.Keeping.{note_fault, noting, with_chain, adopting, AreGood}
-use Rattle.channel_store.specs.Storing.{place_of, kept_of, kept_at, kept_with, refusal_at, refusal_of, fault_of, is_newer_at, is_adopted}
+use Rattle.channel_store.specs.Keeping.{noting, with_chain, adopting}
+use Rattle.channel_store.specs.Good.{note_fault, AreGood}
+use Rattle.channel_store.specs.Storing.{place_of, kept_of, kept_at, kept_with}
+use Rattle.channel_store.specs.Noting.{refusal_at, refusal_of, fault_of, is_newer_at, is_adopted}
 use Rattle.channel_store.specs.declared.fault.NoteFault.{NoteFault}
 use Rattle.channel_store.specs.declared.fault.NoteFault.TheVariants as faults
 use Rattle.channel_store.specs.declared.kept.Kept.{Kept}

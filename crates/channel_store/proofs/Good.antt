@@ -14,7 +14,8 @@ use Rattle.channel_calls.specs.declared.held_chain.HeldChain.{HeldChain}
 use Rattle.chain_laws.proofs.Tests.{and-left, true-le, false-le}
 use Rattle.chain_laws.proofs.Chains.{parts}
 use Rattle.chain_laws.proofs.Growing.{noted-good, nothing-young}
-use Rattle.channel_store.specs.Keeping.{is_held, is_as_new, with_chain, noting, adopting, held_chain, IsGoodKept, AreGood, AreSupported}
+use Rattle.channel_store.specs.Keeping.{is_held, with_chain, noting, adopting, held_chain}
+use Rattle.channel_store.specs.Good.{is_as_new, IsGoodKept, AreGood, AreSupported}
 use Rattle.channel_store.specs.Storing.{place_of, kept_of, kept_at, kept_with, added}
 use Rattle.channel_store.specs.declared.kept.Kept.{Kept}
 

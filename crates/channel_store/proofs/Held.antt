@@ -8,7 +8,8 @@ use Rattle.nitro_bytes.specs.declared.fault.StepFault.{StepFault}
 use Rattle.channel_model.specs.Words.{fault_if, ◌⊳◌}
 use Rattle.channel_model.specs.Rules.{Rules, newest, is_signed_well}
 use Rattle.channel_calls.specs.Marked.{marked_of, chain_of, answered, is_step, extends}
-use Rattle.channel_store.specs.Keeping.{is_ended, next_of, step_after, step_of, note_fault, last_after, with_chain, noting}
+use Rattle.channel_store.specs.Keeping.{is_ended, next_of, step_after, step_of, last_after, with_chain, noting}
+use Rattle.channel_store.specs.Good.{note_fault}
 use Rattle.channel_store.specs.declared.fault.NoteFault.{NoteFault}
 use Rattle.channel_store.specs.declared.fault.NoteFault.TheVariants as faults
 use Rattle.channel_store.specs.declared.kept.Kept.{Kept}

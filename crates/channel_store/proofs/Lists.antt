@@ -8,7 +8,8 @@ use Rattle.channel_calls.specs.declared.held_chain.HeldChain.{HeldChain}
 use Rattle.channel_calls.specs.declared.held_chain.Known.{Known}
 use Rattle.channel_calls.specs.declared.held_chain.Place.{Place}
 use Rattle.chain_laws.proofs.Tests.{and-left, and-right, eqb-true}
-use Rattle.channel_store.specs.Keeping.{is_held, held_chain, known_last, named, known_state, place_in, are_alike}
+use Rattle.channel_store.specs.Keeping.{is_held, held_chain, known_last, named, known_state, place_in}
+use Rattle.channel_store.specs.Good.{are_alike}
 use Rattle.channel_store.specs.declared.kept.Kept.{Kept}
 
 module _ {Y : Type 0} (h : Kept → List Y) where

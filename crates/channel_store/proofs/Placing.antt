@@ -10,8 +10,9 @@ use Rattle.channel_calls.specs.declared.held_chain.Known.{Known}
 use Rattle.channel_calls.specs.declared.held_chain.Place.{Place}
 use Rattle.channel_model.specs.Rules.{Rules}
 use Rattle.channel_calls.specs.Marked.{Marked, marked_of, is_newer}
-use Rattle.channel_store.specs.Keeping.{IsLent, IsGoodKept, AreGood}
-use Rattle.channel_store.specs.Storing.{place_of, is_newer_at, is_adopted}
+use Rattle.channel_store.specs.Good.{IsLent, IsGoodKept, AreGood}
+use Rattle.channel_store.specs.Storing.{place_of}
+use Rattle.channel_store.specs.Noting.{is_newer_at, is_adopted}
 use Rattle.channel_store.specs.declared.kept.Kept.{Kept}
 
 abbrev pub none : Kept

@@ -1,2 +1,4 @@
 pub mod Keeping
 pub mod Storing
+pub mod Good
+pub mod Noting

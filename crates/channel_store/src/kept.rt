@@ -8,7 +8,8 @@ ghost use Rattle.channel_model.specs.Chains.{mover};
 ghost use Rattle.channel_model.specs.Rules.{people, newest, is_signed_well};
 ghost use Rattle.channel_calls.specs.Marked.{marked_of, is_supported, is_newer, next_after};
 ghost use Rattle.support_chain.specs.Real.{real};
-ghost use Rattle.channel_store.specs.Keeping.{is_held, is_ended, next_of, step_of, note_fault, is_as_new, last_after, with_chain, noting, IsGoodKept};
+ghost use Rattle.channel_store.specs.Keeping.{is_held, is_ended, next_of, step_of, last_after, with_chain, noting};
+ghost use Rattle.channel_store.specs.Good.{note_fault, is_as_new, IsGoodKept};
 
 use crate::fault::NoteFault;
 use channel_calls::{answered, newest, top_turn};

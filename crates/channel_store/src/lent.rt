@@ -4,7 +4,8 @@ ghost use Rattle.std.specs.Prelude.{◌≡◌, ◌<◌, ◌≤◌, length, map, 
 ghost use Rattle.std.specs.Option.{option_map, option_to_list};
 ghost use Rattle.std.specs.List.{flat_map};
 ghost use Rattle.support_chain.specs.Steps.{persons};
-ghost use Rattle.channel_store.specs.Keeping.{held_chain, known_last, known_state, place_in, are_alike, IsLent, IsLentOne};
+ghost use Rattle.channel_store.specs.Keeping.{held_chain, known_last, known_state, place_in};
+ghost use Rattle.channel_store.specs.Good.{are_alike, IsLent, IsLentOne};
 
 use crate::kept::Kept;
 use channel_calls::{HeldChain, Known, Place};

@@ -10,8 +10,10 @@ ghost use Rattle.channel_name.specs.Digests.{name_of_channel};
 ghost use Rattle.channel_model.specs.Rules.{people, newest};
 ghost use Rattle.support_chain.specs.Real.{real};
 ghost use Rattle.channel_calls.specs.Marked.{marked_of};
-ghost use Rattle.channel_store.specs.Keeping.{held_chain, known_state, place_in, next_of, noting, adopting, AreGood, AreSupported};
-ghost use Rattle.channel_store.specs.Storing.{place_of, kept_of, kept_with, added, refusal_of, Notes, is_adopted, Adopts};
+ghost use Rattle.channel_store.specs.Keeping.{held_chain, known_state, place_in, next_of, noting, adopting};
+ghost use Rattle.channel_store.specs.Good.{AreGood, AreSupported};
+ghost use Rattle.channel_store.specs.Storing.{place_of, kept_of, kept_with, added};
+ghost use Rattle.channel_store.specs.Noting.{refusal_of, Notes, is_adopted, Adopts};
 
 use crate::fault::NoteFault;
 use crate::kept::Kept;
@@ -33,7 +35,7 @@ pub struct Store {
 impl Model for Store {
     ghost use Rattle.std.specs.Prelude.{List};
     ghost use Rattle.channel_store.specs.declared.kept.Kept.{Kept};
-    ghost use Rattle.channel_store.specs.Keeping.{IsStore};
+    ghost use Rattle.channel_store.specs.Good.{IsStore};
     ghost use Rattle.support_chain.specs.Real.{real};
 
     ghost Value = { List Kept };

@@ -19,7 +19,8 @@ use Rattle.channel_calls.specs.declared.entry.Entry.{Entry}
 use Rattle.net_model.specs.Held.{held}
 use Rattle.net_model.specs.Honest.{Honest, HonestIn}
 use Rattle.net_model.specs.Journals.{In, Line, made_in}
-use Rattle.net_model.specs.Premises.{Unforged, NoCollision, AreValid}
+use Rattle.net_model.specs.Premises.{Unforged}
+use Rattle.net_model.specs.Occurring.{NoCollision, AreValid}
 use Rattle.net_model.specs.Safety.{IsChannelOf}
 use Rattle.share_model.specs.Places.{channels, last_made, IsPlace}
 use Rattle.share_laws.specs.Finality.{StepsKeepPossible}

@@ -16,7 +16,8 @@ use Rattle.channel_calls.specs.declared.entry.Entry.{Entry}
 use Rattle.channel_calls.specs.declared.event.Deed.{Deed}
 use Rattle.channel_calls.specs.declared.event.Deed.TheVariants as deeds
 use Rattle.channel_calls.proofs.Names.{same_bytes, bytes_eq_self}
-use Rattle.net_model.specs.Held.{IsGood, note, show, held}
+use Rattle.net_model.specs.Held.{note, show, held}
+use Rattle.net_model.specs.Good.{IsGood}
 use Rattle.net_model.specs.Journals.{In, Line, is_watched, opens, some_if, made_in, told_in, noted_in}
 use Rattle.net_model.specs.Strings.{WasSigned}
 use Rattle.share_model.specs.Places.{IsPlace}

@@ -14,7 +14,8 @@ use Rattle.net_model.specs.Hashed.{hashed}
 use Rattle.net_model.specs.Held.{held}
 use Rattle.net_model.specs.Honest.{Honest}
 use Rattle.net_model.specs.Journals.{In, Line, made_in, noted_in}
-use Rattle.net_model.specs.Premises.{Unforged, NoCollision, AreValid}
+use Rattle.net_model.specs.Premises.{Unforged}
+use Rattle.net_model.specs.Occurring.{NoCollision, AreValid}
 use Rattle.history_laws.specs.Hashing.{Hashes}
 use Rattle.share_model.specs.Places.{channels, last_made, outcomes_of, IsPlace}
 use Rattle.share_laws.specs.Finality.{StandsFor, StepsKeepPossible}

@@ -27,10 +27,11 @@ use Rattle.channel_calls.specs.declared.event.Deed.TheVariants as deeds
 use Rattle.net_model.specs.Journals.{In, Line, made_in, is_challenge}
 use Rattle.net_model.specs.Held.{held}
 use Rattle.net_model.specs.Strings.{signed_of, string_of, signed_in, states_in, WasSignedBy}
-use Rattle.net_model.specs.Premises.{in_call, in_line, Unforged, NoCollision, AreValid}
+use Rattle.net_model.specs.Premises.{Unforged}
+use Rattle.net_model.specs.Occurring.{NoCollision, AreValid, in_call, in_line}
 use Rattle.net_model.specs.Honest.{Honest, HonestLine, HonestIn, EndsWith}
 use Rattle.net_model.specs.Cleared.{is_conclude, clears, cleared}
-use Rattle.net_model.specs.Safety.{FewAreCleared}
+use Rattle.net_model.specs.Steps.{FewAreCleared}
 use Rattle.chain_laws.proofs.Tests.{cond-false, cond-true, clash, le_or_lt, and-left, and-right, some-eq, none-eq, lt-false, le-false, le-true, true-le, eqb-true}
 use Rattle.chain_laws.proofs.Lists.{Split, split_of, In-append_right, In-append_cases, Suffix, suffix_of, append_assoc'}
 use Rattle.history_laws.proofs.Rowing.{legal-suffix, now-rises}

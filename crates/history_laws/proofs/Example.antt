@@ -25,7 +25,8 @@ use Rattle.channel_calls.specs.declared.event.NodeRefusal.{NodeRefusal}
 use Rattle.channel_calls.proofs.Names.{same_bytes}
 use Rattle.net_model.specs.Journals.{In, Line, opened, some_if, made_in, noted_in, is_challenge}
 use Rattle.net_model.specs.Strings.{signed_in, states_in, outcomes_in, signed_of, WasSignedBy}
-use Rattle.net_model.specs.Premises.{Unforged, OccursFixed, OccursState, OccursOutcome, in_call, in_line, NoCollision, AreValid, Looked, InTime}
+use Rattle.net_model.specs.Premises.{Unforged, Looked, InTime}
+use Rattle.net_model.specs.Occurring.{OccursFixed, OccursState, OccursOutcome, NoCollision, AreValid, in_call, in_line}
 use Rattle.net_model.specs.Honest.{key_at, HonestAt, HonestIn, Honest}
 use Rattle.history_laws.specs.Witness.{RunsOutSafely}
 use Rattle.chain_laws.proofs.Tests.{clash, some-eq, none-eq}

@@ -20,7 +20,8 @@ use Rattle.channel_calls.specs.declared.entry.Entry.{Entry}
 use Rattle.channel_calls.proofs.Names.{same_bytes, bytes_eq_self}
 use Rattle.net_model.specs.Journals.{In, Line, made_in, noted_in, opens, is_watched}
 use Rattle.net_model.specs.Held.{note, show, held}
-use Rattle.net_model.specs.Premises.{Unforged, NoCollision, AreValid, RunsOut, Looked, InTime}
+use Rattle.net_model.specs.Premises.{Unforged, RunsOut, Looked, InTime}
+use Rattle.net_model.specs.Occurring.{NoCollision, AreValid}
 use Rattle.net_model.specs.Honest.{HonestLine, HonestIn, Honest}
 use Rattle.net_model.specs.Safety.{IsChannelOf, IsNotOlder, SettlesWell, IsSafe}
 use Rattle.chain_laws.proofs.Tests.{cond-false, cond-true, clash, le_or_lt, false-le, and-left, and-right, and-both, some-eq}

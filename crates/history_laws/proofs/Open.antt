@@ -19,7 +19,7 @@ use Rattle.channel_calls.specs.declared.row.Row.{Row}
 use Rattle.channel_calls.specs.declared.entry.Entry.{Entry}
 use Rattle.net_model.specs.Journals.{In, Line}
 use Rattle.net_model.specs.Strings.{states_in}
-use Rattle.net_model.specs.Premises.{in_call}
+use Rattle.net_model.specs.Occurring.{in_call}
 use Rattle.chain_laws.proofs.Tests.{cond-false, cond-true, and-left, le-false}
 use Rattle.chain_laws.proofs.Lists.{In-append_right, append_assoc'}
 use Rattle.history_laws.proofs.Rowing.{row-quiet, legal-suffix}

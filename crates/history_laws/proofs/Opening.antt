@@ -8,7 +8,8 @@ use Rattle.channel_calls.specs.Marked.{Marked, nothing, is_supported, answered, 
 use Rattle.channel_calls.specs.Shown.{shown}
 use Rattle.channel_calls.specs.declared.entry.Entry.{Entry}
 use Rattle.net_model.specs.Journals.{Line, opens, noted_in}
-use Rattle.net_model.specs.Held.{note, show, held, IsGood, IsGoodIfAny}
+use Rattle.net_model.specs.Held.{note, show, held}
+use Rattle.net_model.specs.Good.{IsGood, IsGoodIfAny}
 use Rattle.chain_laws.proofs.Tests.{and-left}
 use Rattle.chain_laws.proofs.Growing.{noted-good, nothing-young}
 use Rattle.history_laws.proofs.Places.{slot-lasts}

@@ -23,7 +23,8 @@ use Rattle.channel_calls.proofs.Names.{same_bytes, bytes_eq_self}
 use Rattle.net_model.specs.Journals.{In, Line, some_if, made_in, noted_in, is_watched}
 use Rattle.net_model.specs.Held.{note, show, held}
 use Rattle.net_model.specs.Strings.{signed_marks, signed_in, states_in, signed_of, string_of, WasSignedBy}
-use Rattle.net_model.specs.Premises.{Unforged, OccursFixed, in_call, in_line, NoCollision, AreValid}
+use Rattle.net_model.specs.Premises.{Unforged}
+use Rattle.net_model.specs.Occurring.{OccursFixed, NoCollision, AreValid, in_call, in_line}
 use Rattle.net_model.specs.Honest.{key_at, HonestAt, HonestLine, HonestIn}
 use Rattle.chain_laws.proofs.Tests.{cond-false, cond-true, and-left, and-right, some-eq, none-eq}
 use Rattle.chain_laws.proofs.Lists.{Split, split_of, In-append_left, In-append_right, In-append_cases, In-get, Suffix, suffix_of, append_assoc', length-up}

@@ -18,7 +18,7 @@ use Rattle.channel_calls.specs.declared.row.Row.{Row}
 use Rattle.channel_calls.specs.declared.entry.Entry.{Entry}
 use Rattle.net_model.specs.Journals.{In}
 use Rattle.net_model.specs.Strings.{outcomes_in}
-use Rattle.net_model.specs.Premises.{OccursOutcome}
+use Rattle.net_model.specs.Occurring.{OccursOutcome}
 use Rattle.history_laws.specs.Settled.{SettlesOnOccurring, FinalOutcomesAreTold}
 use Rattle.chain_laws.proofs.Tests.{cond-false, cond-true, and-left, and-right}
 use Rattle.history_laws.proofs.Final.{mode-final}

@@ -9,9 +9,10 @@ use Rattle.channel_calls.specs.Marked.{is_supported}
 use Rattle.channel_calls.specs.Shown.{shown}
 use Rattle.channel_calls.specs.declared.entry.Entry.{Entry}
 use Rattle.net_model.specs.Journals.{In, Line, made_in}
-use Rattle.net_model.specs.Premises.{Unforged, NoCollision, AreValid}
+use Rattle.net_model.specs.Premises.{Unforged}
+use Rattle.net_model.specs.Occurring.{NoCollision, AreValid}
 use Rattle.net_model.specs.Honest.{Honest, HonestIn}
-use Rattle.net_model.specs.Safety.{StepsAfter, IsLast, HasStepsAfterLast}
+use Rattle.net_model.specs.Steps.{StepsAfter, IsLast, HasStepsAfterLast}
 use Rattle.chain_laws.proofs.Tests.{some-eq}
 use Rattle.chain_laws.proofs.Lists.{Suffix, suffix_of, append_assoc'}
 use Rattle.chain_laws.proofs.Chains.{OwnState, own_state}

@@ -21,7 +21,7 @@ use Rattle.channel_calls.specs.declared.event.Deed.TheVariants as deeds
 use Rattle.net_model.specs.Journals.{In, Line, opened}
 use Rattle.net_model.specs.Strings.{states_in, given_in, outcomes_in, signed_of}
 use Rattle.net_model.specs.Hashed.{of_fixed, of_outcome, of_state, of_states, of_op, of_entry, of_deed, of_line, hashed}
-use Rattle.net_model.specs.Premises.{OccursFixed, OccursState, OccursOutcome, in_call, in_line, AreValid}
+use Rattle.net_model.specs.Occurring.{OccursFixed, OccursState, OccursOutcome, AreValid, in_call, in_line}
 use Rattle.history_laws.specs.Hashing.{Hashes, StringsTell, HashedOutcomesAreNotOlder, HashedChainsHaveTheSteps, FewHashedChallengesAreCleared}
 use Rattle.chain_laws.proofs.Tests.{some-eq}
 use Rattle.net_model.proofs.Members.{In-append_left, In-append_right, In-append_cases, In-map, In-flat_map, mapped, contains}

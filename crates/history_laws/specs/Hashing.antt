@@ -10,9 +10,11 @@ use Rattle.channel_calls.specs.History.{Legal}
 use Rattle.channel_calls.specs.declared.entry.Entry.{Entry}
 use Rattle.net_model.specs.Journals.{Line}
 use Rattle.net_model.specs.Hashed.{hashed}
-use Rattle.net_model.specs.Premises.{Unforged, NoCollision, AreValid, InTime}
+use Rattle.net_model.specs.Premises.{Unforged, InTime}
+use Rattle.net_model.specs.Occurring.{NoCollision, AreValid}
 use Rattle.net_model.specs.Honest.{Honest}
-use Rattle.net_model.specs.Safety.{IsSafe, HasStepsAfterLast, FewAreCleared}
+use Rattle.net_model.specs.Safety.{IsSafe}
+use Rattle.net_model.specs.Steps.{HasStepsAfterLast, FewAreCleared}
 
 -- The rules name channels by the SHA-256 of their fixed parts; the digest of a state is that of its channel and itself,
 -- and that of an outcome its own.

@@ -5,10 +5,13 @@ use Rattle.channel_model.specs.Rules.{Rules, people, KeepsFinal}
 use Rattle.channel_calls.specs.History.{Legal}
 use Rattle.channel_calls.specs.declared.entry.Entry.{Entry}
 use Rattle.net_model.specs.Journals.{Line}
-use Rattle.net_model.specs.Held.{held, IsGoodIfAny}
-use Rattle.net_model.specs.Premises.{Unforged, NoCollision, AreValid, InTime}
+use Rattle.net_model.specs.Held.{held}
+use Rattle.net_model.specs.Good.{IsGoodIfAny}
+use Rattle.net_model.specs.Premises.{Unforged, InTime}
+use Rattle.net_model.specs.Occurring.{NoCollision, AreValid}
 use Rattle.net_model.specs.Honest.{Honest, TakesPart}
-use Rattle.net_model.specs.Safety.{IsSafe, HasStepsAfterLast, FewAreCleared}
+use Rattle.net_model.specs.Safety.{IsSafe}
+use Rattle.net_model.specs.Steps.{HasStepsAfterLast, FewAreCleared}
 
 -- no outcome becomes final for an honest participant with watchers in time that is older than what it noted or was
 -- shown

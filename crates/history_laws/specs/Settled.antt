@@ -6,7 +6,7 @@ use Rattle.channel_model.specs.Rules.{Rules}
 use Rattle.channel_calls.specs.History.{Legal, row, mode, settled}
 use Rattle.channel_calls.specs.declared.entry.Entry.{Entry}
 use Rattle.net_model.specs.Journals.{Line}
-use Rattle.net_model.specs.Premises.{OccursOutcome, NoCollision}
+use Rattle.net_model.specs.Occurring.{OccursOutcome, NoCollision}
 
 -- the channel has settled on an outcome of an entry, whose digest its row records
 pub record SettlesOnOccurring (r : Rules) (channel : List ℕ) (h : List Entry) : Type 0 where

@@ -6,7 +6,8 @@ use Rattle.channel_model.specs.Rules.{Rules, KeepsFinal}
 use Rattle.channel_calls.specs.History.{Legal, mode}
 use Rattle.channel_calls.specs.declared.entry.Entry.{Entry}
 use Rattle.net_model.specs.Journals.{Line}
-use Rattle.net_model.specs.Premises.{Unforged, NoCollision, AreValid, InTime}
+use Rattle.net_model.specs.Premises.{Unforged, InTime}
+use Rattle.net_model.specs.Occurring.{NoCollision, AreValid}
 use Rattle.net_model.specs.Honest.{Honest}
 use Rattle.net_model.specs.Safety.{IsChannelOf}
 

@@ -22,7 +22,8 @@ use Rattle.channel_calls.specs.declared.view.ChannelView.{ChannelView}
 use Rattle.channel_calls.proofs.Conservation.{held_fits, paid_fits}
 use Rattle.channel_calls.proofs.Legality.{HasSource, moved_cons, pays_what_is_held}
 use Rattle.channel_calls.proofs.Names.{same_bytes, bytes_eq_self}
-use Rattle.history_view.specs.Views.{view_of, held_amount, paid_amount, channel_gave, channel_got, views_gave, views_got, views_moved, paid_got, paid_moved, HasRoom, HaveRoom}
+use Rattle.history_view.specs.Views.{view_of, held_amount, paid_amount, channel_gave, channel_got, views_gave, views_got, views_moved, paid_got, paid_moved}
+use Rattle.history_view.specs.Room.{HasRoom, HaveRoom}
 use Rattle.history_view.proofs.Viewing.{view_with, amount_with, balance_with}
 
 -- ---- one flow

@@ -12,7 +12,8 @@ use Rattle.channel_calls.specs.declared.view.ChannelView.{ChannelView}
 use Rattle.channel_calls.specs.declared.view.WorldView.{WorldView}
 use Rattle.channel_calls.specs.Naming.{name_of, NamesChannels}
 use Rattle.history_view.specs.Views.{channel_turned, views_with, views_turned, views_moved, views_paid, paid_moved, followed}
-use Rattle.history_view.specs.Standing.{OfFew, StandsFor}
+use Rattle.history_view.specs.Standing.{StandsFor}
+use Rattle.history_view.specs.Few.{OfFew}
 use Rattle.history_view.proofs.Stands.{following_keeps_standing}
 
 turned_same : (named other : FixedParts → List ℕ) → ((f : FixedParts) → named f ≡ other f) → (op : Op) (f : Option FixedParts) (told : Option (ℕ × Option ℕ)) (views : List ChannelView)

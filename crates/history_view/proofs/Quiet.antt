@@ -11,7 +11,8 @@ use Rattle.channel_calls.specs.declared.call.Op.TheVariants as ops
 use Rattle.channel_calls.specs.declared.refusal.Reply.{Reply}
 use Rattle.channel_calls.specs.declared.refusal.Reply.TheVariants.{Held, Until, Opened, Concluded, Paid, Now, No}
 use Rattle.channel_calls.specs.declared.view.ChannelView.{ChannelView}
-use Rattle.history_view.specs.Views.{views_turned, HaveRoom}
+use Rattle.history_view.specs.Views.{views_turned}
+use Rattle.history_view.specs.Room.{HaveRoom}
 
 untold : (named : FixedParts → List ℕ) (op : Op) (f : Option FixedParts) (views : List ChannelView) → views_turned named op f None views ≡ views
 untold named op None views = refl

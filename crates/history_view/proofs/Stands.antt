@@ -22,8 +22,10 @@ use Rattle.channel_calls.proofs.Conservation.{within_amounts}
 use Rattle.channel_calls.proofs.Legality.{covered}
 use Rattle.channel_calls.proofs.Names.{bytes_eq_self}
 use Rattle.channel_calls.proofs.Telling.{refused_tells}
-use Rattle.history_view.specs.Views.{view_of, held_amount, views_moved, views_paid, followed, is_short, turns_short, CanFollow}
-use Rattle.history_view.specs.Standing.{IsChainOf, KnowsChannel, StandsFor, OfFew, UnseenStands, FollowingKeepsStanding}
+use Rattle.history_view.specs.Views.{view_of, held_amount, views_moved, views_paid, followed}
+use Rattle.history_view.specs.Room.{is_short, turns_short, CanFollow}
+use Rattle.history_view.specs.Standing.{IsChainOf, KnowsChannel, StandsFor, UnseenStands, FollowingKeepsStanding}
+use Rattle.history_view.specs.Few.{OfFew}
 use Rattle.history_view.proofs.Accepting.{is_challenged_is, Tells, turning_names, turning_tells}
 use Rattle.history_view.proofs.Viewing.{held_turned, IsBesideHeld, kept_moved, IsBesideRest, kept_paid}
 use Rattle.history_view.proofs.Turns.{turned_views, turned_view, view_turned, turn_turned, deadline_turned, settled_turned}

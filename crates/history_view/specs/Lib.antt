@@ -1,2 +1,4 @@
 pub mod Views
 pub mod Standing
+pub mod Few
+pub mod Room

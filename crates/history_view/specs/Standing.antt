@@ -2,10 +2,9 @@
 -- says.
 use Rattle.std.specs.Prelude.{◌≡◌, ℕ, ◌≤◌, List, [], ◌∷◌, length, nat_lt, Option, Some, None, if◌then◌else◌}
 use Rattle.std.specs.Option.{option_map}
-use Rattle.nitro_bytes.specs.Parts.{FixedParts}
 use Rattle.nitro_bytes.specs.declared.chain.Chain.{Chain}
 use Rattle.deadline_clock.specs.declared.standing.Standing.TheVariants.{Challenged}
-use Rattle.channel_model.specs.Rules.{Rules, people, top_turn}
+use Rattle.channel_model.specs.Rules.{Rules, top_turn}
 use Rattle.channel_calls.specs.Marked.{Marked, marked_of}
 use Rattle.channel_calls.specs.Rows.{fixed_of}
 use Rattle.channel_calls.specs.Shown.{challenged, shown}
@@ -13,7 +12,9 @@ use Rattle.channel_calls.specs.History.{Legal, now_of, row, mode, settled, held_
 use Rattle.channel_calls.specs.declared.entry.Entry.{Entry}
 use Rattle.channel_calls.specs.declared.view.ChannelView.{ChannelView}
 use Rattle.channel_calls.specs.declared.view.WorldView.{WorldView}
-use Rattle.history_view.specs.Views.{view_of, held_amount, paid_amount, followed, unseen, CanFollow}
+use Rattle.history_view.specs.Views.{view_of, held_amount, paid_amount, followed, unseen}
+use Rattle.history_view.specs.Room.{CanFollow}
+use Rattle.history_view.specs.Few.{OfFew}
 
 -- a chain that was shown and the newest before it: the newer one, at equal turns the later one; a chain of no state is
 -- none
@@ -55,11 +56,6 @@ pub record StandsFor (r : Rules) (h : List Entry) (w : WorldView) : Type 0 where
 -- the view of nothing stands for no entry
 abbrev pub UnseenStands : Type 0
 UnseenStands = (r : Rules) → StandsFor r [] unseen
-
--- the op is of no row, or of a channel of at most four people, as all values are
-abbrev pub OfFew : Option FixedParts → Type 0
-OfFew None = Unit {0}
-OfFew (Some f) = people f ≤ 4
 
 -- a view that stands for a legal history can follow its next entry, and then stands for the history with it
 pub record Follows (r : Rules) (h : List Entry) (e : Entry) (w : WorldView) : Type 0 where

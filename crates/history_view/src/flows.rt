@@ -1,7 +1,8 @@
 //! What a flow makes of what channels hold and of what persons were paid.
 
 ghost use Rattle.std.specs.Prelude.{◌≡◌, ◌<◌, ◌+◌, ◌^◌, OnOk};
-ghost use Rattle.history_view.specs.Views.{held_amount, view_of, channel_gave, channel_got, views_gave, views_got, paid_got, views_with, HasRoom};
+ghost use Rattle.history_view.specs.Views.{held_amount, view_of, channel_gave, channel_got, views_gave, views_got, paid_got, views_with};
+ghost use Rattle.history_view.specs.Room.{HasRoom};
 
 use crate::balances::{lower_held, raise_held, raise_paid};
 use crate::channels::place_for;

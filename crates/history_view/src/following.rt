@@ -7,8 +7,10 @@ ghost use Rattle.channel_calls.specs.Rows.{fixed_of};
 ghost use Rattle.channel_calls.specs.Told.{told_row};
 ghost use Rattle.channel_calls.specs.declared.entry.Entry.{Entry as AnEntry};
 ghost use Rattle.channel_calls.specs.Naming.{name_of, NamesChannels};
-ghost use Rattle.history_view.specs.Standing.{OfFew, StandsFor};
-ghost use Rattle.history_view.specs.Views.{views_turned, views_moved, views_paid, paid_moved, followed, unseen, HaveRoom, turns_short, CanFollow};
+ghost use Rattle.history_view.specs.Standing.{StandsFor};
+ghost use Rattle.history_view.specs.Few.{OfFew};
+ghost use Rattle.history_view.specs.Views.{views_turned, views_moved, views_paid, paid_moved, followed, unseen};
+ghost use Rattle.history_view.specs.Room.{HaveRoom, turns_short, CanFollow};
 
 use crate::flows::move_funds;
 use crate::payments::{pay_item, payment_of};

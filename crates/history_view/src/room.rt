@@ -7,7 +7,8 @@ ghost use Rattle.channel_calls.specs.History.{flow_of};
 ghost use Rattle.channel_calls.specs.Naming.{name_of};
 ghost use Rattle.channel_calls.specs.Rows.{fixed_of};
 ghost use Rattle.channel_calls.specs.Told.{told_row};
-ghost use Rattle.history_view.specs.Views.{view_of, views_gave, held_amount, HasRoom, HaveRoom, is_short, turns_short, CanFollow};
+ghost use Rattle.history_view.specs.Views.{view_of, views_gave, held_amount};
+ghost use Rattle.history_view.specs.Room.{HasRoom, HaveRoom, is_short, turns_short, CanFollow};
 
 use crate::readers::{held_amount, paid_amount, view_of};
 use channel_calls::{Call, Entry, Flow, Op, WorldView, fixed_of, flow_of, told_row};

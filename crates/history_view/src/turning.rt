@@ -6,7 +6,8 @@ ghost use Rattle.channel_calls.specs.History.{settles};
 ghost use Rattle.channel_calls.specs.Rows.{fixed_of};
 ghost use Rattle.channel_calls.specs.Told.{told_row};
 ghost use Rattle.channel_calls.specs.Naming.{name_of};
-ghost use Rattle.history_view.specs.Views.{newer_shown, shown_after, channel_turned, views_turned, is_short, turns_short};
+ghost use Rattle.history_view.specs.Views.{newer_shown, shown_after, channel_turned, views_turned};
+ghost use Rattle.history_view.specs.Room.{is_short, turns_short};
 
 use crate::channels::place_for;
 use crate::lowering::outcome_of;

@@ -59,7 +59,7 @@ keeps_b : (seed : ℕ) → bytes_eq (digest_of 65 seed) (digest_of 66 seed) ≡ 
 keeps_b seed apart = record { named = refl; fit = refl; apart = two_people (bytes_eq (digest_of 65 seed) (digest_of 66 seed)) apart; raced = refl }
 
 -- people of two digests have two keys
-two_keys : (a b : List ℕ) → bytes_eq (name_of_person a) (name_of_person b) ≡ false → bytes_eq a b ≡ false
+pub two_keys : (a b : List ℕ) → bytes_eq (name_of_person a) (name_of_person b) ≡ false → bytes_eq a b ≡ false
 two_keys a b apart = by (bytes_eq a b) refl
   where
     by : (t : Bool) → bytes_eq a b ≡ t → bytes_eq a b ≡ false
@@ -70,7 +70,7 @@ two_keys a b apart = by (bytes_eq a b) refl
         absurd (cc)
 
 -- their fixed part
-is_fixed : (a b : List ℕ) → IsKey a → IsKey b → bytes_eq a b ≡ false → IsFixed (fixed_with (a ∷ b ∷ []) 1 1 10)
+pub is_fixed : (a b : List ℕ) → IsKey a → IsKey b → bytes_eq a b ≡ false → IsFixed (fixed_with (a ∷ b ∷ []) 1 1 10)
 is_fixed a b fits_a fits_b apart = record {
   at_least_two = omega arith;
   at_most_four = omega arith;

@@ -7,3 +7,6 @@ pub mod Honest
 pub mod Cleared
 pub mod Safety
 pub mod Valid
+pub mod Steps
+pub mod Occurring
+pub mod Good

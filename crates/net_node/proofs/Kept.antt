@@ -8,7 +8,8 @@ use Rattle.channel_calls.specs.declared.call.Call.{Call}
 use Rattle.channel_calls.specs.declared.event.NodeRefusal.{NodeRefusal}
 use Rattle.channel_calls.specs.declared.held_chain.HeldChain.{HeldChain}
 use Rattle.channel_store.specs.Keeping.{held_chain}
-use Rattle.net_party.specs.Ways.{RefusesAs, followed, looked, ComeNext, HasLooked}
+use Rattle.net_party.specs.Ways.{followed, looked}
+use Rattle.net_party.specs.Histories.{RefusesAs, ComeNext, HasLooked}
 use Rattle.net_party.specs.declared.command.Command.{Command}
 use Rattle.net_party.specs.declared.command.Command.TheVariants.{Open, OpenOn, OpenVirtual, Pay, Close, Exit}
 use Rattle.net_party.specs.declared.lookout.Lookout.{Lookout}
@@ -16,7 +17,8 @@ use Rattle.net_party.specs.declared.outs.NodeFault.{NodeFault}
 use Rattle.net_party.specs.declared.outs.NodeFault.TheVariants.{Refused, NoMemory}
 use Rattle.node_laws.proofs.Calling.{lost_nodes_stand}
 use Rattle.node_model.specs.Giving.{after_tick, command_answers}
-use Rattle.node_model.specs.Nodes.{NodeOf, Stands, handled, told_to, saw_all, watched}
+use Rattle.node_model.specs.Nodes.{NodeOf, handled, told_to, saw_all, watched}
+use Rattle.node_model.specs.Standing.{Stands}
 use Rattle.node_model.specs.Playing.{Signing, signing_of}
 use Rattle.node_objective.specs.Answers.{SameJournal, HandleAnswers, CommandAnswers}
 use Rattle.node_tables.specs.Stages.{stages}
@@ -24,7 +26,8 @@ use Rattle.node_ways.proofs.Answering.{answers-so}
 use Rattle.node_ways.proofs.Kept.{nodes_are_kept, lost-placed, told-placed}
 use Rattle.node_model.specs.Exiting.{leaves}
 use Rattle.node_ways.specs.Gains.{shares_known}
-use Rattle.node_ways.specs.Ways.{Numbered, unless_lost, noting_if, ways, IsPlaced, seen_of}
+use Rattle.node_ways.specs.Ways.{Numbered, unless_lost, noting_if, ways, seen_of}
+use Rattle.node_ways.specs.Placed.{IsPlaced}
 use Rattle.support_chain.specs.Real.{real}
 use Rattle.net_node.specs.Notes.{note_if}
 
@@ -33,8 +36,8 @@ pub awake : (p : Numbered) (change : NodeOf → NodeOf) (new : NodeOf) → p.nod
 awake p change new kept is = ap (λ (b : Bool). cond b p (record p { node = change p.node })) kept ∙ ap (λ (n : NodeOf). record p { node = n }) (sym is)
 
 -- the node stands for what it stood for
-abbrev pub Keeps : List Entry → Numbered → NodeOf → Type 0
-Keeps h p new = Stands stages real (signing_of p.node.signer) h p.node → Stands stages real (signing_of p.node.signer) h new
+abbrev pub KeepsStanding : List Entry → Numbered → NodeOf → Type 0
+KeepsStanding h p new = Stands stages real (signing_of p.node.signer) h p.node → Stands stages real (signing_of p.node.signer) h new
 
 -- a tick that memory didn't cut off makes of it what its ways say
 pub tick_makes : {A E : Type 0} (p q : Numbered) (new : NodeOf) (result : Result A E) → q ≡ p
@@ -45,7 +48,7 @@ tick_makes p q new (Err fault) same ok = tt
 
 pub tick_keeps : {A E : Type 0} (p : Numbered) (new : NodeOf) (result : Result A E)
     → OnOk result ((p.node.is_lost ≡ false) × (new ≡ after_tick stages real (signing_of p.node.signer) p.node)) → OnErr result (new.is_lost ≡ true)
-    → ((h : List Entry) → Legal real h → Keeps h p new) → new.signer ≡ p.node.signer
+    → ((h : List Entry) → Legal real h → KeepsStanding h p new) → new.signer ≡ p.node.signer
     → (h : List Entry) → Legal real h → IsPlaced h p → IsPlaced h (record p { node = new })
 tick_keeps p new (Ok outs) ok err keeps signer h legal is =
     subst (IsPlaced h) (awake p (λ n. after_tick stages real (signing_of n.signer) n) new ok.0 ok.1) (nodes_are_kept.ticked h p legal is)
@@ -119,7 +122,7 @@ commanded_is p step command new noted kept new-is noted-is =
 -- one that is refused, or that memory failed
 pub failed_keeps : (p : Numbered) (step : ℕ) (command : Command) (new : NodeOf) (fault : NodeFault)
     → CommandAnswers stages real (signing_of p.node.signer) step command p.node new (Err fault)
-    → ((h : List Entry) → Legal real h → Keeps h p new) → new.signer ≡ p.node.signer
+    → ((h : List Entry) → Legal real h → KeepsStanding h p new) → new.signer ≡ p.node.signer
     → (h : List Entry) → Legal real h → IsPlaced h p → IsPlaced h (record p { node = new })
 failed_keeps p step command new (Refused refusal) answer keeps signer h legal is =
     subst (λ (n : NodeOf). IsPlaced h (record p { node = n })) (sym answer.2)
@@ -129,7 +132,7 @@ failed_keeps p step command new NoMemory answer keeps signer h legal is = lost-p
 -- ---- a message
 
 pub handle_keeps : {A : Type 0} (p : Numbered) (bytes : List ℕ) (new : NodeOf) (result : Result A NodeFault) → HandleAnswers stages real bytes p.node new result
-    → ((h : List Entry) → Legal real h → Keeps h p new) → new.signer ≡ p.node.signer
+    → ((h : List Entry) → Legal real h → KeepsStanding h p new) → new.signer ≡ p.node.signer
     → (h : List Entry) → Legal real h → IsPlaced h p → IsPlaced h (record p { node = new })
 handle_keeps p bytes new (Ok done) answer keeps signer h legal is =
     subst (IsPlaced h) (awake p (handled stages real bytes) new answer.0 answer.2) (nodes_are_kept.handled h bytes p legal is)

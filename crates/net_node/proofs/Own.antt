@@ -13,8 +13,10 @@ use Rattle.channel_model.specs.Chains.{mover}
 use Rattle.channel_model.specs.Rules.{people, signs, is_signed_well}
 use Rattle.channel_model.specs.Words.{fault_if, ◌⊳◌}
 use Rattle.channel_name.specs.Messages.{message_of_state}
-use Rattle.channel_store.specs.Keeping.{is_ended, next_of, step_of, note_fault}
-use Rattle.channel_store.specs.Storing.{kept_of, refusal_at, refusal_of}
+use Rattle.channel_store.specs.Keeping.{is_ended, next_of, step_of}
+use Rattle.channel_store.specs.Good.{note_fault}
+use Rattle.channel_store.specs.Storing.{kept_of}
+use Rattle.channel_store.specs.Noting.{refusal_at, refusal_of}
 use Rattle.channel_store.specs.declared.fault.NoteFault.TheVariants as faults
 use Rattle.channel_store.specs.declared.kept.Kept.{Kept}
 use Rattle.node_model.specs.Minds.{Mind, facts_of}

@@ -5,7 +5,8 @@ use Rattle.node_shares.proofs.Telling.{nodes_tell_shares}
 use Rattle.node_tables.specs.Stages.{stages}
 use Rattle.node_ways.proofs.Kept.{few-values}
 use Rattle.node_ways.specs.Commanded.{told}
-use Rattle.node_ways.specs.Ways.{ways, IsPlaced}
+use Rattle.node_ways.specs.Ways.{ways}
+use Rattle.node_ways.specs.Placed.{IsPlaced}
 use Rattle.support_chain.specs.Real.{real}
 use Rattle.told_party.specs.Telling.{SharesAreReal}
 use Rattle.net_node.specs.Shares.{is_lost, shares}

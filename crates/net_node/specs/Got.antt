@@ -25,7 +25,8 @@ use Rattle.node_ways.proofs.Kept.{few-values}
 use Rattle.node_model.specs.Exiting.{until_exit}
 use Rattle.node_ways.specs.Gains.{share_known, shares_in, shares_known}
 use Rattle.node_ways.specs.Commanded.{told}
-use Rattle.node_ways.specs.Ways.{Numbered, key_of, ways, seen_at, IsKnownAt, IsNoted, IsPlaced}
+use Rattle.node_ways.specs.Ways.{Numbered, key_of, ways}
+use Rattle.node_ways.specs.Placed.{seen_at, IsKnownAt, IsNoted, IsPlaced}
 use Rattle.share_model.specs.Places.{share}
 use Rattle.support_chain.specs.Real.{real}
 use Rattle.told_party.specs.Promised.{past_at, share_after}

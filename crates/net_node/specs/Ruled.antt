@@ -22,7 +22,8 @@ use Rattle.node_model.specs.Tables.{Tables}
 use Rattle.node_tables.specs.Stages.{stages}
 use Rattle.node_ways.proofs.Kept.{few-values}
 use Rattle.node_ways.specs.Commanded.{told}
-use Rattle.node_ways.specs.Ways.{ways, IsPlaced}
+use Rattle.node_ways.specs.Ways.{ways}
+use Rattle.node_ways.specs.Placed.{IsPlaced}
 use Rattle.share_model.specs.Kept.{is_signing}
 use Rattle.support_chain.specs.Real.{real}
 use Rattle.told_party.specs.Telling.{JournalsAreByRules}

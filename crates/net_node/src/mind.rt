@@ -4,7 +4,8 @@ ghost use Rattle.std.specs.Prelude.{◌≡◌, ◌+◌, ◌<◌, ◌^◌, true, 
 ghost use Rattle.std.specs.List.{flat_map, slice_get};
 ghost use Rattle.std.specs.Str.{bytes_eq};
 ghost use Rattle.channel_store.specs.Keeping.{held_chain};
-ghost use Rattle.channel_store.specs.Storing.{kept_of, refusal_of};
+ghost use Rattle.channel_store.specs.Storing.{kept_of};
+ghost use Rattle.channel_store.specs.Noting.{refusal_of};
 ghost use Rattle.net_node.specs.Own.{is_key, is_own};
 ghost use Rattle.node_model.specs.Minds.{fresh, noted};
 ghost use Rattle.node_tables.specs.Stages.{stages};

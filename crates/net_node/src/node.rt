@@ -7,7 +7,8 @@ ghost use Rattle.node_objective.specs.Answers.{SameJournal};
 ghost use Rattle.node_ways.proofs.Kept.{nodes_are_kept};
 ghost use Rattle.node_model.specs.Exiting.{leaves};
 ghost use Rattle.node_ways.specs.Gains.{shares_known};
-ghost use Rattle.node_ways.specs.Ways.{ways, IsPlaced};
+ghost use Rattle.node_ways.specs.Ways.{ways};
+ghost use Rattle.node_ways.specs.Placed.{IsPlaced};
 ghost use Rattle.net_node.specs.Notes.{note_if};
 ghost use Rattle.std.specs.Option.{option_map};
 

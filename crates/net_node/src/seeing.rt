@@ -4,7 +4,8 @@ ghost use Rattle.std.specs.Prelude.{◌≡◌, ◌↔◌, true, IsTrue};
 ghost use Rattle.std.specs.Option.{option_map};
 ghost use Rattle.channel_calls.specs.Naming.{name_of};
 ghost use Rattle.channel_calls.specs.Rows.{fixed_of};
-ghost use Rattle.history_view.specs.Views.{view_of, CanFollow};
+ghost use Rattle.history_view.specs.Views.{view_of};
+ghost use Rattle.history_view.specs.Room.{CanFollow};
 ghost use Rattle.node_mind.specs.Shown.{HasFew, FewIn, CanSee};
 
 use channel_calls::{Call, Entry, Op, WorldView};

@@ -17,7 +17,7 @@ use crate::node::Node;
 use crate::sharing::share_known;
 use net_party::Command;
 use nitro_bytes::{Fixed, NoMemory};
-use told_party::Told;
+use told_party::ToldParty;
 
 fn fixed_is_valid(fixed: &Fixed)
     ensures { IsFixed fixed.now }
@@ -55,7 +55,7 @@ fn all_openings_are_valid(commands: &[Command])
     }
 }
 
-impl Told for Node {
+impl ToldParty for Node {
     ghost shares = { shares };
 
     ghost exits = { exits };

@@ -1,14 +1,15 @@
 //! The world, one happening after another.
 
-ghost use Rattle.std.specs.Prelude.{◌≡◌, ◌≤◌, ◌<◌, ◌-◌, ◌^◌, true, length, IfOk, IfSome, OnOk, OnErr, IsErr, slice_get};
+ghost use Rattle.std.specs.Prelude.{◌≡◌, ◌==◌, ◌≤◌, ◌<◌, ◌-◌, ◌^◌, true, length, IfOk, IfSome, OnOk, OnErr, IsErr, slice_get};
 ghost use Rattle.std.specs.List.{position};
 ghost use Rattle.std.specs.Option.{option_map};
 ghost use Rattle.channel_calls.specs.History.{Legal, newest_first};
 ghost use Rattle.channel_calls.specs.declared.call.Op.TheVariants as ops;
 ghost use Rattle.support_chain.specs.Real.{real};
-ghost use Rattle.net_party.specs.Ways.{IsFresh, quiet};
+ghost use Rattle.net_party.specs.Ways.{quiet};
+ghost use Rattle.net_party.specs.Histories.{IsFresh};
 ghost use Rattle.net_world.specs.Entered.{entered, oldest_first};
-ghost use Rattle.net_world.specs.Worlds.{WorldOf, new_world, place_of, member, happened, given, most_calls, joined, journal};
+ghost use Rattle.net_world.specs.Worlds.{WorldOf, new_world, member, happened, given, most_calls, joined, journal};
 ghost use Rattle.net_world.specs.declared.happening.Happening.TheVariants as happenings;
 
 use crate::docket::Docket;
@@ -73,6 +74,7 @@ impl<P: Party, D: Docket> World<P, D> {
     }
 
     /// The journal of the node of this number, or nothing.
+    #[tactic(auto, using(crate::proofs::Places::nobody_tells, crate::proofs::Places::tells_there))]
     pub fn journal(&self, number: u32) -> &[Event]
         ensures { result.now ≡ journal P.ways self.now number }
     {
@@ -83,7 +85,7 @@ impl<P: Party, D: Docket> World<P, D> {
     }
 
     fn place_of(&self, number: u32) -> Option<usize>
-        ensures place { result ≡ place_of P.ways self.now.members number }
+        ensures place { result ≡ position (λ m. P.ways.number m.node == number) self.now.members }
         ensures inside { IfSome result (λ place. place < length self.now.members) }
     {
         self.members
@@ -108,6 +110,7 @@ impl<P: Party, D: Docket> World<P, D> {
         self.docket.enter(by, op)
     }
 
+    #[tactic(auto, using(crate::proofs::Places::nobody_changes, crate::proofs::Places::changes_there))]
     fn see(&mut self, number: u32) -> Result<(), NoMemory>
         ensures { OnOk result (self.new ≡ happened P.ways (happenings.See number) self.old) }
     {
@@ -118,6 +121,7 @@ impl<P: Party, D: Docket> World<P, D> {
         member.see(self.docket.entries())
     }
 
+    #[tactic(auto, using(crate::proofs::Places::nobody_changes, crate::proofs::Places::changes_there, crate::proofs::Places::nobody_gives, crate::proofs::Places::gives_there))]
     fn command(&mut self, number: u32, step: u32, command: Command) -> Result<Outs, NoMemory>
         ensures made { OnOk result (self.new ≡ happened P.ways (happenings.Command number step command) self.old) }
         ensures given { IfOk result (λ outs. outs ≡ given P.ways (happenings.Command number step command) self.old) }
@@ -131,6 +135,7 @@ impl<P: Party, D: Docket> World<P, D> {
         member.command(alloc, step, command)
     }
 
+    #[tactic(auto, using(crate::proofs::Places::nobody_changes, crate::proofs::Places::changes_there))]
     fn deliver(&mut self, number: u32, bytes: &[u8]) -> Result<(), NoMemory>
         ensures { OnOk result (self.new ≡ happened P.ways (happenings.Deliver number bytes.now) self.old) }
     {
@@ -141,6 +146,7 @@ impl<P: Party, D: Docket> World<P, D> {
         member.handle(bytes)
     }
 
+    #[tactic(auto, using(crate::proofs::Places::nobody_changes, crate::proofs::Places::changes_there, crate::proofs::Places::nobody_gives, crate::proofs::Places::gives_there))]
     fn tick(&mut self, number: u32) -> Result<Outs, NoMemory>
         ensures made { OnOk result (self.new ≡ happened P.ways (happenings.Tick number) self.old) }
         ensures given { IfOk result (λ outs. outs ≡ given P.ways (happenings.Tick number) self.old) }
@@ -153,6 +159,7 @@ impl<P: Party, D: Docket> World<P, D> {
         member.tick()
     }
 
+    #[tactic(auto, using(crate::proofs::Places::nobody_changes, crate::proofs::Places::changes_there, crate::proofs::Places::nobody_gives, crate::proofs::Places::gives_there))]
     fn watch(&mut self, number: u32, watcher: u32) -> Result<Outs, NoMemory>
         ensures made { OnOk result (self.new ≡ happened P.ways (happenings.Watch number watcher) self.old) }
         ensures given { IfOk result (λ outs. outs ≡ given P.ways (happenings.Watch number watcher) self.old) }

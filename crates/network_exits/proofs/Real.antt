@@ -2,7 +2,7 @@
 use Rattle.std.proofs.Common.{List}
 use Rattle.channel_calls.specs.declared.entry.Entry.{Entry}
 use Rattle.net_model.specs.Journals.{Line}
-use Rattle.net_model.specs.Premises.{AreValid}
+use Rattle.net_model.specs.Occurring.{AreValid}
 use Rattle.channel_name.specs.Digests.{name_of_person}
 use Rattle.support_chain.specs.Real.{real}
 use Rattle.support_laws.proofs.Finals.{real_keeps_final}

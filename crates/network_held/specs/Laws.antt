@@ -7,7 +7,8 @@ use Rattle.channel_calls.specs.declared.entry.Entry.{Entry}
 use Rattle.net_model.specs.Hashed.{hashed}
 use Rattle.net_model.specs.Honest.{Honest}
 use Rattle.net_model.specs.Journals.{Line}
-use Rattle.net_model.specs.Premises.{Unforged, AreValid}
+use Rattle.net_model.specs.Premises.{Unforged}
+use Rattle.net_model.specs.Occurring.{AreValid}
 use Rattle.share_model.specs.Places.{IsPlace}
 use Rattle.held_laws.specs.Laws.{HeldEndsPossibly}
 use Rattle.support_chain.specs.Real.{real}

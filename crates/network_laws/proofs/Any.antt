@@ -2,7 +2,7 @@
 use Rattle.std.proofs.Common.{List}
 use Rattle.channel_calls.specs.declared.entry.Entry.{Entry}
 use Rattle.net_model.specs.Journals.{Line}
-use Rattle.net_model.specs.Premises.{AreValid}
+use Rattle.net_model.specs.Occurring.{AreValid}
 use Rattle.history_laws.proofs.Headline.{safe}
 use Rattle.history_laws.proofs.Since.{has_steps}
 use Rattle.history_laws.proofs.Clearing.{few-cleared}

@@ -4,7 +4,7 @@ use Rattle.channel_calls.specs.declared.entry.Entry.{Entry}
 use Rattle.support_chain.specs.Real.{real}
 use Rattle.support_laws.proofs.Finals.{real_keeps_final}
 use Rattle.net_model.specs.Journals.{Line}
-use Rattle.net_model.specs.Premises.{AreValid}
+use Rattle.net_model.specs.Occurring.{AreValid}
 use Rattle.history_laws.specs.Hashing.{Hashes}
 use Rattle.history_laws.proofs.Telling.{hashed-safe, hashed-steps, hashed-cleared}
 use Rattle.network_laws.specs.Network.{NetworkOutcomesAreNotOlder, NetworkChainsHaveTheSteps, FewNetworkChallengesAreCleared}

@@ -21,7 +21,7 @@ use Rattle.channel_calls.specs.declared.event.Deed.TheVariants as deeds
 use Rattle.channel_calls.specs.declared.event.Event.{Event}
 use Rattle.channel_calls.proofs.Formats.{message_format}
 use Rattle.net_model.specs.Journals.{In, Line, lines, is_followed, opened, some_if, told_in, noted_in}
-use Rattle.net_model.specs.Premises.{OccursFixed, OccursOutcome, AreValid}
+use Rattle.net_model.specs.Occurring.{OccursFixed, OccursOutcome, AreValid}
 use Rattle.net_model.specs.Strings.{states_in, given_in, outcomes_in, signed_of}
 use Rattle.chain_laws.proofs.Tests.{some-eq, none-eq}
 use Rattle.net_model.specs.Valid.{IsValidOp, IsValidEntry, IsValidDeed, IsValidEvent}

@@ -4,9 +4,11 @@ use Rattle.channel_model.specs.Rules.{Rules, KeepsFinal}
 use Rattle.channel_calls.specs.History.{Legal}
 use Rattle.channel_calls.specs.declared.entry.Entry.{Entry}
 use Rattle.net_model.specs.Journals.{Line}
-use Rattle.net_model.specs.Premises.{Unforged, NoCollision, InTime}
+use Rattle.net_model.specs.Premises.{Unforged, InTime}
+use Rattle.net_model.specs.Occurring.{NoCollision}
 use Rattle.net_model.specs.Honest.{Honest}
-use Rattle.net_model.specs.Safety.{IsSafe, HasStepsAfterLast, FewAreCleared}
+use Rattle.net_model.specs.Safety.{IsSafe}
+use Rattle.net_model.specs.Steps.{HasStepsAfterLast, FewAreCleared}
 
 abbrev pub AnyOutcomesAreNotOlder : List Entry → List Line → Type 0
 AnyOutcomesAreNotOlder h journal =

@@ -8,7 +8,8 @@ use Rattle.net_model.specs.Journals.{Line}
 use Rattle.net_model.specs.Hashed.{hashed}
 use Rattle.net_model.specs.Premises.{Unforged, InTime}
 use Rattle.net_model.specs.Honest.{Honest}
-use Rattle.net_model.specs.Safety.{IsSafe, HasStepsAfterLast, FewAreCleared}
+use Rattle.net_model.specs.Safety.{IsSafe}
+use Rattle.net_model.specs.Steps.{HasStepsAfterLast, FewAreCleared}
 
 -- no outcome becomes final for an honest participant with watchers in time that is older than what it noted or was
 -- shown

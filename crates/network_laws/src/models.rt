@@ -4,7 +4,7 @@
 ghost use Rattle.std.specs.Prelude.{List};
 ghost use Rattle.channel_calls.specs.declared.entry.Entry.{Entry};
 ghost use Rattle.net_model.specs.Journals.{Line};
-ghost use Rattle.net_model.specs.Premises.{AreValid};
+ghost use Rattle.net_model.specs.Occurring.{AreValid};
 ghost use Rattle.network_laws.specs.Network.{NetworkOutcomesAreNotOlder, NetworkChainsHaveTheSteps, FewNetworkChallengesAreCleared};
 
 /// `network_outcomes_are_not_older` of each history and journal whose parts are valid.

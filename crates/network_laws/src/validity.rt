@@ -3,7 +3,7 @@
 ghost use Rattle.std.specs.Prelude.{ℕ, List};
 ghost use Rattle.nitro_bytes.specs.Parts.{FixedParts};
 ghost use Rattle.channel_calls.specs.History.{newest_first};
-ghost use Rattle.net_model.specs.Premises.{AreValid};
+ghost use Rattle.net_model.specs.Occurring.{AreValid};
 ghost use Rattle.network_laws.specs.Valid.{AddsFixed, adds_of, newest_lines};
 
 use channel_calls::{Entry, Event};

@@ -34,7 +34,7 @@ use Rattle.chain_laws.proofs.Lists.{get-within}
 use Rattle.chain_laws.proofs.Tests.{lt-true, true-le, and-left, and-right}
 use Rattle.channel_calls.specs.declared.entry.Entry.{Entry}
 use Rattle.net_model.specs.Journals.{Line}
-use Rattle.net_model.specs.Premises.{AreValid}
+use Rattle.net_model.specs.Occurring.{AreValid}
 use Rattle.history_laws.specs.Hashing.{Hashes}
 use Rattle.history_laws.proofs.Telling.{tells}
 use Rattle.network_shares.specs.Laws.{NetworkStepsKeepPossible, NetworkSharesAreKept}

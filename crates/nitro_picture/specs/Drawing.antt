@@ -24,25 +24,25 @@ asks (word ∷ []) = bytes_eq word (codes "picture")
 asks _ = false
 
 -- what was left of a source and its count of faults, before and after
-pub record Told : Type 0 where
+pub record SourceChange : Type 0 where
   pub before : Option (List ℕ)
   pub after : Option (List ℕ)
   pub faults_before : ℕ
   pub faults_after : ℕ
 
-abbrev pub told : {S : Type 0} → (S → Option (List ℕ)) → (S → ℕ) → S → S → Told
-told left faults old new = record { before = left old; after = left new; faults_before = faults old; faults_after = faults new }
+abbrev pub told : {S : Type 0} → (S → Option (List ℕ)) → (S → ℕ) → S → S → SourceChange
+told remaining faults old new = record { before = remaining old; after = remaining new; faults_before = faults old; faults_after = faults new }
 
 -- some bytes were taken
-abbrev pub Takes : Told → (List ℕ → Type 0) → Type 0
+abbrev pub Takes : SourceChange → (List ℕ → Type 0) → Type 0
 Takes t P = (bytes : List ℕ) × Consumes t.before t.after bytes × P bytes
 
 -- the source was read to its end, within the limit
-abbrev pub Reads : Told → (List ℕ → Type 0) → Type 0
+abbrev pub Reads : SourceChange → (List ℕ → Type 0) → Type 0
 Reads t P = (bytes : List ℕ) × Consumes t.before t.after bytes × IsAtEnd t.after × (length bytes ≤ 4194304) × P bytes
 
 -- Why a drawing comes to each end: of want of memory and of a fault of the writer nothing is said.
-abbrev pub EndsAs : List (List ℕ) → Told → Status → Type 0
+abbrev pub EndsAs : List (List ℕ) → SourceChange → Status → Type 0
 EndsAs words t Done = (asks words ≡ true) × Reads t (λ bytes. ⊤)
 EndsAs words t NoMemory = ⊤
 EndsAs words t Usage = asks words ≡ false

@@ -66,8 +66,8 @@ fn picture_of_text(alloc: Global, text: &[u8]) -> Result<Vec<u8>, Unread>
 
 /// The picture of what the source tells, or the end without one.
 fn work<S: Source>(alloc: Global, words: &[Label], source: &mut S) -> Result<Vec<u8>, Status>
-    ensures done { IfOk result (λ svg. EndsAs words.now (told S.left S.faults source.old source.new) Status.Done) }
-    ensures ends { IfErr result (EndsAs words.now (told S.left S.faults source.old source.new)) }
+    ensures done { IfOk result (λ svg. EndsAs words.now (told S.remaining S.faults source.old source.new) Status.Done) }
+    ensures ends { IfErr result (EndsAs words.now (told S.remaining S.faults source.old source.new)) }
     ensures nothing { IfErr result (λ status. puts_nothing status ≡ true) }
 {
     if !asks(words) {
@@ -94,7 +94,7 @@ pub fn draw<S: Source, W: Write>(
     writer: &mut W,
 ) -> Status
     // Every status but want of memory and a fault of the writer has its cause.
-    ensures ends { EndsAs words.now (told S.left S.faults source.old source.new) result }
+    ensures ends { EndsAs words.now (told S.remaining S.faults source.old source.new) result }
 
     // A picture was put whole, or nothing, unless the writer failed.
     ensures done { result ≡ Status.Done → (svg : List ℕ)

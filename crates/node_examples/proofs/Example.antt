@@ -35,7 +35,8 @@ use Rattle.funding_value.specs.declared.plan.Part.TheVariants.{Root}
 use Rattle.net_party.specs.declared.command.Command.{Command}
 use Rattle.net_party.specs.declared.command.Command.TheVariants.{Open}
 use Rattle.node_model.specs.Minds.{Mind, fresh, did, noted_message}
-use Rattle.node_model.specs.Nodes.{NodeOf, Stands, Looks, wrote, asked, paid_if, told_to, ticked, handled, saw_one}
+use Rattle.node_model.specs.Nodes.{NodeOf, wrote, asked, paid_if, told_to, ticked, handled, saw_one}
+use Rattle.node_model.specs.Standing.{Stands, Looks}
 use Rattle.node_model.specs.Places.{AreFew}
 use Rattle.node_model.specs.Playing.{Signing, SignerOf, SignsWell}
 use Rattle.node_model.specs.Refusing.{command_refusal, message_refusal}

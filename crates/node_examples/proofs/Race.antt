@@ -15,10 +15,11 @@ use Rattle.channel_calls.specs.declared.refusal.Reply.TheVariants.{Opened, Now}
 use Rattle.channel_calls.specs.declared.event.Deed.TheVariants as deeds
 use Rattle.chain_laws.proofs.Tests.{some-eq, none-eq}
 use Rattle.net_model.specs.Journals.{In, Line, opened}
-use Rattle.net_model.specs.Premises.{OccursFixed, OccursState, in_call, in_line, NoCollision}
+use Rattle.net_model.specs.Occurring.{OccursFixed, OccursState, NoCollision, in_call, in_line}
 use Rattle.net_model.specs.Strings.{states_in, outcomes_in, signed_of}
 use Rattle.net_model.proofs.Members.{all-in}
-use Rattle.node_model.specs.Nodes.{told_of, Stands}
+use Rattle.node_model.specs.Nodes.{told_of}
+use Rattle.node_model.specs.Standing.{Stands}
 use Rattle.node_model.specs.Openings.{takes_part}
 use Rattle.node_model.specs.Places.{lines_of}
 use Rattle.node_laws.proofs.Allowing.{filter-in}

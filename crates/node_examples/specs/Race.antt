@@ -4,7 +4,7 @@ use Rattle.channel_calls.specs.History.{time_set, is_accepted}
 use Rattle.channel_calls.specs.declared.call.Call.TheVariants.{Checkpoint}
 use Rattle.channel_calls.specs.declared.call.Op.TheVariants as ops
 use Rattle.channel_calls.specs.declared.entry.Entry.{Entry}
-use Rattle.net_model.specs.Premises.{NoCollision}
+use Rattle.net_model.specs.Occurring.{NoCollision}
 use Rattle.node_model.specs.Nodes.{told_of}
 use Rattle.node_model.specs.Places.{lines_of}
 use Rattle.node_tables.specs.Stages.{stages}

@@ -12,7 +12,8 @@ use Rattle.channel_calls.specs.declared.event.Deed.{Deed}
 use Rattle.channel_calls.specs.declared.event.Deed.TheVariants as deeds
 use Rattle.net_party.specs.declared.command.Command.{Command}
 use Rattle.net_party.specs.declared.command.Command.TheVariants.{Open}
-use Rattle.node_model.specs.Nodes.{NodeOf, told_of, Stands}
+use Rattle.node_model.specs.Nodes.{NodeOf, told_of}
+use Rattle.node_model.specs.Standing.{Stands}
 use Rattle.node_model.specs.Places.{Told}
 use Rattle.node_model.specs.Playing.{Signing, SignsWell}
 use Rattle.node_tables.specs.Stages.{stages}

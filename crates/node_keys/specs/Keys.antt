@@ -3,7 +3,8 @@ use Rattle.std.specs.Prelude.{◌≡◌, List, length}
 use Rattle.channel_calls.specs.History.{Legal}
 use Rattle.channel_calls.specs.declared.entry.Entry.{Entry}
 use Rattle.net_model.specs.Honest.{Honest}
-use Rattle.node_model.specs.Nodes.{NodeOf, told_of, Stands}
+use Rattle.node_model.specs.Nodes.{NodeOf, told_of}
+use Rattle.node_model.specs.Standing.{Stands}
 use Rattle.node_model.specs.Places.{lines_of}
 use Rattle.node_model.specs.Tables.{Tables}
 use Rattle.node_model.specs.Playing.{SignerOf, signing_of, SignsWell}
@@ -12,14 +13,14 @@ use Rattle.sign_index.specs.Signing.{IsHeight}
 use Rattle.support_chain.specs.Real.{real}
 
 -- the identifier and the height that a signer may have
-pub record IsSound (s : SignerOf) : Type 0 where
+pub record FitsSigner (s : SignerOf) : Type 0 where
   pub sixteen : length s.id ≡ 16
   pub height : IsHeight s.h
 
 abbrev pub MadeKeysSignWell : Type 0
-MadeKeysSignWell = (s : SignerOf) → IsSound s → SignsWell real (signing_of s)
+MadeKeysSignWell = (s : SignerOf) → FitsSigner s → SignsWell real (signing_of s)
 
 abbrev pub MadeNodesAreHonest : Type 0
 MadeNodesAreHonest =
-    (t : Tables) (h : List Entry) (n : NodeOf) → IsSound n.signer → Legal real h → Stands t real (signing_of n.signer) h n
+    (t : Tables) (h : List Entry) (n : NodeOf) → FitsSigner n.signer → Legal real h → Stands t real (signing_of n.signer) h n
     → Honest real (made_key n.signer.seed n.signer.id n.signer.h) h (lines_of (made_key n.signer.seed n.signer.id n.signer.h) (told_of n))

@@ -36,7 +36,8 @@ use Rattle.history_laws.proofs.Rowing.{legal-suffix}
 use Rattle.chain_laws.proofs.Tests.{some-eq, none-eq, and-left, and-both, eqb-true, le-true, true-le, cond-true}
 use Rattle.net_model.specs.Journals.{In, Line, opened, opens, made_in, noted_in, is_watched, is_followed, is_challenge}
 use Rattle.net_party.specs.declared.command.Command.{Command}
-use Rattle.net_model.specs.Held.{IsGood, IsGoodIfAny, note, held}
+use Rattle.net_model.specs.Held.{note, held}
+use Rattle.net_model.specs.Good.{IsGood, IsGoodIfAny}
 use Rattle.net_model.specs.Honest.{key_at, EndsWith, HonestAt, HonestLine, HonestIn}
 use Rattle.node_model.specs.Minds.{Mind, facts_of}
 use Rattle.node_model.specs.Places.{Told, line_of, lines_of, mind_at, AreFew}

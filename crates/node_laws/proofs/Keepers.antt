@@ -21,7 +21,8 @@ use Rattle.node_model.specs.Tables.{Tables}
 use Rattle.node_model.specs.Refusing.{message_refusal, command_refusal, signs_in}
 use Rattle.node_model.specs.Places.{Told, tell, told, mind_at, AreFew}
 use Rattle.node_model.specs.Playing.{Signing, SignerOf, signing_of, is_signed, signings, payment_in, pending, Allowed, PlaysEvent, Plays}
-use Rattle.node_model.specs.Nodes.{NodeOf, new_node, told_of, Knows, Stands, handled, signed, signed_if, ticked, challenged, challenged_if, challenged_all, gave_one, gave, exited, asked, saw_one, ComesNext}
+use Rattle.node_model.specs.Nodes.{NodeOf, new_node, told_of, handled, signed, signed_if, ticked, challenged, challenged_if, challenged_all, gave_one, gave, exited, asked, saw_one}
+use Rattle.node_model.specs.Standing.{Knows, Stands, ComesNext}
 use Rattle.net_party.specs.declared.command.Command.{Command}
 use Rattle.node_laws.proofs.Standing.{known}
 use Rattle.node_laws.proofs.Places.{mind-event, mind-entry, told-event, told-command}

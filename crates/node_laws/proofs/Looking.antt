@@ -29,7 +29,8 @@ use Rattle.chain_laws.proofs.Tests.{some-eq, none-eq, and-left, and-right, or-ri
 use Rattle.history_view.proofs.Showing.{turn_shown, together}
 use Rattle.history_view.specs.Standing.{newer, newest_shown}
 use Rattle.history_view.specs.Views.{view_of}
-use Rattle.net_model.specs.Held.{IsGood, IsGoodIfAny, held}
+use Rattle.net_model.specs.Held.{held}
+use Rattle.net_model.specs.Good.{IsGood, IsGoodIfAny}
 use Rattle.net_model.specs.Journals.{In, is_watched}
 use Rattle.node_model.specs.Minds.{Mind, shown_by, kept_seeing, saw}
 use Rattle.node_model.specs.Places.{Told, lines_of, mind_at, AreFew}

@@ -10,7 +10,8 @@ use Rattle.channel_calls.specs.Marked.{Marked, is_supported, answered, next_afte
 use Rattle.channel_calls.specs.Shown.{shown}
 use Rattle.channel_calls.specs.declared.entry.Entry.{Entry}
 use Rattle.net_model.specs.Journals.{In, Line, is_watched, noted_in}
-use Rattle.net_model.specs.Held.{InTurn, IsYoung, IsGood, note, show, held}
+use Rattle.net_model.specs.Held.{note, show, held}
+use Rattle.net_model.specs.Good.{InTurn, IsYoung, IsGood}
 use Rattle.chain_laws.proofs.Tests.{some-eq, none-eq, and-left, and-right, or-right, eqb-true, lt-true}
 use Rattle.chain_laws.proofs.Chains.{top_at, parts}
 use Rattle.chain_laws.proofs.Growing.{noted-good}

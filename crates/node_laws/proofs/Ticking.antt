@@ -12,7 +12,7 @@ use Rattle.channel_calls.specs.declared.entry.Entry.{Entry}
 use Rattle.chain_laws.proofs.Lists.{In-append_cases}
 use Rattle.net_model.specs.Journals.{In}
 use Rattle.node_model.specs.Giving.{in_order, challenge_call, challenge_calls, after_signing, after_challenging, tick_calls, after_tick}
-use Rattle.node_model.specs.Leaving.{OwnChallenge, challenge_in, exit_given, calls_of, may_give, IsOwnChallenge, MayCall}
+use Rattle.node_model.specs.Leaving.{OwnChallenge, challenge_in, exits_given, calls_of, may_give, IsOwnChallenge, MayCall}
 use Rattle.node_model.specs.Minds.{Mind, facts_of}
 use Rattle.node_model.specs.Nodes.{NodeOf, challenged, challenged_if, challenged_all, gave}
 use Rattle.node_model.specs.Playing.{Signing}
@@ -78,7 +78,7 @@ module _ (ts : Tables) (r : Rules) (s : Signing) where
       exits-may true j = j
       exits-may false j = absurd j
 
-      go : (b : Bool) → In call (cond b (exit_given ts has_exited m) (ts.calls (facts_of m))) → In call (cond b (ts.exits (facts_of m)) (ts.calls (facts_of m)))
+      go : (b : Bool) → In call (cond b (exits_given ts has_exited (facts_of m)) (ts.calls (facts_of m))) → In call (cond b (ts.exits (facts_of m)) (ts.calls (facts_of m)))
       go true j = exits-may (not has_exited || ts.is_owed (facts_of m)) j
       go false j = j
 

@@ -14,7 +14,8 @@ use Rattle.chain_laws.proofs.Lists.{Suffix, suffix_of, append_assoc'}
 use Rattle.history_laws.proofs.Rowing.{legal-suffix}
 use Rattle.net_model.specs.Journals.{In, is_watched}
 use Rattle.node_model.specs.Minds.{Mind}
-use Rattle.node_model.specs.Nodes.{NodeOf, told_of, watched, Looks}
+use Rattle.node_model.specs.Nodes.{NodeOf, told_of, watched}
+use Rattle.node_model.specs.Standing.{Looks}
 use Rattle.node_model.specs.Places.{Told, tell, mind_at, AreFew}
 use Rattle.node_model.specs.Tables.{Tables}
 use Rattle.node_model.specs.Playing.{Signing, signings, pending, PlaysEvent, Plays}

@@ -10,7 +10,8 @@ use Rattle.channel_store.specs.Storing.{kept_of}
 use Rattle.net_model.specs.Held.{held}
 use Rattle.store_laws.specs.Laws.{KeepsHeld}
 use Rattle.net_model.specs.Honest.{Honest}
-use Rattle.node_model.specs.Nodes.{NodeOf, new_node, told_of, Stands, handled, ticked, challenged_all, gave_one, gave, told_to, saw_one, watched, ComesNext, Looks}
+use Rattle.node_model.specs.Nodes.{NodeOf, new_node, told_of, handled, ticked, challenged_all, gave_one, gave, told_to, saw_one, watched}
+use Rattle.node_model.specs.Standing.{Stands, ComesNext, Looks}
 use Rattle.node_model.specs.Leaving.{MayCall}
 use Rattle.node_model.specs.Giving.{after_tick}
 use Rattle.node_model.specs.Tables.{Tables}

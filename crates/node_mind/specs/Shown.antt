@@ -15,7 +15,8 @@ use Rattle.channel_calls.specs.declared.view.WorldView.{WorldView}
 use Rattle.channel_store.specs.Keeping.{adopting}
 use Rattle.channel_store.specs.Storing.{kept_with}
 use Rattle.channel_store.specs.declared.kept.Kept.{Kept}
-use Rattle.history_view.specs.Views.{view_of, CanFollow}
+use Rattle.history_view.specs.Views.{view_of}
+use Rattle.history_view.specs.Room.{CanFollow}
 use Rattle.support_chain.specs.Real.{real}
 
 abbrev pub answered_or : FixedParts → Signed → Option Chain → Marked

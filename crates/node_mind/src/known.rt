@@ -7,7 +7,7 @@ ghost use Rattle.channel_name.specs.Digests.{name_of_channel};
 ghost use Rattle.channel_calls.specs.History.{is_accepted};
 ghost use Rattle.channel_calls.specs.Marked.{marked_of};
 ghost use Rattle.channel_calls.specs.Rows.{fixed_of};
-ghost use Rattle.channel_store.specs.Storing.{refusal_of};
+ghost use Rattle.channel_store.specs.Noting.{refusal_of};
 ghost use Rattle.channel_store.specs.declared.kept.Kept.{Kept as AKept};
 ghost use Rattle.history_view.specs.Views.{view_of};
 ghost use Rattle.net_party.specs.declared.command.Command.TheVariants as commands;

@@ -4,6 +4,7 @@ ghost use Rattle.std.specs.Prelude.{◌≡◌, ◌&&◌, None, if◌then◌else�
 ghost use Rattle.std.specs.Option.{option_map};
 ghost use Rattle.channel_model.specs.Rules.{newest};
 ghost use Rattle.channel_store.specs.Keeping.{is_held};
+ghost use Rattle.deadline_clock.specs.Mode.{is_final};
 ghost use Rattle.node_mind.specs.Left.{challenge_on};
 ghost use Rattle.node_model.specs.Leaving.{challenge_with};
 ghost use Rattle.node_model.specs.Leaving as leaving;
@@ -93,7 +94,7 @@ pub(crate) fn challenge_of<'a>(
 }
 
 fn is_final(standing: Standing) -> bool
-    ensures { result ≡ leaving.is_final standing }
+    ensures { result ≡ is_final standing }
 {
     match standing {
         Standing::Final => true,

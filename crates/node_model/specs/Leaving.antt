@@ -1,5 +1,5 @@
 -- What a node does once it left: it challenges with the chains that it holds, and gives the calls of its exit.
-use Rattle.std.specs.Prelude.{◌≡◌, ℕ, Bool, true, false, not, ◌&&◌, ◌||◌, List, [], Option, Some, None, ◌⊎◌, if◌then◌else◌}
+use Rattle.std.specs.Prelude.{◌≡◌, ℕ, Bool, true, not, ◌&&◌, ◌||◌, List, [], Option, Some, None, ◌⊎◌, if◌then◌else◌}
 use Rattle.std.specs.List.{list_all}
 use Rattle.nitro_bytes.specs.Parts.{StateParts}
 use Rattle.nitro_bytes.specs.declared.chain.Chain.{Chain}
@@ -7,8 +7,7 @@ use Rattle.channel_model.specs.Rules.{newest}
 use Rattle.channel_calls.specs.declared.call.Call.{Call}
 use Rattle.channel_calls.specs.declared.call.Call.TheVariants.{Challenge}
 use Rattle.channel_calls.specs.declared.held_chain.HeldChain.{HeldChain}
-use Rattle.deadline_clock.specs.declared.standing.Standing.{Standing}
-use Rattle.deadline_clock.specs.declared.standing.Standing.TheVariants.{Final}
+use Rattle.deadline_clock.specs.Mode.{is_final}
 use Rattle.funding_value.specs.Known.{FactsOf}
 use Rattle.net_model.specs.Journals.{In}
 use Rattle.channel_store.specs.Keeping.{is_held}
@@ -44,21 +43,18 @@ ChallengesWith m channel state who = (c : OwnChallenge) × (challenge_in m chann
 
 -- ---- calls
 
-abbrev pub is_final : Standing → Bool
-is_final Final = true
-is_final _ = false
-
 -- all channels with a held chain are final
 abbrev pub is_over : FactsOf → Bool
 is_over f = list_all (λ held. is_final (stands_in f held.channel)) f.chains
 
--- once it left, the calls of its exit: when all channels with a held chain are final, and again while it can still get more
--- than it was paid; before, those that its stages give
-abbrev pub exit_given : Tables → (has_exited : Bool) → Mind → List Call
-exit_given t has_exited m = if not has_exited || t.is_owed (facts_of m) then t.exits (facts_of m) else []
+-- the calls of its exit: when all channels with a held chain are final, and again while it can still get more than it was
+-- paid
+abbrev pub exits_given : Tables → (has_exited : Bool) → FactsOf → List Call
+exits_given t has_exited f = if not has_exited || t.is_owed f then t.exits f else []
 
+-- once it left, those; before, those that its stages give
 abbrev pub calls_of : Tables → (has_exited : Bool) → Mind → List Call
-calls_of t has_exited m = if m.left then exit_given t has_exited m else t.calls (facts_of m)
+calls_of t has_exited m = if m.left then exits_given t has_exited (facts_of m) else t.calls (facts_of m)
 
 -- what it may call: besides, a challenge with a chain that it holds
 abbrev pub may_give : Tables → Mind → List Call

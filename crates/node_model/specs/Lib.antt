@@ -9,3 +9,4 @@ pub mod Nodes
 pub mod Giving
 pub mod Named
 pub mod Exiting
+pub mod Standing

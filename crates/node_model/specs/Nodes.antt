@@ -1,27 +1,21 @@
 -- What is seen of a node, what its calls make of it, and when it stands for a history.
-use Rattle.std.specs.Prelude.{◌≡◌, ℕ, suc, ◌≤◌, Bool, false, ◌&&◌, ◌||◌, nat_lt, List, [], ◌∷◌, ◌++◌, length, reverse, fold, Option, Some, None, if◌then◌else◌}
-use Rattle.std.specs.List.{flat_map}
+use Rattle.std.specs.Prelude.{ℕ, suc, Bool, false, ◌&&◌, ◌||◌, nat_lt, List, [], ◌∷◌, ◌++◌, reverse, fold, Option, Some, None, if◌then◌else◌}
 use Rattle.nitro_bytes.specs.Parts.{StateParts}
 use Rattle.channel_name.specs.Messages.{message_of_state, message_of_challenge}
 use Rattle.channel_model.specs.Rules.{Rules}
 use Rattle.channel_calls.specs.Reading.{message_of}
-use Rattle.channel_calls.specs.Rows.{fixed_of}
 use Rattle.channel_calls.specs.declared.call.Call.{Call}
 use Rattle.channel_calls.specs.declared.entry.Entry.{Entry}
 use Rattle.channel_calls.specs.declared.event.Deed.{Deed}
 use Rattle.channel_calls.specs.declared.event.Deed.TheVariants as deeds
 use Rattle.channel_calls.specs.declared.event.Event.{Event}
 use Rattle.channel_calls.specs.declared.event.NodeRefusal.{NodeRefusal}
-use Rattle.net_model.specs.Journals.{In, is_watched}
-use Rattle.channel_store.specs.Keeping.{held_chain}
-use Rattle.history_view.specs.Standing.{OfFew}
-use Rattle.channel_watcher.specs.Watching.{looks}
 use Rattle.node_model.specs.Minds.{Mind, fresh, facts_of, saw, did}
 use Rattle.node_model.specs.Tables.{Tables}
 use Rattle.node_model.specs.Refusing.{message_refusal, command_refusal, signs_in}
 use Rattle.node_model.specs.Leaving.{OwnChallenge, challenge_in, is_over}
-use Rattle.node_model.specs.Places.{Told, told, mind_at, AreFew}
-use Rattle.node_model.specs.Playing.{Signing, SignerOf, signing_of, signings, pending, Plays}
+use Rattle.node_model.specs.Places.{Told, told}
+use Rattle.node_model.specs.Playing.{Signing, SignerOf, signing_of}
 use Rattle.net_party.specs.declared.command.Command.{Command}
 use Rattle.net_party.specs.declared.command.Command.TheVariants.{Pay}
 
@@ -43,22 +37,6 @@ new_node signer = record { mind = fresh (signing_of signer).key; signer = signer
 -- its events with their commands, newest first
 abbrev pub told_of : NodeOf → List Told
 told_of n = told (reverse n.journal) (reverse n.commands)
-
--- A node that knows what its journal tells at the place up to which it followed the history.
-pub record Knows (r : Rules) (s : Signing) (h : List Entry) (n : NodeOf) : Type 0 where
-  pub later : List Entry
-  pub past : List Entry
-  pub split : h ≡ later ++ past
-  pub few : AreFew past
-  pub mind : n.mind ≡ mind_at r s.key past (told_of n)
-  pub used : n.used ≡ signings (told_of n)
-  pub before : (y : Told) → In y (told_of n) → is_watched y.deed ≡ false → y.seen ≤ length past
-  pub waits : pending (told_of n) ≡ None
-
--- Its journal is one that the rules give over the whole history, of which it followed the beginning.
-pub record Stands (t : Tables) (r : Rules) (s : Signing) (h : List Entry) (n : NodeOf) : Type 0 where
-  pub plays : Plays t r s h (told_of n)
-  pub knows : n.is_lost ≡ false → Knows r s h n
 
 -- ---- calls
 
@@ -139,14 +117,3 @@ saw_all r entries n = fold (saw_one r) n entries
 -- a look of a watcher that had seen so many entries
 abbrev pub watched : ℕ → ℕ → List Call → NodeOf → NodeOf
 watched seen watcher calls n = wrote_at seen (deeds.Watched watcher calls) n.mind n
-
--- the entry, of few people, comes next in the history for the node
-abbrev pub ComesNext : List Entry → Entry → NodeOf → Type 0
-ComesNext h e n = (later : List Entry) × (past : List Entry) × (h ≡ later ++ e ∷ past) × (length past ≡ n.mind.view.count) × OfFew (fixed_of e.op)
-
--- These are the calls of a look, by the chains that the node holds, of a watcher that followed so many entries, no fewer
--- than the node.
-pub record Looks (r : Rules) (h : List Entry) (seen : ℕ) (given : List Call) (n : NodeOf) : Type 0 where
-  pub within : seen ≤ length h
-  pub after : n.mind.view.count ≤ seen
-  pub are : (later past : List Entry) → h ≡ later ++ past → length past ≡ seen → AreFew past × (given ≡ looks r past (flat_map held_chain n.mind.kept))

@@ -6,7 +6,7 @@ use Rattle.channel_calls.specs.declared.entry.Entry.{Entry}
 use Rattle.channel_calls.specs.declared.event.Deed.{Deed}
 use Rattle.channel_calls.specs.declared.event.Deed.TheVariants as deeds
 use Rattle.channel_calls.specs.declared.event.Event.{Event}
-use Rattle.history_view.specs.Standing.{OfFew}
+use Rattle.history_view.specs.Few.{OfFew}
 use Rattle.net_model.specs.Journals.{Line}
 use Rattle.net_party.specs.declared.command.Command.{Command}
 use Rattle.node_model.specs.Openings.{adds}

@@ -29,7 +29,7 @@ use Rattle.channel_store.specs.Keeping.{is_ended, next_of, step_of}
 use Rattle.channel_store.specs.Storing.{kept_of}
 use Rattle.channel_store.specs.declared.kept.Kept.{Kept}
 use Rattle.funding_value.specs.Known.{FactsOf}
-use Rattle.funding_value.specs.Parts.{channels_of, channels, joined_of, ledgers_of, running, closed}
+use Rattle.funding_value.specs.Parts.{own_channel, channels_of, channels, joined_of, ledgers_of, running, closed}
 use Rattle.funding_value.specs.Shapes.{items_in}
 use Rattle.funding_value.specs.declared.plan.Goal.{Goal}
 use Rattle.funding_value.specs.declared.plan.Part.{Part}
@@ -202,14 +202,15 @@ open_refusal t r m command =
 abbrev pub standing_part : Tables → FactsOf → List ℕ → Part → Option NodeRefusal
 standing_part t f ledger part = fault_if (is_among ledger (ledgers_of part) && not (t.stage f part == closed part)) (NotWanted (t.stage f part))
 
-abbrev pub close_part : Tables → Mind → List ℕ → Option Part → Option NodeRefusal
-close_part t m channel None = Some UnknownChannel
-close_part t m channel (Some part) =
+-- on the channel of the part itself no unclosed part stands
+abbrev pub close_part : Tables → Mind → Option Part → Option NodeRefusal
+close_part t m None = Some UnknownChannel
+close_part t m (Some part) =
     not_open t (facts_of m)
     ⊳ has_left m
     ⊳ unfinished t (facts_of m)
     ⊳ not_running t (facts_of m) (Some part)
-    ⊳ first_fault (standing_part t (facts_of m) channel) m.parts
+    ⊳ first_fault (standing_part t (facts_of m) (own_channel part)) m.parts
 
 -- ---- commands
 
@@ -219,7 +220,7 @@ command_refusal t r limit used m (commands.Open f outcome) = open_refusal t r m 
 command_refusal t r limit used m (commands.OpenOn ledger f asset amounts) = open_refusal t r m (commands.OpenOn ledger f asset amounts)
 command_refusal t r limit used m (commands.OpenVirtual ledgers guarantors joint channel asset amounts) = open_refusal t r m (commands.OpenVirtual ledgers guarantors joint channel asset amounts)
 command_refusal t r limit used m (commands.Pay channel asset amount) = pay_refusal t r limit used m channel asset amount (kept_of channel m.kept)
-command_refusal t r limit used m (commands.Close channel) = close_part t m channel (part_with channel m.parts)
+command_refusal t r limit used m (commands.Close channel) = close_part t m (part_with channel m.parts)
 command_refusal t r limit used m commands.Exit = None
 
 -- ---- what is signed

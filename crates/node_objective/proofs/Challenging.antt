@@ -10,7 +10,8 @@ use Rattle.channel_calls.specs.declared.call.Call.TheVariants.{Challenge}
 use Rattle.channel_name.specs.Messages.{message_of_challenge}
 use Rattle.node_model.specs.Giving.{spent_if, challenge_call, challenge_calls, spent_challenging}
 use Rattle.node_model.specs.Leaving.{OwnChallenge, challenge_in}
-use Rattle.node_model.specs.Nodes.{NodeOf, Stands, challenged, challenged_if, challenged_all}
+use Rattle.node_model.specs.Nodes.{NodeOf, challenged, challenged_if, challenged_all}
+use Rattle.node_model.specs.Standing.{Stands}
 use Rattle.node_model.specs.Playing.{Signing, signing_of}
 use Rattle.node_model.specs.Tables.{Tables}
 use Rattle.node_laws.proofs.Calling.{calls_keep_standing}

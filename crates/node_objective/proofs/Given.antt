@@ -11,7 +11,8 @@ use Rattle.net_model.specs.Journals.{In}
 use Rattle.net_party.specs.declared.outs.Outs.{Outs}
 use Rattle.node_model.specs.Giving.{after_challenging, tick_calls, tick_gives}
 use Rattle.node_model.specs.Leaving.{MayCall}
-use Rattle.node_model.specs.Nodes.{NodeOf, Stands, gave_one, gave}
+use Rattle.node_model.specs.Nodes.{NodeOf, gave_one, gave}
+use Rattle.node_model.specs.Standing.{Stands}
 use Rattle.node_model.specs.Playing.{Signing, SignerOf, signing_of}
 use Rattle.node_model.specs.Tables.{Tables}
 use Rattle.node_laws.proofs.Calling.{calls_keep_standing}

@@ -4,7 +4,8 @@ use Rattle.channel_model.specs.Rules.{Rules}
 use Rattle.channel_calls.specs.History.{Legal}
 use Rattle.channel_calls.specs.declared.entry.Entry.{Entry}
 use Rattle.channel_calls.specs.declared.event.Event.{Event}
-use Rattle.node_model.specs.Nodes.{NodeOf, Stands, asked}
+use Rattle.node_model.specs.Nodes.{NodeOf, asked}
+use Rattle.node_model.specs.Standing.{Stands}
 use Rattle.node_model.specs.Places.{told}
 use Rattle.node_model.specs.Playing.{Signing, Plays}
 use Rattle.node_model.specs.Tables.{Tables}

@@ -6,7 +6,8 @@ use Rattle.nitro_bytes.specs.Parts.{StateParts}
 use Rattle.channel_model.specs.Rules.{Rules}
 use Rattle.channel_calls.specs.History.{Legal}
 use Rattle.channel_calls.specs.declared.entry.Entry.{Entry}
-use Rattle.node_model.specs.Nodes.{NodeOf, Stands, signed, signed_if, ticked}
+use Rattle.node_model.specs.Nodes.{NodeOf, signed, signed_if, ticked}
+use Rattle.node_model.specs.Standing.{Stands}
 use Rattle.node_model.specs.Tables.{Tables}
 use Rattle.node_model.specs.Playing.{Signing, signing_of}
 use Rattle.node_model.specs.Giving.{sent_if, spent_if, sent, spent}

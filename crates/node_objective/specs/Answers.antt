@@ -6,7 +6,8 @@ use Rattle.channel_calls.specs.Reading.{message_of}
 use Rattle.channel_calls.specs.declared.entry.Entry.{Entry}
 use Rattle.nitro_bytes.specs.Parts.{StateParts}
 use Rattle.node_model.specs.Minds.{Mind}
-use Rattle.node_model.specs.Nodes.{NodeOf, Stands, handled, asked, told_to}
+use Rattle.node_model.specs.Nodes.{NodeOf, handled, asked, told_to}
+use Rattle.node_model.specs.Standing.{Stands}
 use Rattle.node_model.specs.Tables.{Tables}
 use Rattle.node_model.specs.Playing.{Signing}
 use Rattle.net_party.specs.declared.outs.Outs.{Outs}

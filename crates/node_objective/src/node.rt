@@ -12,7 +12,8 @@ ghost use Rattle.node_model.specs.Minds.{fresh};
 ghost use Rattle.node_model.specs.Playing.{signing_of};
 ghost use Rattle.node_model.specs.Refusing.{message_refusal, command_refusal, signs_in};
 ghost use Rattle.net_party.specs.declared.command.Command.TheVariants.{Pay};
-ghost use Rattle.node_model.specs.Nodes.{NodeOf, new_node, Stands, handled, asked, paid_if, signed_if, ticked, challenged_if, challenged_all, gave_one, gave, told_to, saw_one, watched, ComesNext, Looks, wrote_at};
+ghost use Rattle.node_model.specs.Nodes.{NodeOf, new_node, handled, asked, paid_if, signed_if, ticked, challenged_if, challenged_all, gave_one, gave, told_to, saw_one, watched, wrote_at};
+ghost use Rattle.node_model.specs.Standing.{Stands, ComesNext, Looks};
 ghost use Rattle.node_objective.specs.Answers.{IsWanted, CommandAnswers, HandleAnswers, IsPartly, SameJournal, StandsPartly};
 
 use crate::mind::{Knowing, OwnChallenge};
@@ -38,7 +39,7 @@ struct Challenged {
 
 /// Why a command is refused, if it is, and the messages that it sends.
 #[derive(Drop)]
-struct Told {
+struct Answered {
     refusal: Option<NodeRefusal>,
     sends: Vec<(Name, Listed<u8>)>,
 }
@@ -176,7 +177,7 @@ impl<M: Knowing + Drop> Node<M> {
         channel: Name,
         asset: u32,
         amount: u64,
-    ) -> Result<Told, NoMemory>
+    ) -> Result<Answered, NoMemory>
         ensures refusal { IfOk result (λ told. told.refusal ≡ command_refusal M.tables M.rules (signing_of self.old.signer).limit self.old.used self.old.mind (Pay channel asset amount)) }
         ensures sends { IfOk result (λ told. told.refusal ≡ None → told.sends.items ≡ paid_sends M.tables M.rules (signing_of self.old.signer) (Pay channel asset amount) (asked M.rules (signing_of self.old.signer) step (Pay channel asset amount) None self.old)) }
         ensures ok { IfOk result (λ told. self.new ≡ paid_if M.tables M.rules (signing_of self.old.signer) told.refusal (Pay channel asset amount) (asked M.rules (signing_of self.old.signer) step (Pay channel asset amount) told.refusal self.old)) }
@@ -195,7 +196,7 @@ impl<M: Knowing + Drop> Node<M> {
             Some(_) => Ok(self.quiet(refusal)),
             None => {
                 let sent = self.pay(&channel, asset, amount)?;
-                Ok(Told {
+                Ok(Answered {
                     refusal: None,
                     sends: sent.sends,
                 })
@@ -204,17 +205,17 @@ impl<M: Knowing + Drop> Node<M> {
     }
 
     /// A command that sends nothing.
-    fn quiet(&self, refusal: Option<NodeRefusal>) -> Told
+    fn quiet(&self, refusal: Option<NodeRefusal>) -> Answered
         ensures refusal { result.refusal ≡ refusal }
         ensures sends { result.sends.items ≡ [] }
     {
-        Told {
+        Answered {
             refusal,
             sends: Vec::new(*self.journal.allocator()),
         }
     }
 
-    fn take_up_quietly(&mut self, step: u32, command: Command) -> Result<Told, NoMemory>
+    fn take_up_quietly(&mut self, step: u32, command: Command) -> Result<Answered, NoMemory>
         ensures refusal { IfOk result (λ told. told.refusal ≡ command_refusal M.tables M.rules (signing_of self.old.signer).limit self.old.used self.old.mind command) }
         ensures sends { IfOk result (λ told. told.sends.items ≡ []) }
         ensures ok { IfOk result (λ told. self.new ≡ asked M.rules (signing_of self.old.signer) step command told.refusal self.old) }
@@ -225,7 +226,7 @@ impl<M: Knowing + Drop> Node<M> {
         Ok(self.quiet(refusal))
     }
 
-    fn command_now(&mut self, step: u32, command: Command) -> Result<Told, NoMemory>
+    fn command_now(&mut self, step: u32, command: Command) -> Result<Answered, NoMemory>
         ensures refusal { IfOk result (λ told. told.refusal ≡ command_refusal M.tables M.rules (signing_of self.old.signer).limit self.old.used self.old.mind command) }
         ensures sends { IfOk result (λ told. told.refusal ≡ None → told.sends.items ≡ paid_sends M.tables M.rules (signing_of self.old.signer) command (asked M.rules (signing_of self.old.signer) step command None self.old)) }
         ensures ok { IfOk result (λ told. self.new ≡ told_to M.tables M.rules (signing_of self.old.signer) step command self.old) }

@@ -34,7 +34,7 @@ use Rattle.node_laws.proofs.Agreeing.{filtered}
 use Rattle.node_laws.proofs.Allowing.{filter-in}
 use Rattle.node_shares.proofs.Ordering.{part_in, parts_told, order-opens}
 use Rattle.node_shares.proofs.Apart.{Apart, apart-append, apart-filter, names_of, found-named, none-named, changed_at, changed-alone}
-use Rattle.node_shares.proofs.Keeping.{Keeps, AllKeep, all-names, all-append, all-change, all-lift, keeps-quiet, keeps-noting, keeps-adopting, keeps-signing, all-opened}
+use Rattle.node_shares.proofs.Keeping.{KeepsChannel, AllKeep, all-names, all-append, all-change, all-lift, keeps-quiet, keeps-noting, keeps-adopting, keeps-signing, all-opened}
 
 -- the channels that a journal opened, in their order
 abbrev pub channels_told : List ℕ → List Told → List FixedParts
@@ -66,7 +66,7 @@ module _ (r : Rules) (key : List ℕ) where
 
   -- a change of one channel
   changes : (front : List Told) (own : List ℕ) (parts : List Part) (kept : List Kept) (change : Kept → Kept) (c : List ℕ)
-      → ((f : FixedParts) (k : Kept) → Keeps r (lines_of key front) f k → Keeps r (lines_of key front) f (changed_at change c k))
+      → ((f : FixedParts) (k : Kept) → KeepsChannel r (lines_of key front) f k → KeepsChannel r (lines_of key front) f (changed_at change c k))
       → Grown r key front own parts kept → Grown r key front own parts (kept_with change c kept)
   changes front own parts kept change c step was = record {
     mine = was.mine;

@@ -23,7 +23,8 @@ use Rattle.node_model.specs.Minds.{Mind, facts_of}
 use Rattle.node_model.specs.Tables.{Tables}
 use Rattle.node_model.specs.Places.{Told, lines_of, mind_at, AreFew}
 use Rattle.node_model.specs.Playing.{Signing, Plays}
-use Rattle.node_model.specs.Nodes.{told_of, Knows}
+use Rattle.node_model.specs.Nodes.{told_of}
+use Rattle.node_model.specs.Standing.{Knows}
 use Rattle.node_laws.proofs.Agreeing.{Agree}
 use Rattle.node_laws.proofs.Standing.{known}
 use Rattle.node_shares.specs.Orders.{orders_of}

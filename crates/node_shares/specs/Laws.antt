@@ -15,7 +15,8 @@ use Rattle.node_model.specs.Tables.{Tables}
 use Rattle.node_model.specs.Minds.{Mind, facts_of}
 use Rattle.node_model.specs.Places.{Told, lines_of, mind_at, AreFew}
 use Rattle.node_model.specs.Playing.{Signing, Plays}
-use Rattle.node_model.specs.Nodes.{NodeOf, told_of, Stands}
+use Rattle.node_model.specs.Nodes.{NodeOf, told_of}
+use Rattle.node_model.specs.Standing.{Stands}
 use Rattle.node_shares.specs.Orders.{orders_of}
 
 -- It has this key, the parts that the journal's commands opened, a view that stands for these entries; and it tells which

@@ -12,12 +12,14 @@ use Rattle.channel_watcher.proofs.Standing.{looks_are_kept, checkpoints_are}
 use Rattle.channel_watcher.specs.Watching.{history_after, looks}
 use Rattle.chain_laws.proofs.Lists.{append_assoc'}
 use Rattle.history_laws.proofs.Rowing.{legal-suffix}
-use Rattle.net_party.specs.Ways.{followed, looked, ComeNext, HasLooked}
+use Rattle.net_party.specs.Ways.{followed, looked}
+use Rattle.net_party.specs.Histories.{ComeNext, HasLooked}
 use Rattle.net_party.specs.declared.lookout.Lookout.{Lookout}
 use Rattle.node_laws.proofs.Calling.{calls_keep_standing}
 use Rattle.node_laws.proofs.Keepers.{same-tail}
 use Rattle.node_laws.proofs.Standing.{few-suffix}
-use Rattle.node_model.specs.Nodes.{NodeOf, Stands, saw_one, saw_all, ComesNext, Looks}
+use Rattle.node_model.specs.Nodes.{NodeOf, saw_one, saw_all}
+use Rattle.node_model.specs.Standing.{Stands, ComesNext, Looks}
 use Rattle.node_model.specs.Places.{AreFew}
 use Rattle.node_model.specs.Playing.{Signing}
 use Rattle.node_model.specs.Tables.{Tables}

@@ -14,19 +14,21 @@ use Rattle.channel_calls.specs.declared.event.Event.{Event}
 use Rattle.channel_calls.specs.declared.view.WorldView.{WorldView}
 use Rattle.chain_laws.proofs.Tests.{clash}
 use Rattle.channel_store.specs.Keeping.{held_chain}
-use Rattle.history_view.specs.Standing.{OfFew}
+use Rattle.history_view.specs.Few.{OfFew}
 use Rattle.net_model.specs.Valid.{IsValidOp, IsValidEntry}
-use Rattle.net_party.specs.Ways.{followed, looked, ComeNext, HasLooked}
+use Rattle.net_party.specs.Ways.{followed, looked}
+use Rattle.net_party.specs.Histories.{ComeNext, HasLooked}
 use Rattle.net_party.specs.declared.command.Command.{Command}
 use Rattle.net_party.specs.declared.command.Command.TheVariants.{Open, OpenOn, OpenVirtual, Pay, Close, Exit}
 use Rattle.net_party.specs.declared.lookout.Lookout.{Lookout}
 use Rattle.node_keys.proofs.Made.{made_nodes_are_honest}
-use Rattle.node_keys.specs.Keys.{IsSound}
+use Rattle.node_keys.specs.Keys.{FitsSigner}
 use Rattle.node_laws.proofs.Calling.{calls_keep_standing, fresh_nodes_stand, standing_grows}
 use Rattle.node_laws.proofs.Keepers.{count-is}
 use Rattle.node_laws.proofs.Places.{told-command}
 use Rattle.node_model.specs.Giving.{after_tick}
-use Rattle.node_model.specs.Nodes.{NodeOf, told_of, Knows, Stands, handled, told_to, saw_one, saw_all, watched}
+use Rattle.node_model.specs.Nodes.{NodeOf, told_of, handled, told_to, saw_one, saw_all, watched}
+use Rattle.node_model.specs.Standing.{Knows, Stands}
 use Rattle.node_model.specs.Places.{Told, tell, AreFew, mind_at}
 use Rattle.node_model.specs.Playing.{SignerOf, signing_of}
 use Rattle.node_tables.specs.Stages.{stages}
@@ -34,7 +36,8 @@ use Rattle.support_chain.specs.Real.{real}
 use Rattle.node_ways.specs.Laws.{NodesAreKept}
 use Rattle.node_model.specs.Exiting.{leaves, until_exit}
 use Rattle.node_ways.specs.Gains.{shares_known, or_now}
-use Rattle.node_ways.specs.Ways.{Numbered, made_of, key_of, seen_of, unless_lost, noting_exit, ways, IsKnownAt, IsNoted, IsPlaced}
+use Rattle.node_ways.specs.Ways.{Numbered, made_of, key_of, seen_of, unless_lost, noting_exit, ways}
+use Rattle.node_ways.specs.Placed.{IsKnownAt, IsNoted, IsPlaced}
 use Rattle.node_ways.proofs.Following.{sees-within, sees-all, looks-so}
 use Rattle.node_ways.proofs.Staying.{Stays, wrote-event, handled-stays, tick-stays, told-stays}
 
@@ -69,7 +72,7 @@ placed : (h : List Entry) (p : Numbered) (new : NodeOf) → Stays p.node new
     → (Stands stages real (signing_of p.node.signer) h p.node → Stands stages real (signing_of p.node.signer) h new) → IsPlaced h p → IsPlaced h (record p { node = new })
 placed h p new same keeps is =
     record {
-      sound = subst IsSound (sym same.signer) is.sound;
+      sound = subst FitsSigner (sym same.signer) is.sound;
       within =
           subst (λ (k : ℕ). k ≤ length h)
           (sym (ap (λ (b : Bool). cond b 0 new.mind.view.count) same.lost ∙ ap (λ (v : WorldView). cond p.node.is_lost 0 v.count) same.view)) is.within;
@@ -184,7 +187,7 @@ saw-placed : (h entries : List Entry) (p : Numbered) → Legal real h → ComeNe
     → IsPlaced h (record p { node = saw_all real entries p.node })
 saw-placed h entries p legal next kept is =
     record {
-      sound = subst IsSound (sym (signer-stays entries p.node)) is.sound;
+      sound = subst FitsSigner (sym (signer-stays entries p.node)) is.sound;
       within = subst (λ (k : ℕ). k ≤ length h) (sym (seen-kept (saw_all real entries p.node) (lost-stays entries p.node ∙ kept))) (sees-within stages real h legal entries p.node here);
       stands = λ few.
           subst (λ (s : SignerOf). Stands stages real (signing_of s) h (saw_all real entries p.node)) (sym (signer-stays entries p.node))
@@ -265,7 +268,7 @@ pub lost-placed : (h : List Entry) (p : Numbered) (new : NodeOf) → new.is_lost
     → (Stands stages real (signing_of p.node.signer) h p.node → Stands stages real (signing_of p.node.signer) h new) → IsPlaced h p → IsPlaced h (record p { node = new })
 lost-placed h p new lost signer keeps is =
     record {
-      sound = subst IsSound (sym signer) is.sound;
+      sound = subst FitsSigner (sym signer) is.sound;
       within = subst (λ (k : ℕ). k ≤ length h) (sym (ap (λ (b : Bool). cond b 0 new.mind.view.count) lost)) (omega arith);
       stands = λ few. subst (λ (s : SignerOf). Stands stages real (signing_of s) h new) (sym signer) (keeps (is.stands few));
       noted = λ few kept. absurd (clash new.is_lost lost kept);

@@ -2,3 +2,4 @@ pub mod Gains
 pub mod Ways
 pub mod Laws
 pub mod Commanded
+pub mod Placed

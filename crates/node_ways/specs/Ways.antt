@@ -1,21 +1,19 @@
 -- The ways of a node with the network's own rules and tables, and what it keeps.
-use Rattle.std.specs.Prelude.{◌≡◌, ◌≤◌, ℕ, Bool, false, List, [], ◌∷◌, ◌++◌, length, Option, Some, None, if◌then◌else◌}
+use Rattle.std.specs.Prelude.{ℕ, Bool, List, Option, None, if◌then◌else◌}
 use Rattle.std.specs.List.{flat_map}
 use Rattle.channel_calls.specs.Reading.{message_of}
-use Rattle.channel_calls.specs.declared.entry.Entry.{Entry}
 use Rattle.channel_store.specs.Keeping.{held_chain}
 use Rattle.net_party.specs.Ways.{Ways}
-use Rattle.node_keys.specs.Keys.{IsSound}
 use Rattle.node_model.specs.Giving.{after_tick, tick_gives, command_answers}
-use Rattle.node_model.specs.Nodes.{NodeOf, new_node, told_of, Stands, handled, told_to, saw_all, watched}
+use Rattle.node_model.specs.Nodes.{NodeOf, new_node, told_of, handled, told_to, saw_all, watched}
 use Rattle.node_model.specs.Refusing.{message_refusal}
-use Rattle.node_model.specs.Places.{Told, AreFew, lines_of, mind_at}
+use Rattle.node_model.specs.Places.{lines_of}
 use Rattle.node_model.specs.Playing.{SignerOf, signing_of}
 use Rattle.node_tables.specs.Stages.{stages}
 use Rattle.sign_index.specs.Made.{made_key}
 use Rattle.sign_index.specs.Signing.{Signing}
 use Rattle.support_chain.specs.Real.{real}
-use Rattle.node_model.specs.Exiting.{leaves, until_exit}
+use Rattle.node_model.specs.Exiting.{leaves}
 use Rattle.node_ways.specs.Gains.{shares_known, or_now}
 
 -- A node and its number; and, once it was commanded to exit, what its person could get just after that.
@@ -65,31 +63,3 @@ ways =
       gives = λ p. tick_gives stages real (signing_of p.node.signer) p.node;
       watched = λ seen place calls. unless_lost (watched seen place calls);
     }
-
--- how many entries had been followed at the newest of these events
-abbrev pub seen_at : List Told → ℕ
-seen_at [] = 0
-seen_at (x ∷ front) = x.seen
-
--- These shares are those that a node with this key knew at a place: after the entries `past`, as many as it had followed, and
--- these events.
-pub record IsKnownAt (h : List Entry) (key : List ℕ) (amounts : List (ℕ × ℕ)) (front : List Told) : Type 0 where
-  pub later : List Entry
-  pub past : List Entry
-  pub split : h ≡ later ++ past
-  pub seen : length past ≡ seen_at front
-  pub shares : amounts ≡ shares_known (mind_at real key past front)
-
--- where there was a command to exit, and there alone, shares were noted, which are those known just after it
-abbrev pub IsNoted : List Entry → List ℕ → Option (List (ℕ × ℕ)) → Option (List Told) → Type 0
-IsNoted h key None None = Unit {0}
-IsNoted h key (Some amounts) (Some front) = IsKnownAt h key amounts front
-IsNoted h key _ _ = ⊥
-
--- It has followed no more than there is; and where no channel of the history has more people than values have, it stands for the
--- history, with a signer whose signatures verify, and, unless memory failed it, what it noted is right.
-pub record IsPlaced (h : List Entry) (p : Numbered) : Type 0 where
-  pub sound : IsSound p.node.signer
-  pub within : seen_of p.node ≤ length h
-  pub stands : AreFew h → Stands stages real (signing_of p.node.signer) h p.node
-  pub noted : AreFew h → p.node.is_lost ≡ false → IsNoted h (key_of p.node.signer) p.exits (until_exit (told_of p.node))

@@ -1,4 +1,3 @@
-mod Standings
 mod Moved
 mod Signed
 mod Told

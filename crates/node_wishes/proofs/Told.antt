@@ -10,8 +10,10 @@ use Rattle.channel_model.specs.Words.{fault_if, ◌⊳◌}
 use Rattle.channel_calls.specs.Spelling.{Message}
 use Rattle.channel_calls.specs.declared.event.NodeRefusal.{NodeRefusal}
 use Rattle.channel_calls.specs.declared.event.NodeRefusal.TheVariants.{UnknownChannel, NotNext, BadSignature, NotAStep}
-use Rattle.channel_store.specs.Keeping.{is_ended, next_of, step_of, note_fault}
-use Rattle.channel_store.specs.Storing.{kept_of, refusal_at, refusal_of}
+use Rattle.channel_store.specs.Keeping.{is_ended, next_of, step_of}
+use Rattle.channel_store.specs.Good.{note_fault}
+use Rattle.channel_store.specs.Storing.{kept_of}
+use Rattle.channel_store.specs.Noting.{refusal_at, refusal_of}
 use Rattle.channel_store.specs.declared.fault.NoteFault.{NoteFault}
 use Rattle.channel_store.specs.declared.fault.NoteFault.TheVariants as faults
 use Rattle.channel_store.specs.declared.kept.Kept.{Kept}

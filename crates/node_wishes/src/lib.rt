@@ -7,7 +7,7 @@ mod moving;
 mod payments;
 mod signing;
 
-pub use live::{has_left, not_open, not_running, part_joined, part_with, stage_of, stands_in};
+pub use live::{has_left, not_open, not_running, part_joined, part_with, stage_of};
 pub use messages::{handle, message_refusal};
 pub use payments::{pay_refusal, paying};
 pub use signing::signable;

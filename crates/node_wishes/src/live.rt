@@ -7,32 +7,11 @@ ghost use Rattle.node_model.specs.Refusing as refusing;
 ghost use Rattle.node_tables.specs.Stages.{stages};
 
 use channel_calls::NodeRefusal;
-use deadline_clock::{Standing, mode};
+use deadline_clock::Standing;
 use funding_value::{Facts, Part};
-use history_view::view_of;
 use nitro_bytes::Name;
-use node_mind::Known;
+use node_mind::{Known, stands_in};
 use plan_stages::stage;
-
-/// How a channel stands.
-#[tactic(auto, using(crate::proofs::Standings::stands_unknown, crate::proofs::Standings::stands_known))]
-pub fn stands_in(facts: &Facts, channel: &Name) -> Standing
-    ensures { result ≡ refusing.stands_in facts.now channel.now }
-{
-    match view_of(facts.view, channel) {
-        None => Standing::Open,
-        Some(view) => mode(view.deadline, facts.view.now),
-    }
-}
-
-pub(crate) fn is_open(standing: Standing) -> bool
-    ensures { result ≡ refusing.is_open standing }
-{
-    match standing {
-        Standing::Open => true,
-        _ => false,
-    }
-}
 
 fn not_open_in(facts: &Facts, channel: &Name) -> Option<NodeRefusal>
     ensures { result ≡ refusing.not_open_in facts.now channel.now }

@@ -9,11 +9,11 @@ ghost use Rattle.node_model.specs.Refusing as refusing;
 ghost use Rattle.node_tables.specs.Stages.{stages};
 ghost use Rattle.support_chain.specs.Real.{real};
 
-use crate::live::{is_open, not_open, stands_in};
+use crate::live::not_open;
 use channel_store::Kept;
 use funding_value::Facts;
 use nitro_bytes::{Name, NoMemory, State};
-use node_mind::Known;
+use node_mind::{Known, is_open, stands_in};
 use plan_stages::wanted;
 use std::alloc::Global;
 use support_chain::mover_at;

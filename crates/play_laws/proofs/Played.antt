@@ -6,7 +6,8 @@ use Rattle.net_model.specs.Journals.{In}
 use Rattle.channel_watcher.proofs.Standing.{stands_fresh}
 use Rattle.support_chain.specs.Real.{real}
 use Rattle.sign_index.specs.Signing.{Signing}
-use Rattle.net_party.specs.Ways.{Ways, IsFresh, unlooking}
+use Rattle.net_party.specs.Ways.{Ways, unlooking}
+use Rattle.net_party.specs.Histories.{IsFresh}
 use Rattle.net_party.specs.declared.command.Command.{Command}
 use Rattle.net_party.specs.declared.lookout.Lookout.{Lookout}
 use Rattle.net_world.specs.Members.{MemberOf}

@@ -6,7 +6,8 @@ use Rattle.channel_calls.specs.declared.call.Call.{Call}
 use Rattle.channel_calls.specs.declared.call.Op.{Op}
 use Rattle.channel_calls.specs.declared.call.Op.TheVariants as ops
 use Rattle.sign_index.specs.Signing.{Signing}
-use Rattle.net_party.specs.Ways.{Ways, IsFresh}
+use Rattle.net_party.specs.Ways.{Ways}
+use Rattle.net_party.specs.Histories.{IsFresh}
 use Rattle.net_party.specs.declared.command.Command.{Command}
 use Rattle.net_world.specs.Worlds.{WorldOf, new_world, happened, given, joined}
 use Rattle.net_world.specs.declared.happening.Happening.{Happening}

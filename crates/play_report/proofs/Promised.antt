@@ -13,7 +13,8 @@ use Rattle.net_model.proofs.Members.{In-map, In-flat_map, joined}
 use Rattle.net_model.specs.Hashed.{of_fixed, hashed}
 use Rattle.net_model.specs.Honest.{Honest}
 use Rattle.net_model.specs.Journals.{In, Line, lines, opened, is_followed}
-use Rattle.net_model.specs.Premises.{Unforged, InTime, AreValid}
+use Rattle.net_model.specs.Premises.{Unforged, InTime}
+use Rattle.net_model.specs.Occurring.{AreValid}
 use Rattle.net_model.specs.Valid.{IsValidEntry, IsValidEvent}
 use Rattle.net_party.specs.Ways.{Ways}
 use Rattle.net_party.specs.declared.command.Command.{Command}
@@ -27,7 +28,8 @@ use Rattle.node_model.specs.Places.{Told, told_by, line_of, lines_of}
 use Rattle.node_model.specs.Exiting.{until_exit}
 use Rattle.play_laws.proofs.Played.{plays_are_kept, plays_follow_commands}
 use Rattle.premises.proofs.Distincts.{suffices}
-use Rattle.premises.specs.Collision.{DistinctWith, strings_opened}
+use Rattle.premises.specs.Collision.{DistinctWith}
+use Rattle.premises.specs.Telling.{strings_opened}
 use Rattle.premises.specs.declared.journal.Journal.{Journal}
 use Rattle.report_text.specs.declared.report.Judged.{Judged}
 use Rattle.report_text.specs.declared.report.Load.{Load}

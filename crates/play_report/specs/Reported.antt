@@ -13,7 +13,8 @@ use Rattle.net_world.specs.Members.{MemberOf}
 use Rattle.node_model.specs.Named.{named_in}
 use Rattle.node_model.specs.Places.{Told, told_by, lines_of}
 use Rattle.node_model.specs.Exiting.{until_exit}
-use Rattle.premises.specs.Collision.{Distinct, DistinctWith, strings_opened}
+use Rattle.premises.specs.Collision.{Distinct, DistinctWith}
+use Rattle.premises.specs.Telling.{strings_opened}
 use Rattle.premises.specs.Persons.{IsUnforged, IsInTime}
 use Rattle.premises.specs.declared.journal.Journal.{Journal}
 use Rattle.report_text.specs.declared.report.Judged.{Judged}

@@ -24,7 +24,7 @@ use script_play::{Scene, play};
 use script_rules::{STEP_LIMIT, Step};
 use sign_index::Signer;
 use std::alloc::Global;
-use told_party::Told;
+use told_party::ToldParty;
 
 /// What is told of the people with nodes, in their order: their journals, what each can get of each asset, and what it
 /// could when it was commanded to exit.
@@ -36,7 +36,7 @@ struct Tales {
 }
 
 /// What is told of people whose nodes have followed the whole history of a play.
-fn tales_of<P: Told, D: Docket>(alloc: Global, scene: &Scene<P, D>) -> Result<Tales, NoMemory>
+fn tales_of<P: ToldParty, D: Docket>(alloc: Global, scene: &Scene<P, D>) -> Result<Tales, NoMemory>
     ensures journals { IfOk result (λ t. t.journals.items ≡ map (journal_of P.ways) scene.now.world.members) }
     ensures valid { IfOk result (λ t. AllByRecursion (λ j. AllByRecursion IsValidEvent j.events) t.journals.items) }
     ensures fixed { OnOk result (AllFixed P.ways scene.now.world.members) }
@@ -61,7 +61,7 @@ fn tales_of<P: Told, D: Docket>(alloc: Global, scene: &Scene<P, D>) -> Result<Ta
 }
 
 /// The report of what a play came to, with a note of the load that its script was made of, if it was.
-fn report_of<P: Told, D: Docket>(
+fn report_of<P: ToldParty, D: Docket>(
     alloc: Global,
     scene: Scene<P, D>,
     load: Option<Load>,
@@ -87,7 +87,7 @@ fn report_of<P: Told, D: Docket>(
 
 /// Plays the steps, and tells what came of them. The signers are those of the people that the steps declare. Of a load the
 /// report notes what it was made from.
-pub fn report_play<P: Told, D: Docket>(
+pub fn report_play<P: ToldParty, D: Docket>(
     alloc: Global,
     steps: &[Step],
     signers: Vec<Signer>,

@@ -11,16 +11,19 @@ use net_world::Member;
 use nitro_bytes::{Name, NoMemory};
 use report_text::Share;
 use std::alloc::Global;
-use told_party::Told;
+use told_party::ToldParty;
 
-fn has_followed<P: Told>(node: &P, count: usize) -> bool
+fn has_followed<P: ToldParty>(node: &P, count: usize) -> bool
     ensures { IsTrue result → HasFollowed P.ways P.lost count node.now }
 {
     !node.is_lost() && node.seen() as usize == count
 }
 
 /// Each node has followed so many entries; else memory ran out.
-pub(crate) fn have_followed<P: Told>(members: &[Member<P>], count: usize) -> Result<(), NoMemory>
+pub(crate) fn have_followed<P: ToldParty>(
+    members: &[Member<P>],
+    count: usize,
+) -> Result<(), NoMemory>
     ensures { OnOk result (AllFollowed P.ways P.lost count members.now) }
 {
     for member in members {
@@ -33,7 +36,7 @@ pub(crate) fn have_followed<P: Told>(members: &[Member<P>], count: usize) -> Res
 
 /// Adds what a person can get of each of these assets.
 #[tactic(auto, using(premises::proofs::Adding::map_step))]
-fn add_shares<P: Told>(all: &mut Vec<Share>, assets: &[u32], node: &P) -> Result<(), NoMemory>
+fn add_shares<P: ToldParty>(all: &mut Vec<Share>, assets: &[u32], node: &P) -> Result<(), NoMemory>
     ensures { OnOk result (all.new.items ≡ all.old.items ++ known_shares P.ways P.shares assets.now node.now) }
 {
     let person = person_name(node.key());
@@ -50,7 +53,7 @@ fn add_shares<P: Told>(all: &mut Vec<Share>, assets: &[u32], node: &P) -> Result
 
 /// What each person with a node can get of each of these assets.
 #[tactic(auto, using(premises::proofs::Adding::joined_step))]
-pub(crate) fn shares_of<P: Told>(
+pub(crate) fn shares_of<P: ToldParty>(
     alloc: Global,
     assets: &[u32],
     members: &[Member<P>],
@@ -98,7 +101,7 @@ fn add_amounts(
 
 /// Adds what a person could get when it was commanded to exit, if it was.
 #[tactic(auto, using(premises::proofs::Adding::nothing_more))]
-fn add_exits<P: Told>(all: &mut Vec<Share>, assets: &[u32], node: &P) -> Result<(), NoMemory>
+fn add_exits<P: ToldParty>(all: &mut Vec<Share>, assets: &[u32], node: &P) -> Result<(), NoMemory>
     ensures { OnOk result (all.new.items ≡ all.old.items ++ known_exits P.ways P.exits assets.now node.now) }
 {
     match node.exit_shares() {
@@ -109,7 +112,7 @@ fn add_exits<P: Told>(all: &mut Vec<Share>, assets: &[u32], node: &P) -> Result<
 
 /// What each person with a node could get when it was commanded to exit.
 #[tactic(auto, using(premises::proofs::Adding::joined_step))]
-pub(crate) fn exits_of<P: Told>(
+pub(crate) fn exits_of<P: ToldParty>(
     alloc: Global,
     assets: &[u32],
     members: &[Member<P>],

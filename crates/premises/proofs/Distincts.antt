@@ -13,7 +13,8 @@ use Rattle.channel_calls.specs.declared.event.Event.{Event}
 use Rattle.net_model.specs.Journals.{In, Line, opened, lines}
 use Rattle.net_model.specs.Hashed.{of_fixed, of_entry, of_deed, of_line, hashed}
 use Rattle.premises.specs.declared.journal.Journal.{Journal}
-use Rattle.premises.specs.Collision.{of_event, of_journal, distinct_strings, strings_opened, are_apart, none_collide, CollisionIsTold, DistinctSuffices}
+use Rattle.premises.specs.Collision.{of_event, of_journal, distinct_strings}
+use Rattle.premises.specs.Telling.{strings_opened, are_apart, none_collide, CollisionIsTold, DistinctSuffices}
 use Rattle.net_model.proofs.Members.{In-append_right, In-append_left, In-append_cases, In-reverse, In-flat_map, joined, contains, contained}
 use Rattle.chain_laws.proofs.Tests.{and-left, and-right, and-both}
 use Rattle.premises.proofs.ListTests.{all-pass, pass-all, own-if, if-own}

@@ -1,15 +1,10 @@
 -- The strings that are hashed for what a history and all journals name, and that no two of them collide.
-use Rattle.std.specs.Prelude.{ℕ, Bool, true, not, ◌&&◌, ◌||◌, List, [], ◌∷◌, ◌++◌, flat_map, reverse, ◌↔◌, IsTrue}
-use Rattle.std.specs.List.{list_all}
-use Rattle.std.specs.Str.{bytes_eq}
-use Rattle.sha2.specs.Sha256.{sha256}
-use Rattle.nitro_bytes.specs.Parts.{FixedParts}
+use Rattle.std.specs.Prelude.{ℕ, List, ◌∷◌, ◌++◌, flat_map}
 use Rattle.channel_name.specs.Collisions.{NoneCollide}
 use Rattle.channel_name.specs.Digests.{person_string}
 use Rattle.channel_calls.specs.declared.entry.Entry.{Entry}
 use Rattle.channel_calls.specs.declared.event.Event.{Event}
-use Rattle.net_model.specs.Journals.{In, Line, opened, lines}
-use Rattle.net_model.specs.Hashed.{of_fixed, of_entry, of_deed, hashed}
+use Rattle.net_model.specs.Hashed.{of_entry, of_deed}
 use Rattle.premises.specs.declared.journal.Journal.{Journal}
 
 -- of an event: of the message that it took, the state that it signed, the calls that it gave
@@ -27,41 +22,6 @@ distinct_strings h journals = flat_map of_entry h ++ flat_map of_journal journal
 abbrev pub Distinct : List Entry → List Journal → Type 0
 Distinct h journals = NoneCollide (distinct_strings h journals)
 
--- two strings aren't different ones with one digest
-abbrev pub are_apart : (List ℕ → List ℕ) → List ℕ → List ℕ → Bool
-are_apart digest a b = not (bytes_eq (digest a) (digest b)) || bytes_eq a b
-
--- no two of the strings are
-abbrev pub none_collide : (List ℕ → List ℕ) → List (List ℕ) → Bool
-none_collide digest [] = true
-none_collide digest (s ∷ rest) = list_all (are_apart digest s) rest && none_collide digest rest
-
--- the test tells
-abbrev pub CollisionIsTold : Type 0
-CollisionIsTold = (strings : List (List ℕ)) → IsTrue (none_collide sha256 strings) ↔ NoneCollide strings
-
--- the strings of the fixed parts that the lines of a journal open
-abbrev pub strings_opened : List Line → List (List ℕ)
-strings_opened journal = flat_map (λ x. flat_map of_fixed (opened x)) journal
-
 -- these strings too are distinct from the others and each other
 abbrev pub DistinctWith : List Entry → List Journal → List (List ℕ) → Type 0
 DistinctWith h journals more = NoneCollide (distinct_strings h journals ++ more)
-
--- For each of the journals: where no strings collide, those of the channels that it opens among them, none do that the laws of
--- safety speak of; nor do those of its key and of more fixed parts, among which these channels are; and Distinct is enough where
--- it opens no new string.
-pub record DistinctSuffices : Type 0 where
-  pub with_commands :
-      (h : List Entry) (journals : List Journal) (j : Journal) (adds : ℕ → List FixedParts) → In j journals
-      → DistinctWith h journals (strings_opened (lines adds (reverse j.events)))
-      → NoneCollide (hashed (reverse h) (lines adds (reverse j.events)))
-  pub with_named :
-      (h : List Entry) (journals : List Journal) (j : Journal) (adds : ℕ → List FixedParts) (more : List FixedParts) → In j journals
-      → ((s : List ℕ) → In s (strings_opened (lines adds (reverse j.events))) → In s (flat_map of_fixed more))
-      → DistinctWith h journals (flat_map of_fixed more)
-      → NoneCollide (hashed (reverse h) (lines adds (reverse j.events)) ++ (person_string j.key ∷ flat_map of_fixed more))
-  pub with_known_commands :
-      (h : List Entry) (journals : List Journal) (j : Journal) (adds : ℕ → List FixedParts) → In j journals
-      → ((s : List ℕ) → In s (strings_opened (lines adds (reverse j.events))) → In s (distinct_strings h journals))
-      → Distinct h journals → NoneCollide (hashed (reverse h) (lines adds (reverse j.events)))

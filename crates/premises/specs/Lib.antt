@@ -7,3 +7,4 @@ pub mod Collision
 pub mod Witness
 pub mod Whose
 pub mod Persons
+pub mod Telling

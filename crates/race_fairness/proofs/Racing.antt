@@ -5,7 +5,7 @@ use Rattle.channel_calls.specs.History.{Legal}
 use Rattle.channel_calls.specs.declared.entry.Entry.{Entry}
 use Rattle.support_chain.specs.Real.{real}
 use Rattle.net_model.proofs.Members.{In-append_left, contains, contained}
-use Rattle.net_model.specs.Premises.{AreValid}
+use Rattle.net_model.specs.Occurring.{AreValid}
 use Rattle.race_laws.specs.Races.{IsRaced}
 use Rattle.node_model.specs.Nodes.{told_of}
 use Rattle.node_model.specs.Playing.{signing_of}
@@ -13,7 +13,8 @@ use Rattle.node_tables.specs.Stages.{stages}
 use Rattle.node_keys.proofs.Made.{made_keys_sign_well}
 use Rattle.node_fairness.proofs.Kept.{plans_keep_shares}
 use Rattle.node_fairness.proofs.Plans.{valid-few}
-use Rattle.node_ways.specs.Ways.{Numbered, ways, IsPlaced}
+use Rattle.node_ways.specs.Ways.{Numbered, ways}
+use Rattle.node_ways.specs.Placed.{IsPlaced}
 use Rattle.race_nodes.specs.Races.{OpensLasting, PlaysRace}
 use Rattle.race_nodes.proofs.Raced.{racers-in_time, racers-safe}
 use Rattle.race_fairness.specs.Laws.{RacedPlansKeepShares, RacingNodesAreInTime, RacingNodesAreSafe, RacingNodesKeepShares}

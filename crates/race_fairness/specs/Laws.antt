@@ -6,7 +6,8 @@ use Rattle.channel_calls.specs.History.{Legal}
 use Rattle.channel_calls.specs.declared.entry.Entry.{Entry}
 use Rattle.support_chain.specs.Real.{real}
 use Rattle.net_model.specs.Hashed.{of_fixed, hashed}
-use Rattle.net_model.specs.Premises.{Unforged, AreValid, InTime}
+use Rattle.net_model.specs.Premises.{Unforged, InTime}
+use Rattle.net_model.specs.Occurring.{AreValid}
 use Rattle.net_model.specs.Safety.{IsSafe}
 use Rattle.network_exits.specs.Keeping.{KeepsItsShare}
 use Rattle.race_laws.specs.Races.{IsRaced}
@@ -16,7 +17,8 @@ use Rattle.node_model.specs.Playing.{Signing, SignsWell}
 use Rattle.node_tables.specs.Stages.{stages}
 use Rattle.node_shares.specs.Orders.{orders_of}
 use Rattle.node_model.specs.Named.{named_in}
-use Rattle.node_ways.specs.Ways.{Numbered, ways, IsPlaced}
+use Rattle.node_ways.specs.Ways.{Numbered, ways}
+use Rattle.node_ways.specs.Placed.{IsPlaced}
 use Rattle.race_nodes.specs.Races.{OpensLasting, PlaysRace}
 
 -- In a race nobody lowers the share of a node's person, and it can leave with it, where nothing is forged and no hashed

@@ -4,7 +4,8 @@ use Rattle.nitro_bytes.specs.declared.chain.Signed.{Signed}
 use Rattle.channel_model.specs.Rules.{Rules, KeepsFinal}
 use Rattle.channel_calls.specs.declared.entry.Entry.{Entry}
 use Rattle.net_model.specs.Journals.{noted_in}
-use Rattle.net_model.specs.Premises.{Unforged, NoCollision, AreValid, InTime}
+use Rattle.net_model.specs.Premises.{Unforged, InTime}
+use Rattle.net_model.specs.Occurring.{NoCollision, AreValid}
 use Rattle.net_model.specs.Safety.{IsSafe}
 use Rattle.race_laws.specs.Races.{WasOpened, NotesLasting}
 use Rattle.node_model.specs.Tables.{Tables}

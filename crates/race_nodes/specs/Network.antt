@@ -4,7 +4,8 @@ use Rattle.channel_name.specs.Collisions.{NoneCollide}
 use Rattle.channel_calls.specs.declared.entry.Entry.{Entry}
 use Rattle.support_chain.specs.Real.{real}
 use Rattle.net_model.specs.Hashed.{hashed}
-use Rattle.net_model.specs.Premises.{Unforged, AreValid, InTime}
+use Rattle.net_model.specs.Premises.{Unforged, InTime}
+use Rattle.net_model.specs.Occurring.{AreValid}
 use Rattle.net_model.specs.Safety.{IsSafe}
 use Rattle.node_model.specs.Tables.{Tables}
 use Rattle.node_model.specs.Places.{Told, lines_of}

@@ -27,7 +27,7 @@ use Rattle.chain_laws.proofs.Tests.{some-eq, none-eq, lt-true, le-true}
 use Rattle.net_model.specs.Held.{held}
 use Rattle.net_model.specs.Honest.{key_at, EndsWith, HonestAt, HonestLine, HonestIn, Honest}
 use Rattle.net_model.specs.Journals.{In, Line, some_if, made_in, noted_in, is_challenge}
-use Rattle.net_model.specs.Premises.{OccursFixed, OccursState, in_call, in_line, NoCollision, AreValid}
+use Rattle.net_model.specs.Occurring.{OccursFixed, OccursState, NoCollision, AreValid, in_call, in_line}
 use Rattle.net_model.specs.Strings.{states_in, outcomes_in, signed_of}
 use Rattle.net_model.proofs.Members.{all-in}
 use Rattle.premises.proofs.Forged.{forgery-told}

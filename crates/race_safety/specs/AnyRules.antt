@@ -4,7 +4,8 @@ use Rattle.channel_model.specs.Rules.{Rules, KeepsFinal}
 use Rattle.channel_calls.specs.History.{Legal}
 use Rattle.channel_calls.specs.declared.entry.Entry.{Entry}
 use Rattle.net_model.specs.Journals.{Line}
-use Rattle.net_model.specs.Premises.{Unforged, NoCollision, AreValid}
+use Rattle.net_model.specs.Premises.{Unforged}
+use Rattle.net_model.specs.Occurring.{NoCollision, AreValid}
 use Rattle.net_model.specs.Honest.{Honest}
 use Rattle.net_model.specs.Safety.{IsSafe}
 use Rattle.race_laws.specs.Races.{IsRaced, NotesLasting}

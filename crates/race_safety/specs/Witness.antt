@@ -1,7 +1,8 @@
 -- The premises of safety in a race can hold together, where a watcher answers old states and a channel becomes final.
 use Rattle.std.specs.Prelude.{ℕ, List, length}
 use Rattle.channel_model.specs.Rules.{KeepsFinal}
-use Rattle.net_model.specs.Premises.{Unforged, NoCollision, AreValid}
+use Rattle.net_model.specs.Premises.{Unforged}
+use Rattle.net_model.specs.Occurring.{NoCollision, AreValid}
 use Rattle.net_model.specs.Honest.{Honest}
 use Rattle.net_model.specs.Safety.{IsChannelOf}
 use Rattle.race_laws.specs.Witness.{Story, second_round, history, journal, PassesRounds}

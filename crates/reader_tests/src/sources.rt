@@ -14,7 +14,7 @@ struct ByteSource<'a> {
 impl Source for ByteSource<'_> {
     ghost use Rattle.std.specs.Prelude.{Some};
 
-    ghost left = { λ s. Some s.bytes.now };
+    ghost remaining = { λ s. Some s.bytes.now };
 
     ghost faults = { λ s. 0 };
 

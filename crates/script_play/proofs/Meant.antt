@@ -6,7 +6,7 @@ use Rattle.std.specs.Prelude.{Bool, ◌||◌, ◌==◌, IsTrue, Option, Some, No
 use Rattle.sha2.proofs.Facts256.{length-sha256}
 use Rattle.sha2.specs.Sha256.{sha256}
 use Rattle.sign_index.specs.Signing.{IsHeight}
-use Rattle.net_party.specs.Ways.{IsFresh}
+use Rattle.net_party.specs.Histories.{IsFresh}
 use Rattle.script_rules.specs.Digests.{id_of, fresh}
 use Rattle.script_rules.specs.Bounds.{Fits, persons}
 use Rattle.script_play.specs.Growth.{FitsEffect, effect_weight, weight}
@@ -46,7 +46,7 @@ challenge_keeps people by f (last ∷ earlier) who = sign_keeps people by _
 
 -- ---- who joins
 
-id_long : (seed : List ℕ) → length (id_of seed) ≡ 16
+pub id_long : (seed : List ℕ) → length (id_of seed) ≡ 16
 unfolding id_of
 id_long seed = length-take-le 16 (sha256 (seed ++ 0x49 ∷ [])) (omega (arith, length-sha256 (seed ++ 0x49 ∷ [])))
 

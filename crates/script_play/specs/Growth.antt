@@ -1,6 +1,6 @@
 -- How much the history grows by each step.
 use Rattle.std.specs.Prelude.{ℕ, ◌*◌, List, sum_by}
-use Rattle.net_party.specs.Ways.{IsFresh}
+use Rattle.net_party.specs.Histories.{IsFresh}
 use Rattle.script_names.specs.declared.effect.Effect.{Effect}
 use Rattle.script_names.specs.declared.effect.Effect.TheVariants as effects
 use Rattle.script_rules.specs.declared.step.Step.{Step}

@@ -1,9 +1,10 @@
 //! Plays the steps of a script.
 #![tactic(auto)]
 
-mod caught;
+mod catching;
 mod replay;
 mod scene;
 
+pub use catching::caught;
 pub use replay::play;
-pub use scene::Scene;
+pub use scene::{Scene, without};

@@ -15,7 +15,7 @@ ghost use Rattle.script_play.specs.Play.{empty, caught, told, naming, entering, 
 ghost use Rattle.script_play.specs.Growth.{FitsEffect, effect_weight, weight};
 ghost use Rattle.script_names.specs.declared.effect.Effect.TheVariants as effects;
 
-use crate::caught::caught;
+use crate::catching::caught;
 use channel_calls::{Entry, Op};
 use net_party::{Command, Party, copy_command};
 use net_world::{Docket, Happening, Member, World, world_step};
@@ -56,7 +56,7 @@ fn entering(op: Op) -> Happening
 }
 
 /// The letters that are not for this person.
-fn without(alloc: Global, post: &[Letter], who: &Name) -> Result<Vec<Letter>, NoMemory>
+pub fn without(alloc: Global, post: &[Letter], who: &Name) -> Result<Vec<Letter>, NoMemory>
     ensures { IfOk result (λ rest. rest.items ≡ filter (λ letter. not (bytes_eq letter.0 who.now)) post.now) }
 {
     let mut rest = Vec::new(alloc);

@@ -1,6 +1,7 @@
 -- What is kept stays good under any rules.
 use Rattle.std.proofs.lemmas.List.Elements.{All-nil}
-use Rattle.channel_store.specs.Keeping.{noting, adopting, IsGoodKept}
+use Rattle.channel_store.specs.Keeping.{noting, adopting}
+use Rattle.channel_store.specs.Good.{IsGoodKept}
 use Rattle.channel_store.proofs.Good.{noting_good, adopting_good, added_good, changed_good, held_are_supported}
 use Rattle.store_laws.specs.Laws.{KeptAreGood}
 

@@ -12,7 +12,8 @@ use Rattle.channel_calls.specs.Reading.{message_of}
 use Rattle.channel_calls.specs.declared.event.Deed.TheVariants as deeds
 use Rattle.net_model.specs.Journals.{Line, opened, some_if, noted_in}
 use Rattle.net_model.specs.Held.{note, show}
-use Rattle.channel_store.specs.Keeping.{noting, adopting, held_chain, AreGood, AreSupported}
+use Rattle.channel_store.specs.Keeping.{noting, adopting, held_chain}
+use Rattle.channel_store.specs.Good.{AreGood, AreSupported}
 use Rattle.channel_store.specs.Storing.{kept_of, kept_with, added}
 use Rattle.channel_store.specs.declared.kept.Kept.{Kept}
 

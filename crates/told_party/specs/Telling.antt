@@ -9,7 +9,8 @@ use Rattle.channel_calls.specs.declared.entry.Entry.{Entry}
 use Rattle.channel_calls.specs.declared.event.Event.{Event}
 use Rattle.net_model.specs.Hashed.{of_fixed, hashed}
 use Rattle.net_model.specs.Journals.{Line}
-use Rattle.net_model.specs.Premises.{Unforged, InTime, AreValid}
+use Rattle.net_model.specs.Premises.{Unforged, InTime}
+use Rattle.net_model.specs.Occurring.{AreValid}
 use Rattle.net_model.specs.Valid.{IsValidEntry}
 use Rattle.net_party.specs.Ways.{Ways}
 use Rattle.net_party.specs.declared.command.Command.{Command}

@@ -3,4 +3,4 @@
 
 mod told;
 
-pub use told::Told;
+pub use told::ToldParty;

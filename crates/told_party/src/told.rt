@@ -2,7 +2,7 @@
 
 ghost use Rattle.std.specs.Prelude.{◌≡◌, ℕ, List, Bool, Option, IfOk, reverse};
 ghost use Rattle.std.specs.Option.{option_map};
-ghost use Rattle.node_model.specs.Places.{Told as ToldEvent};
+ghost use Rattle.node_model.specs.Places.{Told};
 ghost use Rattle.world_laws.specs.Standing.{AreKept};
 ghost use Rattle.told_party.specs.Telling.{AreTold, HaveFixed, LinesAreTold, TellsCommands, SharesAreReal, ExitsAreReal, JournalsAreByRules, KeepsShares};
 
@@ -10,7 +10,7 @@ use net_party::Party;
 use nitro_bytes::NoMemory;
 
 /// A node that keeps what it must, and whose journal tells what it did.
-pub trait Told: Party {
+pub trait ToldParty: Party {
     // What its person can get of an asset, by what the node knows.
     ghost shares: { Self → ℕ → ℕ };
 
@@ -19,7 +19,7 @@ pub trait Told: Party {
     ghost exits: { Self → Option (List (ℕ × ℕ)) };
 
     // The events of its journal with their commands, the newest first.
-    ghost told: { Self → List ToldEvent };
+    ghost told: { Self → List Told };
 
     // Whether memory failed it.
     ghost lost: { Self → Bool };

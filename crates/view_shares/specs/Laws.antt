@@ -11,7 +11,8 @@ use Rattle.channel_calls.specs.declared.view.WorldView.{WorldView}
 use Rattle.net_model.specs.Journals.{Line}
 use Rattle.net_model.specs.Held.{held}
 use Rattle.history_view.specs.Standing.{StandsFor}
-use Rattle.channel_store.specs.Keeping.{known_state, IsGoodKept}
+use Rattle.channel_store.specs.Keeping.{known_state}
+use Rattle.channel_store.specs.Good.{IsGoodKept}
 use Rattle.channel_store.specs.declared.kept.Kept.{Kept}
 use Rattle.funding_value.specs.declared.plan.Plan.{Plan}
 use Rattle.share_model.specs.Funded.{is_funded}

@@ -5,7 +5,8 @@ use Rattle.channel_name.specs.Collisions.{NoneCollide}
 use Rattle.channel_calls.specs.declared.entry.Entry.{Entry}
 use Rattle.net_model.specs.Hashed.{hashed}
 use Rattle.net_model.specs.Journals.{In}
-use Rattle.net_model.specs.Premises.{AreValid, Unforged, InTime}
+use Rattle.net_model.specs.Premises.{Unforged, InTime}
+use Rattle.net_model.specs.Occurring.{AreValid}
 use Rattle.net_model.specs.Safety.{IsSafe}
 use Rattle.net_model.specs.Valid.{IsValidEntry}
 use Rattle.net_party.specs.Ways.{Ways}

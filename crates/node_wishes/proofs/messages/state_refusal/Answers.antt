@@ -1,6 +1,7 @@
 use Rattle.std.proofs.Common.{rules, ◌≡◌, Some, None}
 use Rattle.std.specs.Option.{option_map}
-use Rattle.channel_store.specs.Storing.{kept_of, refusal_of}
+use Rattle.channel_store.specs.Storing.{kept_of}
+use Rattle.channel_store.specs.Noting.{refusal_of}
 use Rattle.node_model.specs.Minds.{facts_of}
 use Rattle.node_model.specs.Refusing.{not_open}
 use Rattle.node_tables.specs.Stages.{stages}

@@ -4,7 +4,7 @@ use Rattle.play_report.proofs.making.report_of.Goals as goal
 
 pub returns-clause-made : goal.returns-clause-made
 returns-clause-made g c =
-    made_so g.P.Party.ways g.P.Told.lost g.P.Told.shares g.P.Told.exits c.args.load c.args.scene
+    made_so g.P.Party.ways g.P.ToldParty.lost g.P.ToldParty.shares g.P.ToldParty.exits c.args.load c.args.scene
     (record {
       history = c.make.result;
       journals = c.make-2.result;

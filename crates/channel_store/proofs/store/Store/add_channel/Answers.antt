@@ -1,6 +1,6 @@
 use Rattle.std.proofs.Common.{rules, ◌≡◌, ◌++◌, ◌∷◌, [], sym, subst}
 use Rattle.support_chain.specs.Real.{real}
-use Rattle.channel_store.specs.Keeping.{IsLent, AreGood}
+use Rattle.channel_store.specs.Good.{IsLent, AreGood}
 use Rattle.channel_store.specs.Storing.{added}
 use Rattle.channel_store.proofs.Good.{added_well}
 use Rattle.channel_store.proofs.store.Store.add_channel.Goals as goal

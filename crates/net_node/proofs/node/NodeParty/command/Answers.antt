@@ -1,7 +1,8 @@
 -- What a command makes of a node is placed, whatever it answered.
 use Rattle.std.proofs.Common.{◌≡◌, rules, sym, subst}
 use Rattle.node_ways.proofs.Kept.{nodes_are_kept}
-use Rattle.node_ways.specs.Ways.{ways, IsPlaced}
+use Rattle.node_ways.specs.Ways.{ways}
+use Rattle.node_ways.specs.Placed.{IsPlaced}
 use Rattle.net_node.proofs.Kept.{failed_keeps}
 use Rattle.net_node.proofs.node.NodeParty.command.Goals as goal
 

@@ -1,6 +1,7 @@
 -- What a command makes of a node stands for the same history, also where memory failed it.
 use Rattle.std.proofs.Common.{refl, sym, ◌∙◌, ap, subst}
-use Rattle.node_model.specs.Nodes.{NodeOf, Stands}
+use Rattle.node_model.specs.Nodes.{NodeOf}
+use Rattle.node_model.specs.Standing.{Stands}
 use Rattle.node_laws.proofs.Calling.{calls_keep_standing}
 use Rattle.node_model.specs.Playing.{signing_of}
 use Rattle.node_objective.proofs.Losing.{loses-partly}

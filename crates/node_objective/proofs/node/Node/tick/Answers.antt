@@ -1,7 +1,8 @@
 -- What a tick makes of a node stands for the same history, also where it was cut off.
 use Rattle.std.proofs.Common.{sym, ◌∙◌, ap, subst}
 use Rattle.node_laws.proofs.Calling.{calls_keep_standing}
-use Rattle.node_model.specs.Nodes.{NodeOf, Stands}
+use Rattle.node_model.specs.Nodes.{NodeOf}
+use Rattle.node_model.specs.Standing.{Stands}
 use Rattle.node_model.specs.Playing.{signing_of}
 use Rattle.node_objective.proofs.node.Node.tick.Goals as goal
 
