@@ -18,7 +18,7 @@ use Rattle.word_reader.specs.declared.asking.Asked.TheVariants.{Run, Load}
 use Rattle.load_script.specs.Load.{load_steps}
 use Rattle.script_run.specs.declared.run.Status.{Status}
 use Rattle.script_run.specs.declared.run.Status.TheVariants.{Done, NoMemory, Usage, Script, ReadFault, WriteFault, TooLong}
-use Rattle.script_run.proofs.Completes.{all_taken, no_more_taken}
+use Rattle.byte_source.proofs.Known.{all_taken, no_more_taken}
 
 -- ---- what words and bytes come to
 

@@ -1,39 +1,18 @@
 -- A sound script ends as done, and so does a load.
-use Rattle.std.proofs.Common.{◌≡◌, ℕ, ◌≤◌, ◌<◌, List, [], ◌++◌, length, Option, Some, None, refl, sym, ◌∙◌, ap, arith, append-nil, length-append, subst}
+use Rattle.std.proofs.Common.{◌≡◌, ℕ, ◌<◌, length, Option, Some, None, refl, arith, subst}
 use Rattle.std.specs.Prelude.{false, IfSome}
-use Rattle.std.specs.Io.KnownBytes.{Keeps, Consumes, IsAtEnd}
 use Rattle.script_reader.specs.Script.{Breaks}
 use Rattle.script_reader.specs.step.Rule.{Rule}
 use Rattle.script_reader.proofs.OneReading.{script_breaks_none}
 use Rattle.byte_source.specs.Outside.{Rose}
-use Rattle.script_run.specs.Run.{Given, wanted, Runs, Takes, Reads, HasScript, IsSound, IsToldOf, EndsAs}
+use Rattle.byte_source.proofs.Known.{all_taken, no_more_taken}
+use Rattle.script_run.specs.Run.{Given, wanted, Runs, Takes, Reads, HasScript, IsRunnable, IsToldOf, EndsAs}
 use Rattle.script_run.specs.declared.run.Status.{Status}
 use Rattle.script_run.specs.declared.run.Status.TheVariants.{Done, NoMemory, Usage, Script, ReadFault, WriteFault, TooLong}
 use Rattle.word_reader.specs.declared.asking.Asked.{Asked}
 use Rattle.word_reader.specs.declared.asking.Asked.TheVariants.{Run, Load}
 use Rattle.report_text.specs.declared.report.Report.{Report}
 use Rattle.net_party.specs.Ways.{Ways}
-
--- a source that isn't asked keeps its bytes
-pub keeps_all : (left : Option (List ℕ)) → Keeps left left
-keeps_all None = tt
-keeps_all (Some bytes) = refl
-
--- what was taken to the end of a source that tells its bytes
-pub all_taken : (before after : Option (List ℕ)) (bytes taken : List ℕ) → before ≡ Some bytes → Consumes before after taken → IsAtEnd after → taken ≡ bytes
-all_taken None after bytes taken e c d = absurd (cc)
-all_taken (Some xs) None bytes taken e c d = absurd c
-all_taken (Some xs) (Some ys) bytes taken e c d =
-    let same : xs ≡ bytes = cc in
-    let whole : xs ≡ taken ++ [] = c ∙ ap (λ r. taken ++ r) d in
-    sym (append-nil taken) ∙ sym whole ∙ same
-
-pub no_more_taken : (before after : Option (List ℕ)) (bytes taken : List ℕ) → before ≡ Some bytes → Consumes before after taken → length taken ≤ length bytes
-no_more_taken None after bytes taken e c = absurd (cc)
-no_more_taken (Some xs) None bytes taken e c = absurd c
-no_more_taken (Some xs) (Some ys) bytes taken e c =
-    let same : xs ≡ bytes = cc in
-    omega (arith, ap length c, ap length same, length-append taken ys)
 
 -- words that ask for a run ask for no load
 one_request : {A : Type 0} (o : Option Asked) (seed count : ℕ) → o ≡ Some Run → o ≡ Some (Load seed count) → A
@@ -58,7 +37,7 @@ not_long g (Load seed count) e some s = one_request (wanted g.words) seed count 
 none_or_some : {A : Type 0} (o : Option A) (x : A) → o ≡ None → o ≡ Some x → ⊥
 none_or_some o x a b = cc
 
-pub completes : {P : Type 0} (ways : Ways P) (g : Given) (status : Status) (report : Option Report) → EndsAs ways g status report → IsSound g → status ≡ Done
+pub completes : {P : Type 0} (ways : Ways P) (g : Given) (status : Status) (report : Option Report) → EndsAs ways g status report → IsRunnable g → status ≡ Done
 completes ways g Done report e s = refl
 completes ways g NoMemory report e s = absurd e
 completes ways g Usage None e s = absurd (none_or_some (wanted g.words) s.0 e.0 s.1)

@@ -2,3 +2,4 @@ pub mod Alike
 pub mod Completes
 pub mod Counts
 pub mod Loaded
+pub mod Pays

@@ -30,7 +30,7 @@ pub record Given : Type 0 where
 
 -- what a run was handed, by what its source tells
 abbrev pub given : {S : Type 0} → (S → Option (List ℕ)) → (S → ℕ) → List (List ℕ) → S → S → Given
-given left faults words old new = record { words = words; before = left old; after = left new; faults_before = faults old; faults_after = faults new }
+given remaining faults words old new = record { words = words; before = remaining old; after = remaining new; faults_before = faults old; faults_after = faults new }
 
 -- the number of a status
 abbrev pub code_of : Status → ℕ
@@ -145,8 +145,8 @@ HasScript Run g = TellsScript g
 HasScript (Load seed count) g = ⊤
 
 -- the words ask for something, and its script is there
-abbrev pub IsSound : Given → Type 0
-IsSound g = Asks g (λ a. HasScript a g)
+abbrev pub IsRunnable : Given → Type 0
+IsRunnable g = Asks g (λ a. HasScript a g)
 
 -- these words, and a source that tells these bytes, and doesn't fail
 pub record IsCalm (words : List (List ℕ)) (bytes : List ℕ) (g : Given) : Type 0 where

@@ -6,15 +6,16 @@ ghost use Rattle.channel_calls.specs.Flows.{AreConserved};
 ghost use Rattle.channel_calls.specs.History.{Legal, newest_first, flows_of};
 ghost use Rattle.support_chain.specs.Real.{real};
 ghost use Rattle.byte_source.specs.Outside.{Rose};
-ghost use Rattle.script_run.specs.Outside.{AppendsPart};
+ghost use Rattle.byte_sink.specs.Outside.{AppendsPart};
 ghost use Rattle.word_reader.specs.Words.{asked};
 ghost use Rattle.word_reader.specs.declared.asking.Asked.{Asked};
 ghost use Rattle.script_run.specs.declared.run.Status.{Status};
+ghost use Rattle.load_laws.specs.Paying.{Pays};
 ghost use Rattle.node_ways.specs.Ways.{ways};
-ghost use Rattle.script_run.specs.Run.{Given, IsSound, IsUnread, given, code_of, wanted, EndsAs, IsToldOf, rule_text, owed};
+ghost use Rattle.script_run.specs.Run.{Given, IsRunnable, IsUnread, given, code_of, wanted, EndsAs, IsToldOf, rule_text, owed};
 
 use crate::records::Records;
-use crate::sink::{Sink, put_all};
+use byte_sink::{Sink, put_all};
 use byte_source::{ReadEnd, Source, read_all};
 use load_script::{LoadFault, load_script};
 use net_node::Node;
@@ -23,7 +24,7 @@ use play_report::report_play;
 use report_text::{Load, Report, text_of};
 use script_reader::{Rule, ScriptFault, read_script_with_signers};
 use std::alloc::{AllocError, Global};
-use told_party::Told;
+use told_party::ToldParty;
 use word_reader::{Asked, asked};
 
 /// How a run ended. A script that is refused has the step, counted from 1, and the rule that it breaks
@@ -73,7 +74,7 @@ fn without_report(status: Status) -> Ended
 }
 
 /// What a script comes to that was read whole.
-fn run_script<P: Told>(alloc: Global, bytes: &[u8]) -> Result<Ended, NoMemory>
+fn run_script<P: ToldParty>(alloc: Global, bytes: &[u8]) -> Result<Ended, NoMemory>
     ensures ends { (given : Given) → wanted given.words ≡ Some Asked.Run → Consumes given.before given.after bytes.now
         → IsAtEnd given.after → length bytes.now ≤ 4194304
         → IfOk result (λ ended. EndsAs P.ways given ended.status ended.report) }
@@ -94,9 +95,9 @@ fn run_script<P: Told>(alloc: Global, bytes: &[u8]) -> Result<Ended, NoMemory>
 }
 
 /// What comes of a script that the source has.
-fn run_source<P: Told, S: Source>(alloc: Global, source: &mut S) -> Result<Ended, NoMemory>
+fn run_source<P: ToldParty, S: Source>(alloc: Global, source: &mut S) -> Result<Ended, NoMemory>
     ensures ends { (words : List (List ℕ)) → wanted words ≡ Some Asked.Run
-        → IfOk result (λ ended. EndsAs P.ways (given S.left S.faults words source.old source.new) ended.status ended.report) }
+        → IfOk result (λ ended. EndsAs P.ways (given S.remaining S.faults words source.old source.new) ended.status ended.report) }
     ensures legal { IfOk result (λ ended. IfSome ended.report (λ report. Legal real (newest_first report.history))) }
 {
     match read_all(alloc, source) {
@@ -109,7 +110,7 @@ fn run_source<P: Told, S: Source>(alloc: Global, source: &mut S) -> Result<Ended
 
 /// What a load comes to. Nothing is read for it.
 #[tactic(auto, using(crate::proofs::Counts::wanted_load, crate::proofs::Counts::wanted_no_load))]
-fn run_load<P: Told>(alloc: Global, seed: u64, count: u32) -> Result<Ended, NoMemory>
+fn run_load<P: ToldParty>(alloc: Global, seed: u64, count: u32) -> Result<Ended, NoMemory>
     requires some { 1 ≤ count }
     requires few { count ≤ 1000 }
     ensures ends { (given : Given) → asked given.words ≡ Some (Asked.Load seed count) → IsUnread given
@@ -131,13 +132,13 @@ fn run_load<P: Told>(alloc: Global, seed: u64, count: u32) -> Result<Ended, NoMe
 }
 
 /// What the words and the source come to, with nodes of this type.
-#[tactic(auto, using(crate::proofs::Completes::keeps_all, crate::proofs::Counts::some_payments, crate::proofs::Counts::few_payments, crate::proofs::Counts::wanted_none, crate::proofs::Counts::wanted_run))]
-fn work<P: Told, S: Source>(
+#[tactic(auto, using(byte_source::proofs::Known::keeps_all, crate::proofs::Counts::some_payments, crate::proofs::Counts::few_payments, crate::proofs::Counts::wanted_none, crate::proofs::Counts::wanted_run))]
+fn work<P: ToldParty, S: Source>(
     alloc: Global,
     words: &[Label],
     source: &mut S,
 ) -> Result<Ended, NoMemory>
-    ensures ends { IfOk result (λ ended. EndsAs P.ways (given S.left S.faults words.now source.old source.new) ended.status ended.report) }
+    ensures ends { IfOk result (λ ended. EndsAs P.ways (given S.remaining S.faults words.now source.old source.new) ended.status ended.report) }
     ensures legal { IfOk result (λ ended. IfSome ended.report (λ report. Legal real (newest_first report.history))) }
 {
     match asked(alloc, words)? {
@@ -190,7 +191,7 @@ fn owed(alloc: Global, ended: &Ended) -> Result<Vec<u8>, NoMemory>
 }
 
 /// Does all that the program does: reads the script or makes that of a load, plays it and puts the text of its report.
-#[tactic(auto, using(report_text::proofs::Numbers::conserved_in_time, crate::proofs::Completes::completes, crate::proofs::Completes::is_told))]
+#[tactic(auto, using(report_text::proofs::Numbers::conserved_in_time, crate::proofs::Completes::completes, crate::proofs::Completes::is_told, crate::proofs::Pays::pays))]
 pub fn run_words<S: Source, K: Sink>(
     alloc: Global,
     words: &[Label],
@@ -199,12 +200,12 @@ pub fn run_words<S: Source, K: Sink>(
 ) -> Ended
     // Every status but want of memory and a fault of the sink has its cause, and its text was put whole.
     ensures ended { result.status ≢ Status.NoMemory → result.status ≢ Status.WriteFault
-        → EndsAs ways (given S.left S.faults words.now source.old source.new) result.status result.report
+        → EndsAs ways (given S.remaining S.faults words.now source.old source.new) result.status result.report
         × Appends (K.held sink.old) (K.held sink.new) (owed result.status result.report) }
 
     // At a fault of the sink a part was put of what another end owes, and the report is that end's.
     ensures write_fault { result.status ≡ Status.WriteFault → Rose (K.faults sink.old) (K.faults sink.new)
-        × ((other : Status) × EndsAs ways (given S.left S.faults words.now source.old source.new) other result.report
+        × ((other : Status) × EndsAs ways (given S.remaining S.faults words.now source.old source.new) other result.report
         × AppendsPart (K.held sink.old) (K.held sink.new) (owed other result.report)) }
 
     // For want of memory nothing was put.
@@ -225,10 +226,15 @@ pub fn run_words<S: Source, K: Sink>(
     // that was commanded right before, or, where none was and its plan is funded, not at all (for these its watchers needn't be
     // in time); it can leave with its share; and once its channels are final and the calls of its exit stand after that, what
     // was printed of its exit is paid to it, whatever others enter between.
-    ensures told { IfSome result.report (IsToldOf ways (given S.left S.faults words.now source.old source.new)) }
+    ensures told { IfSome result.report (IsToldOf ways (given S.remaining S.faults words.now source.old source.new)) }
+
+    // A load pays what it says: its history is two deposits, a conclusion and two transfers; both people were paid what they
+    // have after its payments, and no channel holds anything; no command was refused, and the shares that are told are what
+    // was paid.
+    ensures pays { IfSome result.report (λ report. IfSome report.load (λ load. Pays load report)) }
 
     // A sound script runs to its end, and so does a load, unless memory runs out.
-    ensures complete { IsSound (given S.left S.faults words.now source.old source.new)
+    ensures complete { IsRunnable (given S.remaining S.faults words.now source.old source.new)
         → ¬ (Rose (K.faults sink.old) (K.faults sink.new))
         → (result.status ≡ Status.Done) ⊎ (result.status ≡ Status.NoMemory) }
 {

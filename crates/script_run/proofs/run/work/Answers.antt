@@ -1,6 +1,6 @@
 -- What words ask for has 1 to 1,000 payments, and a load reads nothing.
 use Rattle.std.proofs.Common.{◌≡◌, Some, refl, rules}
-use Rattle.script_run.proofs.Completes.{keeps_all}
+use Rattle.byte_source.proofs.Known.{keeps_all}
 use Rattle.script_run.proofs.Counts.{some_payments, few_payments}
 use Rattle.script_run.specs.Run.{given}
 use Rattle.word_reader.specs.Words.{asked}
@@ -20,5 +20,5 @@ run_load-requires-clause-few g c =
 pub returns-in-Some-Load-clause-ends : goal.returns-in-Some-Load-clause-ends
 returns-in-Some-Load-clause-ends g c =
     let is : asked c.args.words.now ≡ Some (Load c.in-Some-Load.seed c.in-Some-Load.count) = search rules in
-    c.run_load.ensures.ends (given g.S.Source.left g.S.Source.faults c.args.words.now c.args.source.now c.args.source.now) is
-    (keeps_all (g.S.Source.left c.args.source.now), refl)
+    c.run_load.ensures.ends (given g.S.Source.remaining g.S.Source.faults c.args.words.now c.args.source.now c.args.source.now) is
+    (keeps_all (g.S.Source.remaining c.args.source.now), refl)

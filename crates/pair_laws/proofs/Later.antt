@@ -1,0 +1,30 @@
+-- The second transfer.
+use Rattle.std.proofs.Common.{◌≡◌, ℕ, ◌+◌, ◌-◌, ◌<◌, List, arith}
+use Rattle.nitro_bytes.specs.declared.chain.Mark.{Mark}
+use Rattle.channel_model.specs.Rules.{Rules}
+use Rattle.channel_calls.specs.declared.call.Call.{Call}
+use Rattle.channel_calls.specs.declared.call.Call.TheVariants.{Transfer}
+use Rattle.channel_calls.proofs.Names.{bytes_eq_self}
+use Rattle.pair_laws.proofs.Numbers.{same-number, zeroless}
+use Rattle.pair_laws.specs.Pair.{Pair, name, split}
+use Rattle.std.specs.Prelude.{min}
+use Rattle.channel_calls.specs.declared.call.Op.TheVariants as ops
+use Rattle.channel_calls.specs.declared.refusal.Reply.TheVariants.{Paid}
+use Rattle.channel_calls.specs.History.{reply_to}
+use Rattle.pair_laws.proofs.Replies.{paid_a, paid_b}
+
+rest-b : (a b x y : ℕ) → x + y ≡ a + b → min (y - 0) (0 + b + a - (0 + x + 0 + 0) - (0 + (x - (0 + x)))) ≡ y
+rest-b a b x y e = omega arith
+
+rest-a : (a b x y : ℕ) → x + y ≡ a + b → min (x - 0) (0 + b + a - (0 + y + 0 + 0) - 0) ≡ x
+rest-a a b x y e = omega arith
+
+pub replies_then_b : (r : Rules) (p : Pair) (turn x y caller : ℕ) (marks : List Mark) → x + y ≡ p.a + p.b → 0 < y
+    → reply_to r (paid_a r p turn x y caller marks) (ops.Call (Transfer (name r p) (split p x y) p.asset 1)) ≡ Paid y
+unfolding reply_to
+replies_then_b r p turn x y caller marks sum some = simp (bytes_eq_self, same-number p.asset, rest-b p.a p.b x y sum, zeroless y some)
+
+pub replies_then_a : (r : Rules) (p : Pair) (turn x y caller : ℕ) (marks : List Mark) → x + y ≡ p.a + p.b → 0 < x
+    → reply_to r (paid_b r p turn x y caller marks) (ops.Call (Transfer (name r p) (split p x y) p.asset 0)) ≡ Paid x
+unfolding reply_to
+replies_then_a r p turn x y caller marks sum some = simp (bytes_eq_self, same-number p.asset, rest-a p.a p.b x y sum, zeroless x some)

@@ -1,0 +1,9 @@
+pub mod Nodes
+pub mod Notes
+pub mod Opening
+pub mod Replies
+pub mod Running
+pub mod Seeing
+pub mod Pasts
+pub mod Later
+pub mod Numbers
