@@ -1,7 +1,8 @@
 -- What a call makes of a node is placed, whatever it answered.
 use Rattle.std.proofs.Common.{◌≡◌, Bool, true, false, cond, List, refl, sym, ◌∙◌, ap, subst}
 use Rattle.std.specs.List.{flat_map}
-use Rattle.std.specs.Prelude.{ℕ, Option, Some, None, Result, Ok, Err, OnOk, OnErr}
+use Rattle.std.specs.Prelude.{ℕ, Option, Some, None, Result, Ok, Err, OnOk, OnErr, IsErr}
+use Rattle.chain_laws.proofs.Tests.{clash}
 use Rattle.channel_calls.specs.History.{Legal}
 use Rattle.channel_calls.specs.declared.entry.Entry.{Entry}
 use Rattle.channel_calls.specs.declared.call.Call.{Call}
@@ -151,3 +152,25 @@ pub handle_refuses : {A : Type 0} (p : Numbered) (bytes copy : List ℕ) (new : 
     → HandleAnswers stages real copy p.node new result → RefusesAs (ways.refuses bytes p) result
 handle_refuses p bytes copy new result same answer =
     subst (λ (b : List ℕ). RefusesAs (ways.refuses b p) result) same (refuses-as p copy new result answer)
+
+-- ---- want of memory outside
+
+-- the node is lost, with its journal as it was
+pub lose_keeps : (p : Numbered) (new : NodeOf) → new ≡ record p.node { is_lost = true } → (h : List Entry) → Legal real h → IsPlaced h p → IsPlaced h (record p { node = new })
+lose_keeps p new is h legal placed =
+    let lost : new.is_lost ≡ true = ap (λ (n : NodeOf). n.is_lost) is in
+    lost-placed h p new lost (ap (λ (n : NodeOf). n.signer) is)
+    (λ st. lost_nodes_stand stages real (signing_of p.node.signer) h p.node new lost (ap (λ (n : NodeOf). n.journal) is) (ap (λ (n : NodeOf). n.commands) is) st) placed
+
+-- a lost node answers nothing else, and stays as it is
+pub stays_lost : {A E : Type 0} (p : Numbered) (new : NodeOf) (change : NodeOf) (result : Result A E) → OnOk result ((p.node.is_lost ≡ false) × (new ≡ change))
+    → (p.node.is_lost ≡ true → new ≡ p.node) → p.node.is_lost ≡ true → IsErr result × (record p { node = new } ≡ p)
+stays_lost p new change (Ok done) ok still lost = absurd (clash p.node.is_lost lost ok.0)
+stays_lost p new change (Err fault) ok still lost = (refl, ap (λ (n : NodeOf). record p { node = n }) (still lost))
+
+-- where memory failed the node it is lost
+pub handle_loses : {A : Type 0} (bytes : List ℕ) (old new : NodeOf) (result : Result A NodeFault) → HandleAnswers stages real bytes old new result
+    → result ≡ Err NoMemory → new.is_lost ≡ true
+handle_loses bytes old new (Ok done) answer is = absurd cc
+handle_loses bytes old new (Err (Refused refusal)) answer is = absurd cc
+handle_loses bytes old new (Err NoMemory) answer is = answer.0

@@ -3,3 +3,4 @@ pub mod Followed
 pub mod Kept
 pub mod Gaining
 pub mod Own
+pub mod Few

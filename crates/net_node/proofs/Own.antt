@@ -1,9 +1,8 @@
 -- A state that the node signs where its rules give it passes the store's tests.
-use Rattle.std.proofs.Common.{◌≡◌, ℕ, Bool, true, false, cond, not, ◌&&◌, List, refl, sym, ◌∙◌, ap, subst}
+use Rattle.std.proofs.Common.{◌≡◌, ℕ, zero, suc, Bool, true, false, cond, not, ◌&&◌, List, [], ◌∷◌, refl, sym, ◌∙◌, ap, subst}
 use Rattle.std.specs.Prelude.{◌==◌, is_none, Option, Some, None}
 use Rattle.std.specs.List.{slice_get}
 use Rattle.std.specs.Option.{option_map}
-use Rattle.std.specs.Str.{bytes_eq}
 use Rattle.nitro_bytes.specs.Parts.{StateParts}
 use Rattle.nitro_bytes.specs.declared.chain.Signed.{Signed}
 use Rattle.nitro_bytes.specs.declared.fault.StepFault.{StepFault}
@@ -14,17 +13,18 @@ use Rattle.channel_model.specs.Rules.{people, signs, is_signed_well}
 use Rattle.channel_model.specs.Words.{fault_if, ◌⊳◌}
 use Rattle.channel_name.specs.Messages.{message_of_state}
 use Rattle.channel_store.specs.Keeping.{is_ended, next_of, step_of}
-use Rattle.channel_store.specs.Good.{note_fault}
-use Rattle.channel_store.specs.Storing.{kept_of}
+use Rattle.channel_store.specs.Storing.{is_of, place_of, kept_of}
 use Rattle.channel_store.specs.Noting.{refusal_at, refusal_of}
 use Rattle.channel_store.specs.declared.fault.NoteFault.TheVariants as faults
 use Rattle.channel_store.specs.declared.kept.Kept.{Kept}
+use Rattle.node_mind.specs.Owned.{IsOwned, AreOwned}
 use Rattle.node_model.specs.Minds.{Mind, facts_of}
 use Rattle.node_model.specs.Refusing.{is_open, stands_in, follows, can_sign, if_signable, signs_of, wish}
 use Rattle.node_objective.specs.Answers.{IsWanted}
 use Rattle.node_tables.specs.Stages.{stages}
+use Rattle.store_laws.proofs.Keeping.{named as found_named}
+use Rattle.store_laws.proofs.Places.{found_passes}
 use Rattle.support_chain.specs.Real.{real}
-use Rattle.net_node.specs.Own.{is_key, is_own}
 
 -- the tests of the store, one by one
 passed : (ended next well : Bool) (k : Kept) (step : Option StepFault) → ended ≡ false → next ≡ true → well ≡ true → step ≡ None
@@ -42,25 +42,25 @@ none-there : (o : Option StepFault) → is_none o ≡ true → o ≡ None
 none-there None e = refl
 none-there (Some fault) e = absurd cc
 
--- the participant's own key is that of its position
-key-is : (key : List ℕ) (o : Option (List ℕ)) → is_key key o ≡ true → o ≡ Some key
-key-is key None e = absurd cc
-key-is key (Some own) e = ap (λ (z : List ℕ). Some z) (same_bytes own key e)
+owned-at : (key : List ℕ) (kept : List Kept) (i : ℕ) (k : Kept) → AreOwned key kept → slice_get kept i ≡ Some k → IsOwned key k
+owned-at key [] i k all e = absurd (none-eq k e)
+owned-at key (x ∷ xs) zero k all e = subst (IsOwned key) (some-eq x k e) all.0
+owned-at key (x ∷ xs) (suc i) k all e = owned-at key xs i k all.1 e
 
 module _ (key : List ℕ) (m : Mind) (channel : List ℕ) (state : StateParts) (signature : List ℕ) (wanted : IsWanted stages real m channel state)
-    (verifies : real.verifies key (message_of_state (real.digest channel state)) signature ≡ true) where
+    (verifies : real.verifies key (message_of_state (real.digest channel state)) signature ≡ true) (owned : AreOwned key m.kept) where
   abbrev signed : Signed
   signed = record { state = state; signature = signature }
 
-  at : (o : Option Kept) → signs_of stages real wanted.waits m channel o ≡ Some state → is_own key channel o ≡ true → refusal_at real signed o ≡ None
-  at None e own = absurd (none-eq state e)
-  at (Some k) e own = wished (wish stages wanted.waits m channel k) e
+  at : (o : Option Kept) → kept_of channel m.kept ≡ o → signs_of stages real wanted.waits m channel o ≡ Some state → refusal_at real signed o ≡ None
+  at None there e = absurd (none-eq state e)
+  at (Some k) there e = wished (wish stages wanted.waits m channel k) e
     where
-      named : real.named k.chain.fixed ≡ channel
-      named = same_bytes (real.named k.chain.fixed) channel (and-left (bytes_eq (real.named k.chain.fixed) channel) (is_key key (slice_get k.chain.fixed.keys k.me)) own)
+      own : IsOwned key k
+      own = owned-at key m.kept (place_of channel m.kept) k owned there
 
-      mine : slice_get k.chain.fixed.keys k.me ≡ Some key
-      mine = key-is key (slice_get k.chain.fixed.keys k.me) (and-right (bytes_eq (real.named k.chain.fixed) channel) (is_key key (slice_get k.chain.fixed.keys k.me)) own)
+      named : real.named k.chain.fixed ≡ channel
+      named = own.named ∙ same_bytes k.channel channel (found_passes (is_of channel) m.kept k (sym (found_named channel m.kept) ∙ there))
 
       by : can_sign real (facts_of m) channel k state ≡ true → refusal_at real signed (Some k) ≡ None
       by can =
@@ -71,7 +71,7 @@ module _ (key : List ℕ) (m : Mind) (channel : List ℕ) (state : StateParts) (
           let moves : mover (people k.chain.fixed) state.turn ≡ k.me =
           eqb-true (mover (people k.chain.fixed) state.turn) k.me (and-right (state.turn == next_of k) (mover (people k.chain.fixed) state.turn == k.me) both) in
           let well : is_signed_well real k.chain.fixed signed ≡ true =
-          ap (λ (o : Option (List ℕ)). signs real o (message_of_state (real.digest (real.named k.chain.fixed) state)) signature) (ap (slice_get k.chain.fixed.keys) moves ∙ mine)
+          ap (λ (o : Option (List ℕ)). signs real o (message_of_state (real.digest (real.named k.chain.fixed) state)) signature) (ap (slice_get k.chain.fixed.keys) moves ∙ own.mine)
           ∙ (ap (λ (n : List ℕ). real.verifies key (message_of_state (real.digest n state)) signature) named ∙ verifies) in
           passed (is_ended k) (state.turn == next_of k) (is_signed_well real k.chain.fixed signed) k (step_of real k state)
           (not-then (is_ended k) (and-left (not (is_ended k)) (is_none (step_of real k state)) goes)) next well (none-there (step_of real k state) (and-right (not (is_ended k)) (is_none (step_of real k state)) goes))
@@ -84,5 +84,5 @@ module _ (key : List ℕ) (m : Mind) (channel : List ℕ) (state : StateParts) (
           test true can e = by (subst (λ (z : StateParts). can_sign real (facts_of m) channel k z ≡ true) (some-eq t state e) can)
           test false can e = absurd (none-eq state e)
 
-  pub passes : is_own key channel (kept_of channel m.kept) ≡ true → refusal_of real channel signed m.kept ≡ None
-  passes own = at (kept_of channel m.kept) wanted.is own
+  pub passes : refusal_of real channel signed m.kept ≡ None
+  passes = at (kept_of channel m.kept) refl wanted.is

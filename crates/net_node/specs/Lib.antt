@@ -7,4 +7,4 @@ pub mod Got
 pub mod Ruled
 pub mod Notes
 pub mod Holds
-pub mod Own
+pub mod Few

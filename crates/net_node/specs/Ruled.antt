@@ -1,5 +1,5 @@
 -- The journal of a node is one that its rules give, event for event.
-use Rattle.std.proofs.Common.{◌≡◌, ℕ, Bool, true, false, cond, List, ◌∷◌, ◌++◌, length, refl, subst}
+use Rattle.std.proofs.Common.{◌≡◌, ℕ, Bool, true, false, cond, List, refl, subst}
 use Rattle.std.specs.Prelude.{Option, Some, None, is_none}
 use Rattle.nitro_bytes.specs.Parts.{StateParts}
 use Rattle.channel_calls.specs.declared.entry.Entry.{Entry}
@@ -15,8 +15,8 @@ use Rattle.node_laws.proofs.Bridging.{plays-at}
 use Rattle.node_laws.proofs.Exits.{played_journals_leave_for_good}
 use Rattle.node_model.specs.Minds.{Mind, facts_of}
 use Rattle.node_model.specs.Nodes.{told_of}
-use Rattle.node_model.specs.Places.{Told, mind_at}
-use Rattle.node_model.specs.Playing.{Signing, signing_of, signings, pending, Allowed, Plays, PlaysEvent}
+use Rattle.node_model.specs.Places.{mind_at}
+use Rattle.node_model.specs.Playing.{Signing, signing_of, signings, pending, Allowed, Plays}
 use Rattle.node_model.specs.Refusing.{not_open, wish_staying, if_signable, signs_of, signs_in}
 use Rattle.node_model.specs.Tables.{Tables}
 use Rattle.node_tables.specs.Stages.{stages}

@@ -1,12 +1,10 @@
 //! What a node knows, with its signer.
 
 ghost use Rattle.std.specs.Prelude.{◌≡◌, ◌+◌, ◌<◌, ◌^◌, true, None, OnOk, IfOk};
-ghost use Rattle.std.specs.List.{flat_map, slice_get};
-ghost use Rattle.std.specs.Str.{bytes_eq};
+ghost use Rattle.std.specs.List.{flat_map};
 ghost use Rattle.channel_store.specs.Keeping.{held_chain};
-ghost use Rattle.channel_store.specs.Storing.{kept_of};
 ghost use Rattle.channel_store.specs.Noting.{refusal_of};
-ghost use Rattle.net_node.specs.Own.{is_key, is_own};
+ghost use Rattle.node_mind.specs.Owned.{AreOwned};
 ghost use Rattle.node_model.specs.Minds.{fresh, noted};
 ghost use Rattle.node_tables.specs.Stages.{stages};
 ghost use Rattle.node_ways.specs.Ways.{made_of, key_of};
@@ -16,14 +14,14 @@ ghost use Rattle.support_chain.specs.Real.{real};
 
 use crate::seeing::can_see;
 use channel_calls::{Call, Entry, HeldChain, NodeRefusal};
-use channel_name::{challenge_message, channel_name, state_digest, state_message};
+use channel_name::{challenge_message, state_digest, state_message};
 use net_party::Command;
-use nitro_bytes::{Fixed, Key, Listed, Name, NoMemory, Signed, State};
+use nitro_bytes::{Listed, Name, NoMemory, Signed, State};
 use node_mind::Known;
 use node_objective::{Knowing, OwnChallenge};
 use node_refusals::command_refusal;
 use node_wishes::{handle, paying, signable};
-use sign_index::Signer;
+use sign_index::{SignFault, Signer};
 use std::alloc::Global;
 use std::marker::Model;
 
@@ -38,12 +36,13 @@ pub struct Mind {
 impl Model for Mind {
     ghost use Rattle.std.specs.Prelude.{◌≡◌, ◌^◌};
     ghost use Rattle.net_node.specs.Minds.{MindOf};
+    ghost use Rattle.node_ways.specs.Ways.{made_of, key_of};
 
     ghost Value = { MindOf };
 
     ghost view = { λ m. record { known = m.known; signer = m.signer } };
 
-    ghost invariant = { λ m. m.limit ≡ 2 ^ m.signer.h };
+    ghost invariant = { λ m. (m.limit ≡ 2 ^ m.signer.h) × (m.known.key ≡ key_of (made_of m.signer)) };
 }
 
 /// How often a signer signs: its key begins with the type of its tree.
@@ -53,21 +52,6 @@ fn limit_of(signer: &Signer) -> u32
     ensures { result ≡ 2 ^ signer.now.h }
 {
     if signer.public()[3] == 5 { 32 } else { 1024 }
-}
-
-fn is_named(fixed: &Fixed, channel: &Name) -> bool
-    ensures { result ≡ bytes_eq (real.named fixed.now) channel.now }
-{
-    channel_name(fixed.bytes()) == *channel
-}
-
-fn is_at(fixed: &Fixed, place: u8, key: &Key) -> bool
-    ensures { result ≡ is_key key.now (slice_get fixed.now.keys place) }
-{
-    match fixed.keys().get(place as usize) {
-        None => false,
-        Some(own) => *own == *key,
-    }
 }
 
 impl Mind {
@@ -109,33 +93,25 @@ impl Mind {
     {
         match self.signer.sign(message) {
             Ok(bytes) => Ok(Listed::make(bytes)),
-            Err(_) => Err(NoMemory),
+            Err(SignFault::NoMemory) => Err(NoMemory),
+            Err(SignFault::KeySpent(_)) => unreachable!(),
         }
     }
 
-    /// Whether a channel is kept by its name, with this key at the participant's position.
-    fn is_own(&self, channel: &Name, key: &Key) -> bool
-        ensures { result ≡ is_own key.now channel.now (kept_of channel.now self.now.known.kept) }
+    /// Each channel is kept by its name, with the signer's key at the node's position.
+    fn are_owned(&self)
+        ensures { AreOwned (key_of (made_of self.now.signer)) self.now.known.kept }
     {
-        match self.known.store().kept(channel) {
-            None => false,
-            Some(k) => is_named(&k.chain.fixed, channel) && is_at(&k.chain.fixed, k.me, key),
-        }
+        self.known.are_owned();
     }
 
-    /// Notes a state that the node signed and that follows in its channel. The signature isn't verified again: the channel is
-    /// kept by its name, with the node's key at its position, and what the key signs verifies.
+    /// Notes a state that the node signed and that follows in its channel. The signature isn't verified again.
     fn note(&mut self, channel: &Name, signed: Signed) -> Result<(), NoMemory>
-        requires passes { is_own (key_of (made_of self.old.signer)) channel.now (kept_of channel.now self.old.known.kept) ≡ true → refusal_of real channel.now signed self.old.known.kept ≡ None }
+        requires passes { refusal_of real channel.now signed self.old.known.kept ≡ None }
         ensures known { OnOk result (self.new.known ≡ noted real true channel.now signed self.old.known) }
         ensures signer { self.new.signer ≡ self.old.signer }
     {
-        let key = self.signer.public();
-        if self.is_own(channel, &key) {
-            self.known.note(true, channel, signed)
-        } else {
-            Err(NoMemory)
-        }
+        self.known.note(true, channel, signed)
     }
 }
 
@@ -223,6 +199,7 @@ impl Knowing for Mind {
         self.known.left() && self.known.is_over()
     }
 
+    #[tactic(auto, using(node_refusals::proofs::Paid::paid_so))]
     fn paying(&self, channel: &Name, asset: u32, amount: u64) -> Result<Option<State>, NoMemory> {
         paying(&self.known, channel, asset, amount)
     }
@@ -244,6 +221,7 @@ impl Knowing for Mind {
             state: state.copy()?,
             signature: signature.copy()?,
         };
+        self.are_owned();
         self.note(channel, signed)?;
         Ok(signature)
     }

@@ -1,7 +1,9 @@
 //! A node with its number.
 
-ghost use Rattle.std.specs.Prelude.{◌≡◌, true, false, OnOk, OnErr, IfOk};
+ghost use Rattle.std.specs.Prelude.{◌≡◌, ◌+◌, ◌<◌, ◌^◌, true, false, length, OnOk, OnErr, IfOk};
 ghost use Rattle.support_chain.specs.Real.{real};
+ghost use Rattle.net_party.specs.Ways.{followed, looked};
+ghost use Rattle.node_model.specs.Minds.{facts_of};
 ghost use Rattle.node_model.specs.Nodes.{NodeOf, new_node, saw_all};
 ghost use Rattle.node_objective.specs.Answers.{SameJournal};
 ghost use Rattle.node_ways.proofs.Kept.{nodes_are_kept};
@@ -10,14 +12,15 @@ ghost use Rattle.node_ways.specs.Gains.{shares_known};
 ghost use Rattle.node_ways.specs.Ways.{ways};
 ghost use Rattle.node_ways.specs.Placed.{IsPlaced};
 ghost use Rattle.net_node.specs.Notes.{note_if};
+ghost use Rattle.net_node.specs.Shares.{is_lost};
 ghost use Rattle.std.specs.Option.{option_map};
 
 use crate::mind::Mind;
 use crate::sharing::shares_known;
-use channel_calls::{Call, Entry, Event, copy_call};
+use channel_calls::{Call, Entry, Event, HeldChain, Known, WorldView, copy_call};
+use funding_value::Plan;
 use net_party::{Command, Lookout, NodeFault, Outs, Party};
 use nitro_bytes::{Key, Listed, NoMemory};
-use node_mind::Known;
 use node_objective::Knowing;
 use sign_index::Signer;
 use std::alloc::Global;
@@ -34,14 +37,14 @@ pub struct Node {
 }
 
 impl Model for Node {
-    ghost use Rattle.std.specs.Prelude.{◌≡◌};
-    ghost use Rattle.node_ways.specs.Ways.{Numbered, key_of};
+    ghost use Rattle.node_ways.specs.Ways.{Numbered};
+    ghost use Rattle.net_node.specs.Few.{IsNode};
 
     ghost Value = { Numbered };
 
     ghost view = { λ n. record { number = n.number; node = n.node; exits = n.exits } };
 
-    ghost invariant = { λ n. n.key ≡ key_of n.node.signer };
+    ghost invariant = { λ n. IsNode n.key n.node };
 }
 
 /// Follows the entries, one after the other.
@@ -84,30 +87,68 @@ fn copied_calls(alloc: Global, calls: &[Call]) -> Result<Listed<Call>, NoMemory>
     Ok(Listed::make(copies))
 }
 
+/// The checkpoints of a look after these entries, once to be entered and once for the journal.
+fn looked_twice(
+    alloc: Global,
+    lookout: &mut Lookout,
+    entries: &[Entry],
+    chains: &[HeldChain],
+) -> Result<(Vec<Call>, Listed<Call>), NoMemory>
+    requires { lookout.old.seen + length entries.now < 2 ^ 32 }
+    ensures followed { OnOk result (lookout.new ≡ followed entries.now lookout.old) }
+    ensures calls { IfOk result (λ twice. twice.0.items ≡ looked chains.now lookout.new) }
+    ensures given { IfOk result (λ twice. twice.1 ≡ looked chains.now lookout.new) }
+{
+    let calls = lookout.look(entries, chains)?;
+    let given = copied_calls(alloc, calls.as_slice())?;
+    Ok((calls, given))
+}
+
 impl Node {
-    /// The commands that it was told, in their order.
-    pub(crate) fn commands(&self) -> &[Command]
+    /// The commands that it was told, in their order, one for each of their events.
+    pub fn commands(&self) -> &[Command]
         ensures { result.now ≡ self.now.node.commands }
     {
         self.node.commands()
+    }
+
+    /// What it knows of the entries that it followed.
+    pub fn view(&self) -> &WorldView
+        ensures { result.now ≡ (facts_of self.now.node.mind).view }
+    {
+        self.mind().view()
+    }
+
+    /// Its person, and the parts in the order in which they were opened.
+    pub fn plan(&self) -> &Plan
+        ensures { result.now ≡ (facts_of self.now.node.mind).plan }
+    {
+        self.mind().plan()
+    }
+
+    /// The chains that it holds, in the order in which their channels were added.
+    pub fn chains(&self) -> &[HeldChain]
+        ensures { result.now ≡ (facts_of self.now.node.mind).chains }
+    {
+        self.node.mind().chains()
+    }
+
+    /// The last state that it signed in each channel of which it holds a chain, in the same order.
+    pub fn known(&self) -> &[Known]
+        ensures { result.now ≡ (facts_of self.now.node.mind).known }
+    {
+        self.mind().store().known()
     }
 
     pub(crate) fn alloc(&self) -> Global {
         self.alloc
     }
 
-    /// What it knows.
-    pub(crate) fn known(&self) -> &Known
+    /// All that it knows.
+    pub(crate) fn mind(&self) -> &node_mind::Known
         ensures { result.now ≡ self.now.node.mind }
     {
         self.node.mind().known()
-    }
-
-    /// Whether memory failed it.
-    pub(crate) fn has_lost(&self) -> bool
-        ensures { result ≡ self.now.node.is_lost }
-    {
-        self.node.is_lost()
     }
 
     /// What its person could get when it was commanded to exit, if it was.
@@ -139,6 +180,8 @@ impl Party for Node {
     ghost ways = { ways };
 
     ghost stands = { IsPlaced };
+
+    ghost lost = { is_lost };
 
     ghost grows = { nodes_are_kept.grows };
 
@@ -179,6 +222,10 @@ impl Party for Node {
         }
     }
 
+    fn is_lost(&self) -> bool {
+        self.node.is_lost()
+    }
+
     fn see(&mut self, entries: &[Entry]) -> Result<(), NoMemory> {
         if self.node.is_lost() {
             return Err(NoMemory);
@@ -187,7 +234,13 @@ impl Party for Node {
     }
 
     fn command(&mut self, step: u32, command: Command) -> Result<Outs, NodeFault> {
-        let noted = self.noted_for(&command)?;
+        if self.node.is_lost() {
+            return Err(NodeFault::NoMemory);
+        }
+        let Ok(noted) = self.noted_for(&command) else {
+            self.node.lose();
+            return Err(NodeFault::NoMemory);
+        };
         let outs = self.node.command(step, command)?;
         if noted.is_some() {
             self.exits = noted;
@@ -196,7 +249,13 @@ impl Party for Node {
     }
 
     fn handle(&mut self, bytes: &[u8]) -> Result<(), NodeFault> {
-        let bytes = copied_bytes(self.alloc, bytes)?;
+        if self.node.is_lost() {
+            return Err(NodeFault::NoMemory);
+        }
+        let Ok(bytes) = copied_bytes(self.alloc, bytes) else {
+            self.node.lose();
+            return Err(NodeFault::NoMemory);
+        };
         self.node.handle(bytes)
     }
 
@@ -210,11 +269,14 @@ impl Party for Node {
         place: u32,
         entries: &[Entry],
     ) -> Result<Vec<Call>, NoMemory> {
-        let calls = lookout.look(entries, self.node.mind().chains())?;
-        if calls.len() > 64 {
+        if self.node.is_lost() {
             return Err(NoMemory);
         }
-        let given = copied_calls(self.alloc, calls.as_slice())?;
+        let Ok(twice) = looked_twice(self.alloc, lookout, entries, self.node.mind().chains()) else {
+            self.node.lose();
+            return Err(NoMemory);
+        };
+        let (calls, given) = twice;
         self.node.watch(lookout.seen, place, given)?;
         Ok(calls)
     }

@@ -11,7 +11,7 @@ ghost use Rattle.net_node.specs.Got.{nodes_got};
 ghost use Rattle.net_node.specs.Holds.{nodes_hold};
 ghost use Rattle.net_node.specs.Openings.{lines_are_told, lines_open};
 ghost use Rattle.net_node.specs.Ruled.{nodes_play};
-ghost use Rattle.net_node.specs.Shares.{shares, exits, is_lost};
+ghost use Rattle.net_node.specs.Shares.{shares, exits};
 
 use crate::node::Node;
 use crate::sharing::share_known;
@@ -62,18 +62,12 @@ impl ToldParty for Node {
 
     ghost told = { told };
 
-    ghost lost = { is_lost };
-
     fn share(&self, asset: u32) -> Result<u128, NoMemory> {
-        share_known(self.alloc(), self.known(), asset)
+        share_known(self.alloc(), self.mind(), asset)
     }
 
     fn exit_shares(&self) -> Option<&[(u32, u128)]> {
         self.exits()
-    }
-
-    fn is_lost(&self) -> bool {
-        self.has_lost()
     }
 
     #[tactic(auto, using(crate::specs::Openings::adds_are_fixed))]

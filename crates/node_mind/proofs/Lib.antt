@@ -1,3 +1,4 @@
 pub mod Closed
 pub mod Order
 pub mod Standings
+pub mod Owns

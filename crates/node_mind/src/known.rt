@@ -1,13 +1,15 @@
 //! What a node knows.
 
-ghost use Rattle.std.specs.Prelude.{◌≡◌, ◌<◌, ◌≤◌, ◌∷◌, [], List, length, cond, true, None, OnOk, IfOk};
+ghost use Rattle.std.specs.Prelude.{◌≡◌, ◌<◌, ◌≤◌, ◌∷◌, ℕ, [], List, length, cond, true, None, OnOk, OnErr, IfOk};
 ghost use Rattle.std.specs.Option.{option_map};
 ghost use Rattle.nitro_bytes.specs.Spelling.{fixed as spelled};
 ghost use Rattle.channel_name.specs.Digests.{name_of_channel};
 ghost use Rattle.channel_calls.specs.History.{is_accepted};
 ghost use Rattle.channel_calls.specs.Marked.{marked_of};
 ghost use Rattle.channel_calls.specs.Rows.{fixed_of};
+ghost use Rattle.channel_store.specs.Keeping.{noting};
 ghost use Rattle.channel_store.specs.Noting.{refusal_of};
+ghost use Rattle.channel_store.specs.Storing.{kept_with};
 ghost use Rattle.channel_store.specs.declared.kept.Kept.{Kept as AKept};
 ghost use Rattle.history_view.specs.Views.{view_of};
 ghost use Rattle.net_party.specs.declared.command.Command.TheVariants as commands;
@@ -15,6 +17,7 @@ ghost use Rattle.node_model.specs.Giving.{in_order, sends_of};
 ghost use Rattle.node_model.specs.Leaving.{challenge_in, is_over};
 ghost use Rattle.node_model.specs.Minds.{fresh, facts_of, shown_by, kept_seeing, saw, noted, with_opened, commanded};
 ghost use Rattle.node_model.specs.Openings.{goal_with};
+ghost use Rattle.node_mind.specs.Owned.{AreOwned};
 ghost use Rattle.node_mind.specs.Shown.{kept_shown, FewUnder, FewIn, CanSee};
 ghost use Rattle.node_mind.specs.Taking.{with_part, CanOpen, CanShare, CanTake};
 ghost use Rattle.support_chain.specs.Real.{real};
@@ -48,13 +51,14 @@ pub struct Known {
 impl Model for Known {
     ghost use Rattle.std.specs.Prelude.{◌≡◌, ◌≤◌, length};
     ghost use Rattle.channel_name.specs.Digests.{name_of_person};
+    ghost use Rattle.node_mind.specs.Owned.{AreOwned};
     ghost use Rattle.node_model.specs.Minds.{Mind};
 
     ghost Value = { Mind };
 
     ghost view = { λ m. record { key = m.key; parts = m.plan.parts; goals = m.goals.items; view = m.view; kept = m.store; left = m.left } };
 
-    ghost invariant = { λ m. (m.plan.me ≡ name_of_person m.key) × (length m.plan.parts ≤ 64) };
+    ghost invariant = { λ m. (m.plan.me ≡ name_of_person m.key) × (length m.plan.parts ≤ 64) × AreOwned m.key m.store };
 }
 
 /// The newest chain of the channel that was shown.
@@ -94,7 +98,8 @@ fn shown_in(view: &WorldView, entry: &Entry) -> Result<Option<(Name, Chain)>, No
 }
 
 fn adopt_shown(store: &mut Store, shown: Option<(Name, Chain)>) -> Result<(), NoMemory>
-    ensures { OnOk result (store.new ≡ kept_shown shown store.old) }
+    ensures ok { OnOk result (store.new ≡ kept_shown shown store.old) }
+    ensures err { OnErr result (store.new ≡ store.old) }
 {
     match shown {
         None => Ok(()),
@@ -104,6 +109,23 @@ fn adopt_shown(store: &mut Store, shown: Option<(Name, Chain)>) -> Result<(), No
             Ok(())
         }
     }
+}
+
+/// Adopts the chain that was shown, if one was; each channel stays the participant's own.
+fn adopt_own(store: &mut Store, shown: Option<(Name, Chain)>) -> Result<(), NoMemory>
+    ensures ok { OnOk result (store.new ≡ kept_shown shown store.old) }
+    ensures owned { (key : List ℕ) → AreOwned key store.old → AreOwned key store.new }
+{
+    adopt_shown(store, shown)
+}
+
+/// Notes a state that passes the tests; each channel stays the participant's own.
+fn note_own(store: &mut Store, own: bool, channel: &Name, signed: Signed) -> Result<(), NoMemory>
+    requires { refusal_of real channel.now signed store.old ≡ None }
+    ensures ok { OnOk result (store.new ≡ kept_with (noting real own signed) channel.now store.old) }
+    ensures owned { (key : List ℕ) → AreOwned key store.old → AreOwned key store.new }
+{
+    store.note_checked(channel, signed, own)
 }
 
 impl Known {
@@ -157,6 +179,13 @@ impl Known {
         &self.view
     }
 
+    /// Each channel is kept by its name, with the key at the participant's position.
+    pub fn are_owned(&self)
+        ensures { AreOwned self.now.key self.now.kept }
+    {
+        let _ = &self.store;
+    }
+
     pub fn store(&self) -> &Store
         ensures { result.now ≡ self.now.kept }
     {
@@ -188,19 +217,21 @@ impl Known {
     /// Follows an entry, and adopts a newer chain that it shows of a channel that is kept.
     pub fn see(&mut self, entry: &Entry) -> Result<(), NoMemory>
         requires { CanSee entry.now self.old.view }
-        ensures { OnOk result (self.new ≡ saw real entry.now self.old) }
+        ensures saw { OnOk result (self.new ≡ saw real entry.now self.old) }
+        ensures key { self.new.key ≡ self.old.key }
     {
         let shown = shown_in(&self.view, entry)?;
         follow(&mut self.view, entry)?;
-        adopt_shown(&mut self.store, shown)
+        adopt_own(&mut self.store, shown)
     }
 
     /// Notes a state of a channel, which passes the tests; `own` says that the participant signed it.
     pub fn note(&mut self, own: bool, channel: &Name, signed: Signed) -> Result<(), NoMemory>
         requires { refusal_of real channel.now signed self.old.kept ≡ None }
-        ensures { OnOk result (self.new ≡ noted real own channel.now signed self.old) }
+        ensures noted { OnOk result (self.new ≡ noted real own channel.now signed self.old) }
+        ensures key { self.new.key ≡ self.old.key }
     {
-        self.store.note_checked(channel, signed, own)
+        note_own(&mut self.store, own, channel, signed)
     }
 
     /// Adds a part with what is commanded of it.
@@ -211,7 +242,8 @@ impl Known {
         amounts: &(u64, u64),
     ) -> Result<(), NoMemory>
         requires { length self.old.parts < 64 }
-        ensures { OnOk result (self.new ≡ with_part part (goal_with (length self.old.parts) opening amounts.now) self.old) }
+        ensures opened { OnOk result (self.new ≡ with_part part (goal_with (length self.old.parts) opening amounts.now) self.old) }
+        ensures key { self.new.key ≡ self.old.key }
     {
         let place = self.plan.parts.as_slice().len() as u8;
         self.plan.parts.push(part)?;
@@ -226,7 +258,8 @@ impl Known {
 
     fn open(&mut self, fixed: &Fixed, outcome: &Outcome) -> Result<(), NoMemory>
         requires { CanOpen self.old (fixed.now ∷ []) }
-        ensures { OnOk result (self.new ≡ with_opened real (commands.Open fixed.now outcome.now) self.old) }
+        ensures opened { OnOk result (self.new ≡ with_opened real (commands.Open fixed.now outcome.now) self.old) }
+        ensures key { self.new.key ≡ self.old.key }
     {
         let opening = outcome.copy()?;
         join(&mut self.store, &self.key, fixed)?;
@@ -242,7 +275,8 @@ impl Known {
     ) -> Result<(), NoMemory>
         requires channels { CanOpen self.old (fixed.now ∷ []) }
         requires opening { CanShare fixed.now amounts.now }
-        ensures { OnOk result (self.new ≡ with_opened real (commands.OpenOn ledger.now fixed.now asset amounts.now) self.old) }
+        ensures opened { OnOk result (self.new ≡ with_opened real (commands.OpenOn ledger.now fixed.now asset amounts.now) self.old) }
+        ensures key { self.new.key ≡ self.old.key }
     {
         let opening = shared(*self.goals.allocator(), fixed, asset, amounts)?;
         join(&mut self.store, &self.key, fixed)?;
@@ -260,7 +294,8 @@ impl Known {
     ) -> Result<(), NoMemory>
         requires channels { CanOpen self.old (guarantors.now.0 ∷ guarantors.now.1 ∷ joint.now ∷ channel.now ∷ []) }
         requires opening { CanShare channel.now amounts.now }
-        ensures { OnOk result (self.new ≡ with_opened real (commands.OpenVirtual ledgers.now guarantors.now joint.now channel.now asset amounts.now) self.old) }
+        ensures opened { OnOk result (self.new ≡ with_opened real (commands.OpenVirtual ledgers.now guarantors.now joint.now channel.now asset amounts.now) self.old) }
+        ensures key { self.new.key ≡ self.old.key }
     {
         let opening = shared(*self.goals.allocator(), channel, asset, amounts)?;
         let part = part_of_virtual(
@@ -280,7 +315,8 @@ impl Known {
     /// Takes up a command that isn't refused.
     pub fn commanded(&mut self, command: &Command) -> Result<(), NoMemory>
         requires { CanTake command.now self.old }
-        ensures { OnOk result (self.new ≡ commanded real command.now self.old) }
+        ensures commanded { OnOk result (self.new ≡ commanded real command.now self.old) }
+        ensures key { self.new.key ≡ self.old.key }
     {
         match command {
             Command::Open { fixed, outcome } => self.open(fixed, outcome),

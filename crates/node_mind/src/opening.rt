@@ -1,6 +1,6 @@
 //! What a command that opens adds: channels to a store, and a part with its opening outcome.
 
-ghost use Rattle.std.specs.Prelude.{◌≡◌, ◌==◌, ◌&&◌, ◌<◌, ◌^◌, ◌+◌, ◌++◌, ◌∷◌, [], true, None, OnOk, IfOk, slice_index_or};
+ghost use Rattle.std.specs.Prelude.{◌≡◌, ◌==◌, ◌&&◌, ◌<◌, ◌^◌, ◌+◌, ◌++◌, ◌∷◌, [], true, None, OnOk, OnErr, IfOk, slice_index_or};
 ghost use Rattle.std.specs.Str.{bytes_eq};
 ghost use Rattle.nitro_bytes.specs.Outcomes.{IsItem, IsOutcome};
 ghost use Rattle.nitro_bytes.specs.declared.value.Dest.TheVariants.{Person};
@@ -8,6 +8,7 @@ ghost use Rattle.channel_calls.specs.Naming.{name_of};
 ghost use Rattle.channel_store.specs.Storing.{kept_of};
 ghost use Rattle.net_party.specs.declared.command.Command.TheVariants.{OpenVirtual};
 ghost use Rattle.node_model.specs.Openings as openings;
+ghost use Rattle.node_mind.specs.Owned.{AreOwned};
 ghost use Rattle.node_mind.specs.Taking.{joined, CanJoin, CanShare};
 ghost use Rattle.support_chain.specs.Real.{real};
 ghost use Rattle.support_chain.specs.Steps.{persons};
@@ -53,10 +54,10 @@ pub fn name_of(fixed: &Fixed) -> Name
     channel_name(fixed.bytes())
 }
 
-/// Adds the channel, if the key is one of its.
-pub(crate) fn join(store: &mut Store, key: &Key, fixed: &Fixed) -> Result<(), NoMemory>
+fn join_store(store: &mut Store, key: &Key, fixed: &Fixed) -> Result<(), NoMemory>
     requires { openings.takes_part key.now fixed.now ≡ true → kept_of (name_of fixed.now) store.old ≡ None }
-    ensures { OnOk result (store.new ≡ store.old ++ joined key.now (fixed.now ∷ [])) }
+    ensures ok { OnOk result (store.new ≡ store.old ++ joined key.now (fixed.now ∷ [])) }
+    ensures err { OnErr result (store.new ≡ store.old) }
 {
     let place = place_among(key, fixed);
     if place >= fixed.keys().len() {
@@ -64,6 +65,15 @@ pub(crate) fn join(store: &mut Store, key: &Key, fixed: &Fixed) -> Result<(), No
     }
     let fixed = fixed.copy()?;
     store.add_channel(fixed, place as u8)
+}
+
+/// Adds the channel, if the key is one of its; each channel stays the participant's own.
+pub(crate) fn join(store: &mut Store, key: &Key, fixed: &Fixed) -> Result<(), NoMemory>
+    requires { openings.takes_part key.now fixed.now ≡ true → kept_of (name_of fixed.now) store.old ≡ None }
+    ensures joined { OnOk result (store.new ≡ store.old ++ joined key.now (fixed.now ∷ [])) }
+    ensures owned { AreOwned key.now store.old → AreOwned key.now store.new }
+{
+    join_store(store, key, fixed)
 }
 
 /// Adds those of the four channels of which the key is one.
@@ -75,7 +85,8 @@ pub(crate) fn join_virtual(
     channel: &Fixed,
 ) -> Result<(), NoMemory>
     requires { CanJoin key.now (guarantors.now.0 ∷ guarantors.now.1 ∷ joint.now ∷ channel.now ∷ []) store.old }
-    ensures { OnOk result (store.new ≡ store.old ++ joined key.now (guarantors.now.0 ∷ guarantors.now.1 ∷ joint.now ∷ channel.now ∷ [])) }
+    ensures joined { OnOk result (store.new ≡ store.old ++ joined key.now (guarantors.now.0 ∷ guarantors.now.1 ∷ joint.now ∷ channel.now ∷ [])) }
+    ensures owned { AreOwned key.now store.old → AreOwned key.now store.new }
 {
     let (first, second) = guarantors;
     join(store, key, first)?;

@@ -125,9 +125,9 @@ few-challenges r s (c ∷ channels) n =
     length-append (challenge_call r s c (challenge_in n.mind c) n) (challenge_calls r s channels next) in
     omega arith
 
--- what a tick gives is no more than 32768 calls
-pub few-calls : (r : Rules) (s : Signing) (channels : List (List ℕ)) (n : NodeOf) (more all : List Call) → length channels ≤ 192 → length more ≤ 32000
-    → all ≡ challenge_calls r s channels n ++ more → length all ≤ 32768
+-- what a tick gives is no more than 16384 calls
+pub few-calls : (r : Rules) (s : Signing) (channels : List (List ℕ)) (n : NodeOf) (more all : List Call) → length channels ≤ 192 → length more ≤ 16000
+    → all ≡ challenge_calls r s channels n ++ more → length all ≤ 16384
 few-calls r s channels n more all few few-more is =
     let own : length (challenge_calls r s channels n) ≤ length channels = few-challenges r s channels n in
     let long : length all ≡ length (challenge_calls r s channels n) + length more = ap length is ∙ length-append (challenge_calls r s channels n) more in

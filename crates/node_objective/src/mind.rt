@@ -97,17 +97,18 @@ pub trait Knowing {
     fn challenge(&self, channel: &Name) -> Result<Option<OwnChallenge>, NoMemory>
         ensures { IfOk result (λ own. own ≡ challenge_in (mind self.now) channel.now) };
 
-    /// The calls that the stages give, or those of its exit once it left, by whether they were given before; at most 32000.
+    /// The calls that the stages give, or those of its exit once it left, by whether they were given before; at most 16000.
     fn calls(&self, has_exited: bool) -> Result<Vec<Call>, NoMemory>
-        ensures few { IfOk result (λ given. length given.items ≤ 32000) }
+        ensures few { IfOk result (λ given. length given.items ≤ 16000) }
         ensures given { IfOk result (λ given. given.items ≡ calls_of tables has_exited (mind self.now)) };
 
     /// Whether it left, and all channels with a held chain are final.
     fn is_over(&self) -> bool
         ensures { result ≡ (mind self.now).left && is_over (facts_of (mind self.now)) };
 
-    /// The state of a payment that was taken up, in its channel.
+    /// The state of a payment that isn't refused, in its channel.
     fn paying(&self, channel: &Name, asset: u32, amount: u64) -> Result<Option<State>, NoMemory>
+        requires { command_refusal tables rules (signing_of (signer self.now)).limit (times self.now) (mind self.now) (Pay channel.now asset amount) ≡ None }
         ensures { IfOk result (λ state. state ≡ signs_in tables rules (Some (Pay channel.now asset amount)) (mind self.now) channel.now) };
 
     fn used(&self) -> u32

@@ -126,6 +126,7 @@ impl<M: Knowing + Drop> Node<M> {
         // Its journal stays one that the rules give, over every history that it stood for.
         ensures keeps { (h : List AnEntry) → Legal M.rules h → Stands M.tables M.rules (signing_of self.old.signer) h self.old → Stands M.tables M.rules (signing_of self.old.signer) h self.new }
         ensures signer { self.new.signer ≡ self.old.signer }
+        ensures still { self.old.is_lost ≡ true → self.new ≡ self.old }
     {
         if self.is_lost {
             return Err(NodeFault::NoMemory);
@@ -159,9 +160,10 @@ impl<M: Knowing + Drop> Node<M> {
         Ok(refusal)
     }
 
-    /// Signs the state of a payment.
+    /// Signs the state of a payment that isn't refused.
     #[tactic(auto, using(crate::proofs::Wanting::wanted_so))]
     fn pay(&mut self, channel: &Name, asset: u32, amount: u64) -> Result<Sent, NoMemory>
+        requires { command_refusal M.tables M.rules (signing_of self.old.signer).limit self.old.used self.old.mind (Pay channel.now asset amount) ≡ None }
         ensures sends { IfOk result (λ sent. sent.sends.items ≡ paid_sends M.tables M.rules (signing_of self.old.signer) (Pay channel.now asset amount) self.old) }
         ensures ok { OnOk result (self.new ≡ paid_if M.tables M.rules (signing_of self.old.signer) None (Pay channel.now asset amount) self.old) }
         ensures err { OnErr result (SameJournal self.old self.new) }
@@ -284,6 +286,7 @@ impl<M: Knowing + Drop> Node<M> {
         ensures answer { CommandAnswers M.tables M.rules (signing_of self.old.signer) step command self.old self.new result }
         ensures keeps { (h : List AnEntry) → Legal M.rules h → Stands M.tables M.rules (signing_of self.old.signer) h self.old → Stands M.tables M.rules (signing_of self.old.signer) h self.new }
         ensures signer { self.new.signer ≡ self.old.signer }
+        ensures still { self.old.is_lost ≡ true → self.new ≡ self.old }
     {
         if self.is_lost {
             return Err(NodeFault::NoMemory);
@@ -318,6 +321,7 @@ impl<M: Knowing + Drop> Node<M> {
         ensures err { OnErr result ((self.new.is_lost ≡ true) × SameJournal self.old self.new) }
         ensures keeps { (h : List AnEntry) → Legal M.rules h → ComesNext h entry.now self.old → Stands M.tables M.rules (signing_of self.old.signer) h self.old → Stands M.tables M.rules (signing_of self.old.signer) h self.new }
         ensures signer { self.new.signer ≡ self.old.signer }
+        ensures still { self.old.is_lost ≡ true → self.new ≡ self.old }
     {
         if self.is_lost {
             return Err(NoMemory);
@@ -488,7 +492,7 @@ impl<M: Knowing + Drop> Node<M> {
     fn signed_outs(&mut self) -> Result<Outs, NoMemory>
         requires { self.old.is_lost ≡ false }
         ensures gives { IfOk result (λ outs. outs ≡ tick_gives M.tables M.rules (signing_of self.old.signer) self.old) }
-        ensures few { IfOk result (λ outs. length outs.calls ≤ 32768) }
+        ensures few { IfOk result (λ outs. length outs.calls ≤ 16384) }
         ensures kept { OnOk result (self.new.is_lost ≡ false) }
         ensures stands { OnOk result ((h : List AnEntry) → Legal M.rules h → Stands M.tables M.rules (signing_of self.old.signer) h self.old → Stands M.tables M.rules (signing_of self.old.signer) h self.new) }
         ensures ok { OnOk result (self.new ≡ after_challenging M.tables M.rules (signing_of self.old.signer) self.old) }
@@ -514,7 +518,7 @@ impl<M: Knowing + Drop> Node<M> {
     fn tick_now(&mut self) -> Result<Outs, NoMemory>
         requires { self.old.is_lost ≡ false }
         ensures gives { IfOk result (λ outs. outs ≡ tick_gives M.tables M.rules (signing_of self.old.signer) self.old) }
-        ensures few { IfOk result (λ outs. length outs.calls ≤ 32768) }
+        ensures few { IfOk result (λ outs. length outs.calls ≤ 16384) }
         ensures ok { OnOk result (self.new ≡ after_tick M.tables M.rules (signing_of self.old.signer) self.old) }
         ensures err { OnErr result (StandsPartly M.tables M.rules (signing_of self.old.signer) self.old self.new) }
         ensures signer { self.new.signer ≡ self.old.signer }
@@ -526,14 +530,15 @@ impl<M: Knowing + Drop> Node<M> {
     }
 
     /// Signs in each channel, in order, at most one state, which it wants there, or once it left at most one challenge,
-    /// and gives these and the calls of its stages or of its exit, at most 32768.
+    /// and gives these and the calls of its stages or of its exit, at most 16384.
     pub fn tick(&mut self) -> Result<Outs, NoMemory>
         ensures gives { IfOk result (λ outs. outs ≡ tick_gives M.tables M.rules (signing_of self.old.signer) self.old) }
-        ensures few { IfOk result (λ outs. length outs.calls ≤ 32768) }
+        ensures few { IfOk result (λ outs. length outs.calls ≤ 16384) }
         ensures ok { OnOk result ((self.old.is_lost ≡ false) × (self.new ≡ after_tick M.tables M.rules (signing_of self.old.signer) self.old)) }
         ensures err { OnErr result (self.new.is_lost ≡ true) }
         ensures keeps { (h : List AnEntry) → Legal M.rules h → Stands M.tables M.rules (signing_of self.old.signer) h self.old → Stands M.tables M.rules (signing_of self.old.signer) h self.new }
         ensures signer { self.new.signer ≡ self.old.signer }
+        ensures still { self.old.is_lost ≡ true → self.new ≡ self.old }
     {
         if self.is_lost {
             return Err(NoMemory);
@@ -567,6 +572,7 @@ impl<M: Knowing + Drop> Node<M> {
         // Where these are the calls of a look by the chains that it holds.
         ensures keeps { (h : List AnEntry) → Legal M.rules h → Looks M.rules h seen calls self.old → Stands M.tables M.rules (signing_of self.old.signer) h self.old → Stands M.tables M.rules (signing_of self.old.signer) h self.new }
         ensures signer { self.new.signer ≡ self.old.signer }
+        ensures still { self.old.is_lost ≡ true → self.new ≡ self.old }
     {
         if self.is_lost {
             return Err(NoMemory);
@@ -578,6 +584,13 @@ impl<M: Knowing + Drop> Node<M> {
             }
             Ok(()) => Ok(()),
         }
+    }
+
+    /// Memory failed it: it answers nothing else from now on.
+    pub fn lose(&mut self)
+        ensures { self.new ≡ record self.old { is_lost = true } }
+    {
+        self.is_lost = true;
     }
 
     /// What it knows, with its signer.

@@ -3,3 +3,4 @@ pub mod Tests
 pub mod Shares
 pub mod Accepted
 pub mod Taken
+pub mod Paid

@@ -37,7 +37,7 @@ opens : (t : Tables) (m : Mind) (command : Command) → open_refusal t real m co
 opens t m command e =
     not_false (can_open t real m command) (not_broken (not (can_open t real m command)) NotAStep (first_none (fault_if (not (can_open t real m command)) NotAStep) (last_lines t m command) (steps t m command e)))
 
-has_room : (t : Tables) (m : Mind) (command : Command) → open_refusal t real m command ≡ None → nat_lt 64 (length (channels m.parts) + length (opened_by command)) ≡ false
+pub has_room : (t : Tables) (m : Mind) (command : Command) → open_refusal t real m command ≡ None → nat_lt 64 (length (channels m.parts) + length (opened_by command)) ≡ false
 has_room t m command e =
     not_broken (nat_lt 64 (length (channels m.parts) + length (opened_by command))) (TooMany (length (channels m.parts)))
     (others_none (unfinished t (facts_of m)) (too_many m command)

@@ -1,3 +1,4 @@
 mod Moved
 mod Signed
 mod Told
+pub mod Payable

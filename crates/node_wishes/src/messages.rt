@@ -104,6 +104,7 @@ pub fn message_refusal(
 pub fn handle(known: &mut Known, bytes: &[u8]) -> Result<Option<NodeRefusal>, NoMemory>
     ensures refusal { IfOk result (λ refusal. refusal ≡ refusing.message_refusal stages real known.old (message_of bytes.now)) }
     ensures noted { IfOk result (λ refusal. known.new ≡ did real (deeds.Handled bytes.now refusal) None known.old) }
+    ensures key { known.new.key ≡ known.old.key }
 {
     let read = read_message(known.view().channels.allocator(), bytes);
     if let Err(ByteFault::NoMemory) = read {

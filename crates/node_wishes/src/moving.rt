@@ -17,7 +17,7 @@ use std::alloc::Global;
 
 /// An amount of an asset that goes from one destination to another.
 #[derive(Clone, Copy, Debug, PartialEq, Eq)]
-pub(crate) struct Payment {
+pub struct Payment {
     pub from: Dest,
     pub to: Dest,
     pub asset: u32,
@@ -168,7 +168,7 @@ fn valid_of(outcome: Option<&Outcome>)
 
 /// The state of a turn that pays. Where the turn fits a state and the amount is there, only memory can be wanting.
 #[tactic(auto, using(crate::proofs::Moved::assets_are_within, crate::proofs::Moved::outcome_is_made, crate::proofs::Moved::state_is_made))]
-pub(crate) fn state_of(
+pub fn state_of(
     alloc: Global,
     turn: u64,
     payment: &Payment,

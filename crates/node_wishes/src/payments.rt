@@ -11,7 +11,7 @@ ghost use Rattle.funding_value.specs.Shapes.{items_in};
 ghost use Rattle.net_party.specs.declared.command.Command.TheVariants.{Pay};
 ghost use Rattle.node_model.specs.Refusing as refusing;
 ghost use Rattle.node_tables.specs.Stages.{stages};
-ghost use Rattle.node_wishes.specs.Paying.{or_nothing, OnlyMemory};
+ghost use Rattle.node_wishes.specs.Paying.{or_nothing, OnlyMemory, IsPayable};
 ghost use Rattle.support_chain.specs.Real.{real};
 
 use crate::live::{has_left, not_open, not_running, part_joined};
@@ -190,15 +190,15 @@ pub fn pay_refusal(
     }
 }
 
-/// The state of a payment that was taken up, where the node can sign it. A payment that wasn't may be of more than there is:
-/// then its state may be none that there is, and the answer is want of memory.
-#[tactic(auto, using(crate::proofs::Signed::pays_nothing_more, crate::proofs::Signed::signs_no_payment, crate::proofs::Signed::signs_at_own_turn, crate::proofs::Signed::signs_payment))]
+/// The state of a payment that isn't refused, where the node can sign it.
+#[tactic(auto, using(crate::proofs::Signed::pays_nothing_more, crate::proofs::Signed::signs_no_payment, crate::proofs::Signed::signs_at_own_turn, crate::proofs::Signed::signs_payment, crate::proofs::Payable::has_turn, crate::proofs::Payable::has_amount))]
 pub fn paying(
     known: &Known,
     channel: &Name,
     asset: u32,
     amount: u64,
 ) -> Result<Option<State>, NoMemory>
+    requires { IsPayable known.now channel.now asset amount (kept_of channel.now known.now.kept) }
     ensures { IfOk result (λ o. o ≡ refusing.signs_in stages real (Some (Pay channel.now asset amount)) known.now channel.now) }
 {
     if known.left() {
@@ -210,8 +210,6 @@ pub fn paying(
     if !is_own_turn(k) {
         return Ok(None);
     }
-    let Ok(state) = paid_state(known, channel, asset, amount, k) else {
-        return Err(NoMemory);
-    };
+    let state = unless_memory(paid_state(known, channel, asset, amount, k))?;
     Ok(signable_if(&known.facts(), channel, k, Some(state)))
 }

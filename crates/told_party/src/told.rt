@@ -1,6 +1,6 @@
 //! A node whose journal can be told.
 
-ghost use Rattle.std.specs.Prelude.{◌≡◌, ℕ, List, Bool, Option, IfOk, reverse};
+ghost use Rattle.std.specs.Prelude.{◌≡◌, ℕ, List, Option, IfOk, reverse};
 ghost use Rattle.std.specs.Option.{option_map};
 ghost use Rattle.node_model.specs.Places.{Told};
 ghost use Rattle.world_laws.specs.Standing.{AreKept};
@@ -21,9 +21,6 @@ pub trait ToldParty: Party {
     // The events of its journal with their commands, the newest first.
     ghost told: { Self → List Told };
 
-    // Whether memory failed it.
-    ghost lost: { Self → Bool };
-
     /// What its person can get of an asset.
     fn share(&self, asset: u32) -> Result<u128, NoMemory>
         ensures { IfOk result (λ n. n ≡ shares self.now asset) };
@@ -31,9 +28,6 @@ pub trait ToldParty: Party {
     /// What its person could get when it was commanded to exit, if it was.
     fn exit_shares(&self) -> Option<&[(u32, u128)]>
         ensures { option_map (λ s. s.now) result ≡ exits self.now };
-
-    fn is_lost(&self) -> bool
-        ensures { result ≡ lost self.now };
 
     /// The fixed parts that its commands add to its plan are such as their type promises.
     fn openings_are_fixed(&self)
@@ -51,10 +45,10 @@ pub trait ToldParty: Party {
     ghost commands: { TellsCommands Self.ways told };
 
     // Where it followed the whole history, its shares are those of the definition.
-    ghost gets: { SharesAreReal Self.ways Self.stands lost shares told };
+    ghost gets: { SharesAreReal Self.ways Self.stands Self.lost shares told };
 
     // What it tells of its exit are those of the definition just after the command.
-    ghost got: { ExitsAreReal Self.ways Self.stands lost exits told };
+    ghost got: { ExitsAreReal Self.ways Self.stands Self.lost exits told };
 
     // Each event is what the rules and tables of the network's node give.
     ghost plays: { JournalsAreByRules Self.ways Self.stands told };
