@@ -1,11 +1,8 @@
 -- What is there is found, and lists with one more.
-use Rattle.std.proofs.Common.{◌≡◌, ℕ, ◌≤◌, List, [], ◌∷◌, ◌++◌, length, Bool, true, false, cond, Option, Some, None, refl, sym, ◌∙◌, ap, arith}
-use Rattle.std.proofs.lemmas.Bool.Decides.{nat_tests}
-use Rattle.std.proofs.lemmas.List.Folds.{find_at}
-use Rattle.std.proofs.lemmas.Option.{slice_get_past}
+use Rattle.std.proofs.Common.{◌≡◌, ℕ, List, [], ◌∷◌, ◌++◌, Bool, true, false, cond, Option, Some, None, refl, sym, ◌∙◌, ap}
 use Rattle.std.proofs.lemmas.Slice.Eq.{bytes_eq-Decides}
-use Rattle.std.specs.Prelude.{◌&&◌, ◌||◌, nat_lt, IsSome, is_some, map, slice_get}
-use Rattle.std.specs.List.{find, list_any, position, position_or_len}
+use Rattle.std.specs.Prelude.{◌&&◌, ◌||◌, IsSome, is_some, map}
+use Rattle.std.specs.List.{find, list_any}
 use Rattle.std.specs.Option.{option_map}
 use Rattle.std.specs.Str.{bytes_eq}
 use Rattle.script_people.specs.People.{◌>>=◌}
@@ -58,24 +55,6 @@ rest_false false b t = t
 pub head_false : (a b : Bool) → (a || b) ≡ false → a ≡ false
 head_false true b t = absurd (cc)
 head_false false b t = refl
-
--- the place of what is found
-pub placed : {X : Type 0} (test : X → Bool) (xs : List X) (x : X) → find test xs ≡ Some x
-    → (position test xs ≡ Some (position_or_len test xs)) × (slice_get xs (position_or_len test xs) ≡ Some x)
-placed test xs x e = (by (nat_lt (position_or_len test xs) (length xs)) refl, there)
-  where
-    there : slice_get xs (position_or_len test xs) ≡ Some x
-    there = sym (find_at test xs) ∙ e
-
-    nothing : {Y : Type 0} (o : Option Y) (y : Y) → o ≡ Some y → o ≡ None → ⊥
-    nothing o y a b = cc
-
-    outside : (a b : ℕ) → nat_lt a b ≡ false → b ≤ a
-    outside a b t = grind (arith, nat_tests)
-
-    by : (b : Bool) → nat_lt (position_or_len test xs) (length xs) ≡ b → cond b (Some (position_or_len test xs)) None ≡ Some (position_or_len test xs)
-    by true t = refl
-    by false t = absurd (nothing (slice_get xs (position_or_len test xs)) x there (slice_get_past xs (position_or_len test xs) (outside (position_or_len test xs) (length xs) t)))
 
 -- ---- one after another
 

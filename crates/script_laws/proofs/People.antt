@@ -5,6 +5,7 @@ use Rattle.std.specs.Prelude.{◌&&◌, ◌||◌, not, nat_lt, IsSome, slice_set
 use Rattle.std.specs.List.{find, list_any, position_or_len, count_by}
 use Rattle.std.specs.Option.{option_map}
 use Rattle.std.specs.Str.{bytes_eq}
+use Rattle.first_found.proofs.Found.{put_found}
 use Rattle.nitro_bytes.specs.Outcomes.{AreApart}
 use Rattle.sign_index.specs.Made.{made_bytes}
 use Rattle.sign_index.specs.Signing.{Signing}
@@ -12,9 +13,9 @@ use Rattle.script_reader.specs.Conditions as reader
 use Rattle.script_reader.specs.context.Context.{Context}
 use Rattle.script_reader.specs.context.Person.{Person as KnownPerson}
 use Rattle.named_states.specs.Chains.{or_none}
-use Rattle.script_people.specs.People.{keys_by, used_once, sign}
+use Rattle.script_people.specs.People.{SignedBy, has_name, keys_by, used_once, sign}
 use Rattle.script_people.specs.declared.people.Person.{Person}
-use Rattle.script_laws.proofs.Finding.{or_head, same_bytes, bytes_themselves, rest_false, head_false, placed, any_push}
+use Rattle.script_laws.proofs.Finding.{or_head, same_bytes, bytes_themselves, rest_false, head_false, any_push}
 
 -- a person has no hand where the reader says that it has a node, and else one that signed no more often than the reader counts
 abbrev pub IsHand : List (List ℕ) → KnownPerson → Option Signing → Type 0
@@ -184,8 +185,7 @@ pub signs : (qs : List Person) (name message : List ℕ) (q : Person) (hand : Si
     → nat_lt hand.used (2 ^ hand.h) ≡ true
     → sign qs name message ≡ Some (record { signature = made_bytes hand.seed hand.id hand.h hand.used message; people = after_sign name qs q hand })
 signs qs name message q hand found has unspent =
-    let at = placed (λ (x : Person). bytes_eq x.name name) qs q found in
-    rw (at.0, at.1, has, unspent) refl
+    rw (found, has, unspent) (ap {B = Option SignedBy} (λ (l : List Person). Some (record { signature = made_bytes hand.seed hand.id hand.h hand.used message; people = l })) (sym (put_found (has_name name) qs q (used_once q hand) found)))
 
 -- the people after it
 pub signed_people : (by : List ℕ) (signers : List (List ℕ)) (ps : List KnownPerson) (qs : List Person) (q : Person) (hand : Signing) → SamePeople signers ps qs

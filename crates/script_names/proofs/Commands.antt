@@ -2,9 +2,10 @@
 use Rattle.std.proofs.Common.{◌≡◌, ℕ, zero, suc, Bool, true, false, cond, List, [], ◌∷◌, ◌++◌, map, flat_map, refl, sym, ◌∙◌, ap, subst, rules}
 use Rattle.std.proofs.lemmas.Option.{same_Some}
 use Rattle.std.specs.Prelude.{Option, Some, None, unwrap_or, slice_get, slice_set}
-use Rattle.std.specs.List.{find, position}
+use Rattle.std.specs.List.{find, position_or_len}
 use Rattle.std.specs.Option.{option_map}
 use Rattle.std.specs.Str.{bytes_eq}
+use Rattle.first_found.proofs.Found.{found_inside, put_found}
 use Rattle.nitro_bytes.specs.Parts.{FixedParts, fixed_with}
 use Rattle.channel_calls.specs.declared.call.Op.{Op}
 use Rattle.channel_calls.specs.declared.call.Op.TheVariants as ops
@@ -16,7 +17,7 @@ use Rattle.named_states.specs.declared.chains.NamedState.{NamedState}
 use Rattle.script_names.specs.Commands.{command_in}
 use Rattle.script_names.specs.Meanings.{Meaning, learning, doing, telling, joins_if, valid_fixed, names_by, both_by, meant, meaning}
 use Rattle.script_names.specs.Names.{sign_challenge, fixed_by, name_of}
-use Rattle.script_people.specs.People.{◌>>=◌, SignedBy, key_by, keys_by, signature_of, used_once, sign}
+use Rattle.script_people.specs.People.{◌>>=◌, SignedBy, has_name, person_by, key_by, keys_by, signature_of, used_once, replaced, sign}
 use Rattle.script_names.specs.declared.effect.Effect.{Effect}
 use Rattle.script_names.specs.declared.effect.Effect.TheVariants.{Nothing, Enter, Post, Lose, Catch, Rounds}
 use Rattle.script_names.specs.declared.names.NamedChannel.{NamedChannel}
@@ -74,22 +75,26 @@ set-cards [] place old new e same = refl
 set-cards (x ∷ people) zero old new e same = λ i. (same ∙ sym (ap card (same_Some x old e))) i ∷ map card people
 set-cards (x ∷ people) (suc place) old new e same = λ i. card x ∷ set-cards people place old new e same i
 
-abbrev Keeps : List Person → Option SignedBy → Type 0
-Keeps people None = Unit {0}
-Keeps people (Some s) = map card s.people ≡ map card people
+replaced-cards : (people : List Person) (name : List ℕ) (old new : Person) → person_by people name ≡ Some old → card new ≡ card old → map card (replaced people name new) ≡ map card people
+replaced-cards people name old new e same =
+    ap (map card) (sym (put_found (has_name name) people old new e))
+    ∙ set-cards people (position_or_len (has_name name) people) old new (found_inside (has_name name) people old e).0 same
 
-after-is : {A : Type 0} (people : List Person) (o : Option A) (f : A → Option SignedBy) → ((x : A) → o ≡ Some x → Keeps people (f x)) → Keeps people (o >>= f)
+abbrev KeepsCards : List Person → Option SignedBy → Type 0
+KeepsCards people None = Unit {0}
+KeepsCards people (Some s) = map card s.people ≡ map card people
+
+after-is : {A : Type 0} (people : List Person) (o : Option A) (f : A → Option SignedBy) → ((x : A) → o ≡ Some x → KeepsCards people (f x)) → KeepsCards people (o >>= f)
 after-is people None f h = tt
 after-is people (Some x) f h = h x refl
 
-sign-keeps : (people : List Person) (name message : List ℕ) → Keeps people (sign people name message)
+sign-keeps : (people : List Person) (name message : List ℕ) → KeepsCards people (sign people name message)
 sign-keeps people name message =
-    after-is people (position (λ p. bytes_eq p.name name) people) _ (λ place there.
-    after-is people (slice_get people place) _ (λ person is.
+    after-is people (person_by people name) _ (λ person is.
     after-is people person.hand _ (λ hand has.
-    after-is people (signature_of hand message) _ (λ signature made. set-cards people place person (used_once person hand) is refl))))
+    after-is people (signature_of hand message) _ (λ signature made. replaced-cards people name person (used_once person hand) is refl)))
 
-challenge-keeps : (people : List Person) (by : List ℕ) (f : FixedParts) (states : List NamedState) (who : ℕ) → Keeps people (sign_challenge people by f states who)
+challenge-keeps : (people : List Person) (by : List ℕ) (f : FixedParts) (states : List NamedState) (who : ℕ) → KeepsCards people (sign_challenge people by f states who)
 challenge-keeps people by f [] who = refl
 challenge-keeps people by f (last ∷ earlier) who = sign-keeps people by _
 
@@ -108,7 +113,7 @@ after : {A : Type 0} (n : Names) (o : Option A) (f : A → Option Meaning) → (
 after n None f h = tt
 after n (Some x) f h = h x
 
-after-signed : (n : Names) (o : Option SignedBy) (f : SignedBy → Option Meaning) → Keeps n.people o → ((s : SignedBy) → map card s.people ≡ map card n.people → StaysIf n (f s)) → StaysIf n (o >>= f)
+after-signed : (n : Names) (o : Option SignedBy) (f : SignedBy → Option Meaning) → KeepsCards n.people o → ((s : SignedBy) → map card s.people ≡ map card n.people → StaysIf n (f s)) → StaysIf n (o >>= f)
 after-signed n None f k h = tt
 after-signed n (Some s) f k h = h s k
 

@@ -1,6 +1,6 @@
 -- The people of a script: who has a name, and what people without nodes sign.
-use Rattle.std.specs.Prelude.{ℕ, ◌+◌, ◌^◌, Bool, List, flat_map, nat_lt, is_none, slice_get, slice_set, Option, Some, None, if◌then◌else◌}
-use Rattle.std.specs.List.{find, position}
+use Rattle.std.specs.Prelude.{ℕ, ◌+◌, ◌^◌, Bool, List, ◌∷◌, ◌++◌, flat_map, nat_lt, is_none, Option, Some, None, if◌then◌else◌}
+use Rattle.std.specs.List.{find, before_first, after_first}
 use Rattle.std.specs.Option.{option_map}
 use Rattle.std.specs.Str.{bytes_eq}
 use Rattle.channel_name.specs.Digests.{name_of_person}
@@ -15,9 +15,12 @@ abbrev pub ◌>>=◌ : {A B : Type 0} → Option A → (A → Option B) → Opti
 None >>= f = None
 (Some x) >>= f = f x
 
+abbrev pub has_name : List ℕ → Person → Bool
+has_name name p = bytes_eq p.name name
+
 -- the person of this name
 abbrev pub person_by : List Person → List ℕ → Option Person
-person_by people name = find (λ p. bytes_eq p.name name) people
+person_by people name = find (has_name name) people
 
 abbrev pub key_by : List Person → List ℕ → Option (List ℕ)
 key_by people name = option_map (λ p. p.key) (person_by people name)
@@ -52,11 +55,14 @@ pub record SignedBy : Type 0 where
 abbrev pub used_once : Person → Signing → Person
 used_once p hand = record p { hand = Some (record hand { used = hand.used + 1 }) }
 
+-- this person in place of the one of its name
+abbrev pub replaced : List Person → List ℕ → Person → List Person
+replaced people name p = before_first (has_name name) people ++ p ∷ after_first (has_name name) people
+
 -- the person of this name signs a message, by hand
 abbrev pub sign : List Person → List ℕ → List ℕ → Option SignedBy
 sign people name message = do
-  place ← position (λ p. bytes_eq p.name name) people
-  person ← slice_get people place
+  person ← person_by people name
   hand ← person.hand
   signature ← signature_of hand message
-  Some (record { signature = signature; people = slice_set people place (used_once person hand) })
+  Some (record { signature = signature; people = replaced people name (used_once person hand) })

@@ -1,10 +1,10 @@
 //! The people of a script, in the order of their numbers.
 
-ghost use Rattle.std.specs.Prelude.{◌≡◌, ◌≤◌, ◌<◌, ◌^◌, ◌+◌, ◌++◌, ◌∷◌, [], None, length, map, OnOk, IfOk, IfSome, IfNone};
+ghost use Rattle.std.specs.Prelude.{◌≡◌, ◌≤◌, ◌<◌, ◌^◌, ◌+◌, ◌++◌, ◌∷◌, [], None, Some, length, map, slice_get, slice_set, OnOk, IfOk, IfSome, IfNone};
 ghost use Rattle.std.specs.List.{position};
 ghost use Rattle.std.specs.Option.{option_map};
 ghost use Rattle.std.specs.Str.{bytes_eq};
-ghost use Rattle.script_people.specs.People.{person_by, key_by, keys_by, numbers_by, who_of, sign};
+ghost use Rattle.script_people.specs.People.{◌>>=◌ as and_then, SignedBy, signature_of, used_once, person_by, key_by, keys_by, numbers_by, who_of, sign};
 
 use channel_name::person_name;
 use nitro_bytes::{Key, Label, Listed, Name, NoMemory};
@@ -128,19 +128,20 @@ impl People {
     }
 
     fn place_of(&self, name: &str) -> Option<usize>
-        ensures { result ≡ position (λ p. bytes_eq p.name name.now) self.now }
+        ensures place { result ≡ position (λ p. bytes_eq p.name name.now) self.now }
+        ensures inside { IfSome result (λ place. place < length self.now) }
     {
         self.people.iter().position(|p| p.name.as_str() == name)
     }
 
-    /// The signature of the person of this name, at its next index, unless it has no hand or its key is spent.
-    pub fn sign(&mut self, name: &str, message: &[u8]) -> Result<Option<Listed<u8>>, NoMemory>
-        ensures signed { IfOk result (λ signature. option_map (λ s. record { signature = s; people = self.new }) signature ≡ sign self.old name.now message.now) }
+    /// The signature of the person at a place, at its next index, unless it has no hand or its key is spent.
+    fn sign_at(&mut self, place: usize, message: &[u8]) -> Result<Option<Listed<u8>>, NoMemory>
+        requires { place < length self.old }
+        ensures signed { IfOk result (λ signature. option_map {U = SignedBy} (λ s. record { signature = s; people = self.new }) signature
+            ≡ and_then (slice_get self.old place) (λ p. and_then p.hand (λ hand. and_then (signature_of hand message.now) (λ s.
+            Some (record { signature = s; people = slice_set self.old place (used_once p hand) }))))) }
         ensures unsigned { IfOk result (λ signature. signature ≡ None → self.new ≡ self.old) }
     {
-        let Some(place) = self.place_of(name) else {
-            return Ok(None);
-        };
         let Some(hand) = &mut self.people[place].hand else {
             return Ok(None);
         };
@@ -149,5 +150,18 @@ impl People {
             Err(SignFault::KeySpent(_)) => Ok(None),
             Err(SignFault::NoMemory) => Err(NoMemory),
         }
+    }
+
+    /// The signature of the person of this name, at its next index, unless it has no hand or its key is spent.
+    #[tactic(auto, using(crate::proofs::Places::nobody_signs))]
+    pub fn sign(&mut self, name: &str, message: &[u8]) -> Result<Option<Listed<u8>>, NoMemory>
+        ensures signed { IfOk result (λ signature. option_map (λ s. record { signature = s; people = self.new }) signature ≡ sign self.old name.now message.now) }
+        ensures unsigned { IfOk result (λ signature. signature ≡ None → self.new ≡ self.old) }
+    {
+        let Some(place) = self.place_of(name) else {
+            return Ok(None);
+        };
+        let signature = self.sign_at(place, message)?;
+        Ok(signature)
     }
 }

@@ -2,3 +2,4 @@ pub mod Meant
 pub mod Weights
 pub mod Steps
 pub mod Kept
+pub mod FirstCaught

@@ -1,8 +1,10 @@
 -- What a step means declares at most one person, and asks for no more entries than its weight.
-use Rattle.std.proofs.Common.{◌≡◌, ℕ, ◌+◌, ◌*◌, ◌≤◌, true, false, List, [], ◌∷◌, ◌++◌, length, refl, arith, rules, length-append, inl, inr}
+use Rattle.std.proofs.Common.{◌≡◌, ℕ, ◌+◌, ◌*◌, ◌≤◌, true, false, List, [], ◌∷◌, ◌++◌, length, refl, sym, ◌∙◌, ap, arith, rules, length-append, inl, inr}
 use Rattle.std.proofs.lemmas.Bool.{eqb-true}
 use Rattle.std.proofs.lemmas.List.{length-set, length-take-le}
-use Rattle.std.specs.Prelude.{Bool, ◌||◌, ◌==◌, IsTrue, Option, Some, None, unwrap_or, slice_set}
+use Rattle.std.specs.Prelude.{Bool, ◌||◌, ◌==◌, IsTrue, Option, Some, None, unwrap_or}
+use Rattle.std.specs.List.{position_or_len}
+use Rattle.first_found.proofs.Found.{put_found}
 use Rattle.sha2.proofs.Facts256.{length-sha256}
 use Rattle.sha2.specs.Sha256.{sha256}
 use Rattle.sign_index.specs.Signing.{IsHeight}
@@ -16,31 +18,38 @@ use Rattle.net_party.specs.declared.command.Command.{Command}
 use Rattle.script_names.specs.declared.effect.Effect.TheVariants.{Enter, Tell, Post, Lose, Catch, Rounds}
 use Rattle.script_names.specs.Meanings.{Meaning, learning, doing, meant, meaning}
 use Rattle.script_names.specs.Names.{sign_challenge}
-use Rattle.script_people.specs.People.{◌>>=◌, SignedBy, sign}
+use Rattle.script_people.specs.People.{◌>>=◌, SignedBy, has_name, person_by, signature_of, used_once, replaced, sign}
 use Rattle.named_states.specs.declared.chains.NamedState.{NamedState}
 use Rattle.script_names.specs.declared.names.Names.{Names}
 use Rattle.script_people.specs.declared.people.Person.{Person}
 use Rattle.script_rules.specs.declared.step.Step.{Step}
 use Rattle.script_rules.specs.declared.step.Step.TheVariants as steps
 use Rattle.nitro_bytes.specs.Parts.{FixedParts}
+use Rattle.world_rounds.specs.Rounds.{most_in_round}
 
 -- ---- who signs stays
 
-abbrev Keeps : List Person → Option SignedBy → Type 0
-Keeps people None = Unit {0}
-Keeps people (Some s) = length s.people ≡ length people
+abbrev KeepsPeople : List Person → Option SignedBy → Type 0
+KeepsPeople people None = Unit {0}
+KeepsPeople people (Some s) = length s.people ≡ length people
 
-keeps_after : {A : Type 0} (people : List Person) (o : Option A) (f : A → Option SignedBy) → ((x : A) → Keeps people (f x)) → Keeps people (o >>= f)
+keeps_after : {A : Type 0} (people : List Person) (o : Option A) (f : A → Option SignedBy) → ((x : A) → KeepsPeople people (f x)) → KeepsPeople people (o >>= f)
 keeps_after people None f h = tt
 keeps_after people (Some x) f h = h x
 
-set_keeps : (people : List Person) (place : ℕ) (person : Person) (signature : List ℕ) → Keeps people (Some (record { signature = signature; people = slice_set people place person }))
-set_keeps people place person signature = length-set people place person
+replaced_keeps : (people : List Person) (name : List ℕ) (p q : Person) → person_by people name ≡ Some p → length (replaced people name q) ≡ length people
+replaced_keeps people name p q e =
+    ap length (sym (put_found (has_name name) people p q e)) ∙ length-set people (position_or_len (has_name name) people) q
 
-sign_keeps : (people : List Person) (name message : List ℕ) → Keeps people (sign people name message)
-sign_keeps people name message = search (rules, keeps_after, set_keeps)
+sign_keeps : (people : List Person) (name message : List ℕ) → KeepsPeople people (sign people name message)
+sign_keeps people name message = by (person_by people name) refl
+  where
+    by : (o : Option Person) → person_by people name ≡ o
+        → KeepsPeople people (o >>= λ p. p.hand >>= λ hand. signature_of hand message >>= λ s. Some (record { signature = s; people = replaced people name (used_once p hand) }))
+    by None e = tt
+    by (Some p) e = keeps_after people p.hand _ (λ hand. keeps_after people (signature_of hand message) _ (λ s. replaced_keeps people name p (used_once p hand) e))
 
-challenge_keeps : (people : List Person) (by : List ℕ) (f : FixedParts) (states : List NamedState) (who : ℕ) → Keeps people (sign_challenge people by f states who)
+challenge_keeps : (people : List Person) (by : List ℕ) (f : FixedParts) (states : List NamedState) (who : ℕ) → KeepsPeople people (sign_challenge people by f states who)
 challenge_keeps people by f [] who = refl
 challenge_keeps people by f (last ∷ earlier) who = sign_keeps people by _
 
@@ -77,7 +86,7 @@ after : {A : Type 0} (n : Names) (p w : ℕ) (o : Option A) (f : A → Option Me
 after n p w None f h = tt
 after n p w (Some x) f h = h x
 
-after_signed : (n : Names) (p w : ℕ) (o : Option SignedBy) (f : SignedBy → Option Meaning) → Keeps n.people o → ((s : SignedBy) → length s.people ≡ length n.people → GrowsIf n p w (f s)) → GrowsIf n p w (o >>= f)
+after_signed : (n : Names) (p w : ℕ) (o : Option SignedBy) (f : SignedBy → Option Meaning) → KeepsPeople n.people o → ((s : SignedBy) → length s.people ≡ length n.people → GrowsIf n p w (f s)) → GrowsIf n p w (o >>= f)
 after_signed n p w None f k h = tt
 after_signed n p w (Some s) f k h = h s k
 
@@ -106,7 +115,7 @@ loses n to = record { few = omega (arith); light = omega (arith); fits = tt }
 catches : (n : Names) (name : List ℕ) (number : ℕ) (key channel : List ℕ) (turn : ℕ) → Grows n 0 1 (doing n (Catch name number key channel turn))
 catches n name number key channel turn = record { few = omega (arith); light = omega (arith); fits = tt }
 
-plays : (n : Names) (count : ℕ) → Grows n 0 (count * 528384) (doing n (Rounds count))
+plays : (n : Names) (count : ℕ) → Grows n 0 (count * most_in_round) (doing n (Rounds count))
 plays n count = record { few = omega (arith); light = omega (arith); fits = tt }
 
 meant_grows : (n : Names) (step : Step) → Fits step → GrowsIf n (persons step) (weight step) (meant n step)

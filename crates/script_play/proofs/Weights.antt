@@ -5,12 +5,13 @@ use Rattle.script_rules.specs.Bounds.{rounds, rounds_of}
 use Rattle.script_play.specs.Growth.{weight, weight_of}
 use Rattle.script_rules.specs.declared.step.Step.{Step}
 use Rattle.script_rules.specs.declared.step.Step.TheVariants as steps
+use Rattle.world_rounds.specs.Rounds.{most_in_round}
 
-light : (step : Step) → weight step ≤ 1 + rounds step * 528384
+light : (step : Step) → weight step ≤ 1 + rounds step * most_in_round
 light (steps.Rounds count) = omega (arith)
 light step = omega (arith)
 
-all_light : (steps : List Step) → weight_of steps ≤ length steps + rounds_of steps * 528384
+all_light : (steps : List Step) → weight_of steps ≤ length steps + rounds_of steps * most_in_round
 all_light [] = omega (arith)
 all_light (step ∷ steps) = omega (arith, light step, all_light steps, sum_by-cons weight step steps, sum_by-cons rounds step steps)
 

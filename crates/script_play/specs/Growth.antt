@@ -5,6 +5,7 @@ use Rattle.script_names.specs.declared.effect.Effect.{Effect}
 use Rattle.script_names.specs.declared.effect.Effect.TheVariants as effects
 use Rattle.script_rules.specs.declared.step.Step.{Step}
 use Rattle.script_rules.specs.declared.step.Step.TheVariants as steps
+use Rattle.world_rounds.specs.Rounds.{most_in_round}
 
 -- a node joins with a signer that has not signed
 abbrev pub FitsEffect : Effect → Type 0
@@ -13,15 +14,15 @@ FitsEffect effect = Unit {0}
 
 -- ---- entries
 
--- in a round each of sixteen nodes gives at most 32768 calls, and each of its four watchers 64
+-- at most so many entries are made where this is done
 abbrev pub effect_weight : Effect → ℕ
 effect_weight (effects.Enter op) = 1
-effect_weight (effects.Rounds count) = count * 528384
+effect_weight (effects.Rounds count) = count * most_in_round
 effect_weight effect = 0
 
 -- at most so many entries are made by a step
 abbrev pub weight : Step → ℕ
-weight (steps.Rounds count) = count * 528384
+weight (steps.Rounds count) = count * most_in_round
 weight step = 1
 
 abbrev pub weight_of : List Step → ℕ

@@ -1,5 +1,6 @@
 -- What the steps of a script do in a run, one after another, over nodes whose rules are given.
-use Rattle.std.specs.Prelude.{ℕ, suc, zero, ◌+◌, ◌==◌, not, List, [], ◌∷◌, ◌++◌, length, filter, fold, Option, Some, None, if◌then◌else◌}
+use Rattle.std.specs.Prelude.{ℕ, suc, zero, ◌+◌, ◌==◌, not, List, [], ◌∷◌, ◌++◌, length, filter, fold, Option, Some, None}
+use Rattle.std.specs.List.{find, filter_map}
 use Rattle.std.specs.Str.{bytes_eq}
 use Rattle.nitro_bytes.specs.declared.chain.Signed.{Signed}
 use Rattle.channel_calls.specs.declared.call.Op.{Op}
@@ -30,19 +31,9 @@ pub record SceneOf (P : Type 0) : Type 0 where
 abbrev pub empty : {P : Type 0} → SceneOf P
 empty = record { names = nameless; world = new_world; post = []; rounds = [] }
 
--- the state of the channel that was signed at this turn
-abbrev pub at_turn : ℕ → Option Signed → Option Signed
-at_turn turn None = None
-at_turn turn (Some s) = if s.state.turn == turn then Some s else None
-
-abbrev pub or_later : Option Signed → Option Signed → Option Signed
-or_later None later = later
-or_later (Some s) later = Some s
-
--- the state of the channel that a node signed at this turn, by its journal
+-- of the states of the channel that a node signed, by its journal, the first of this turn
 abbrev pub caught : List ℕ → ℕ → List Event → Option Signed
-caught channel turn [] = None
-caught channel turn (x ∷ journal) = or_later (at_turn turn (made_in channel x.deed)) (caught channel turn journal)
+caught channel turn journal = find (λ (s : Signed). s.state.turn == turn) (filter_map (λ (x : Event). made_in channel x.deed) journal)
 
 -- the script enters an op, as caller 0
 abbrev pub entering : Op → Happening

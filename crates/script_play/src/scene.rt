@@ -14,6 +14,7 @@ ghost use Rattle.script_names.specs.Meanings.{with_state};
 ghost use Rattle.script_play.specs.Play.{empty, caught, told, naming, entering, play_round, play_rounds, done, played, at_end};
 ghost use Rattle.script_play.specs.Growth.{FitsEffect, effect_weight, weight};
 ghost use Rattle.script_names.specs.declared.effect.Effect.TheVariants as effects;
+ghost use Rattle.world_rounds.specs.Rounds.{most_in_round};
 
 use crate::catching::caught;
 use channel_calls::{Entry, Op};
@@ -95,21 +96,23 @@ impl<P: Party, D: Docket> Scene<P, D> {
         self.world.history()
     }
 
-    /// What names stand for at the end, how long the history was after each round, and the entries in the order of time.
-    pub fn into_parts(self) -> (Names, Listed<u32>, Vec<Entry>)
+    /// What names stand for at the end, how long the history was after each round, the entries in the order of time, and the
+    /// nodes with their watchers.
+    pub fn into_parts(self) -> (Names, Listed<u32>, Vec<Entry>, Vec<Member<P>>)
         ensures names { result.0 ≡ self.names }
         ensures rounds { result.1 ≡ self.rounds }
         ensures history { newest_first result.2.items ≡ self.world.history }
+        ensures members { result.3.items ≡ self.world.members }
         ensures legal { Legal real self.world.history }
     {
-        let history = self.world.into_history();
-        (self.names, self.rounds, history)
+        let (history, members) = self.world.into_parts();
+        (self.names, self.rounds, history, members)
     }
 
     fn play_round(&mut self) -> Result<(), NoMemory>
-        requires { length self.old.world.history + 561152 < 2 ^ 32 }
+        requires { length self.old.world.history + (most_in_round + 32768) < 2 ^ 32 }
         ensures played { OnOk result (self.new ≡ play_round P.ways self.old) }
-        ensures grown { OnOk result (length self.new.world.history ≤ length self.old.world.history + 528384) }
+        ensures grown { OnOk result (length self.new.world.history ≤ length self.old.world.history + most_in_round) }
     {
         let alloc = self.names.alloc();
         let people = self.names.people.as_slice();
@@ -120,9 +123,9 @@ impl<P: Party, D: Docket> Scene<P, D> {
     }
 
     fn play_rounds(&mut self, count: u64) -> Result<(), NoMemory>
-        requires { length self.old.world.history + (count * 528384 + 32768) < 2 ^ 32 }
+        requires { length self.old.world.history + (count * most_in_round + 32768) < 2 ^ 32 }
         ensures played { OnOk result (self.new ≡ play_rounds P.ways count self.old) }
-        ensures grown { OnOk result (length self.new.world.history ≤ length self.old.world.history + count * 528384) }
+        ensures grown { OnOk result (length self.new.world.history ≤ length self.old.world.history + count * most_in_round) }
     {
         for round in 0..count {
             self.play_round()?;

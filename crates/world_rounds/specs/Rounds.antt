@@ -1,5 +1,5 @@
 -- A round: nodes act in the order of their people, and then their watchers look, over nodes whose rules are given.
-use Rattle.std.specs.Prelude.{ℕ, suc, zero, List, [], ◌++◌, fold, if◌then◌else◌}
+use Rattle.std.specs.Prelude.{ℕ, suc, zero, ◌+◌, ◌*◌, List, [], ◌++◌, fold, if◌then◌else◌}
 use Rattle.std.specs.Str.{bytes_eq}
 use Rattle.channel_calls.specs.declared.call.Call.{Call}
 use Rattle.net_party.specs.Ways.{Ways}
@@ -17,6 +17,10 @@ Letter = List ℕ × List ℕ
 pub record Mailed (P : Type 0) : Type 0 where
   pub world : WorldOf P
   pub post : List Letter
+
+-- a round makes at most so many entries: each of sixteen nodes gives at most 32768 calls, and each of its four watchers 64
+abbrev pub most_in_round : ℕ
+most_in_round = 16 * (32768 + 4 * 64)
 
 module _ {P : Type 0} (ways : Ways P) where
   -- a message is handed to the node of this number, if it is for this person

@@ -4,7 +4,7 @@ ghost use Rattle.std.specs.Prelude.{◌≡◌, ◌≤◌, ◌<◌, ◌+◌, ◌*
 ghost use Rattle.net_world.specs.Worlds.{happened, given};
 ghost use Rattle.net_world.specs.declared.happening.Happening.TheVariants as happenings;
 ghost use Rattle.script_people.specs.People.{who_of, has_node};
-ghost use Rattle.world_rounds.specs.Rounds.{Mailed, handed, entered_by, with_calls, node_acted, acted, looked, watched, first_half, round, seen_by};
+ghost use Rattle.world_rounds.specs.Rounds.{Mailed, most_in_round, handed, entered_by, with_calls, node_acted, acted, looked, watched, first_half, round, seen_by};
 
 use channel_calls::{Call, copy_call};
 use net_party::Party;
@@ -173,10 +173,10 @@ fn first_half<P: Party, D: Docket>(
     people: &[Person],
     post: &[Letter],
 ) -> Result<Listed<Letter>, NoMemory>
-    requires room { length world.old.history + 528384 < 2 ^ 32 }
+    requires room { length world.old.history + most_in_round < 2 ^ 32 }
     requires few { length people.now ≤ 16 }
     ensures acted { IfOk result (λ sent. record { world = world.new; post = sent } ≡ first_half P.ways people.now (record { world = world.old; post = post.now })) }
-    ensures grown { OnOk result (length world.new.history ≤ length world.old.history + 524288) }
+    ensures grown { OnOk result (length world.new.history ≤ length world.old.history + 16 * 32768) }
 {
     let mut sent = Vec::new(alloc);
     for person in people {
@@ -187,9 +187,9 @@ fn first_half<P: Party, D: Docket>(
 
 /// The watchers of a node look, one after another.
 fn watch_node<P: Party, D: Docket>(world: &mut World<P, D>, number: u32) -> Result<(), NoMemory>
-    requires { length world.old.history + 33024 < 2 ^ 32 }
+    requires { length world.old.history + (4 * 64 + 32768) < 2 ^ 32 }
     ensures looked { OnOk result (world.new ≡ looked P.ways number 4 world.old) }
-    ensures grown { OnOk result (length world.new.history ≤ length world.old.history + 256) }
+    ensures grown { OnOk result (length world.new.history ≤ length world.old.history + 4 * 64) }
 {
     for place in 0..4 {
         look(world, number, place)?;
@@ -198,9 +198,9 @@ fn watch_node<P: Party, D: Docket>(world: &mut World<P, D>, number: u32) -> Resu
 }
 
 fn watch<P: Party, D: Docket>(world: &mut World<P, D>, person: &Person) -> Result<(), NoMemory>
-    requires { length world.old.history + 33024 < 2 ^ 32 }
+    requires { length world.old.history + (4 * 64 + 32768) < 2 ^ 32 }
     ensures watched { OnOk result (world.new ≡ watched P.ways world.old person.now) }
-    ensures grown { OnOk result (length world.new.history ≤ length world.old.history + 256) }
+    ensures grown { OnOk result (length world.new.history ≤ length world.old.history + 4 * 64) }
 {
     if person.hand.is_none() {
         watch_node(world, person.number)
@@ -214,10 +214,10 @@ fn second_half<P: Party, D: Docket>(
     world: &mut World<P, D>,
     people: &[Person],
 ) -> Result<(), NoMemory>
-    requires room { length world.old.history + 36864 < 2 ^ 32 }
+    requires room { length world.old.history + (16 * (4 * 64) + 32768) < 2 ^ 32 }
     requires few { length people.now ≤ 16 }
     ensures watched { OnOk result (world.new ≡ fold (watched P.ways) world.old people.now) }
-    ensures grown { OnOk result (length world.new.history ≤ length world.old.history + 4096) }
+    ensures grown { OnOk result (length world.new.history ≤ length world.old.history + 16 * (4 * 64)) }
 {
     for person in people {
         watch(world, person)?;
@@ -232,10 +232,10 @@ pub fn round<P: Party, D: Docket>(
     people: &[Person],
     post: &[Letter],
 ) -> Result<Listed<Letter>, NoMemory>
-    requires room { length world.old.history + 561152 < 2 ^ 32 }
+    requires room { length world.old.history + (most_in_round + 32768) < 2 ^ 32 }
     requires few { length people.now ≤ 16 }
     ensures played { IfOk result (λ sent. record { world = world.new; post = sent } ≡ round P.ways people.now (record { world = world.old; post = post.now })) }
-    ensures grown { OnOk result (length world.new.history ≤ length world.old.history + 528384) }
+    ensures grown { OnOk result (length world.new.history ≤ length world.old.history + most_in_round) }
 {
     let sent = first_half(alloc, world, people, post)?;
     second_half(world, people)?;

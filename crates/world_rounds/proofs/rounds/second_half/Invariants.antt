@@ -6,5 +6,5 @@ abbrev pub invariant-loop-person : goal.invariant-loop-person
 invariant-loop-person g l =
     record {
       watched : l.world ≡ fold (watched g.P.Party.ways) l.initial.world (take l.person-index l.people);
-      grown : length l.world.history ≤ length l.initial.world.history + l.person-index * 256;
+      grown : length l.world.history ≤ length l.initial.world.history + l.person-index * (4 * 64);
     }
