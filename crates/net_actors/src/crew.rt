@@ -1,8 +1,9 @@
 //! A crew: who takes part in a round.
 
 use crate::cast::Cast;
-use crate::member::{Letter, Member};
+use crate::member::Letter;
 use net_party::Party;
+use net_world::Member;
 
 /// The nodes with their watchers and the cast, both in the order of their numbers, and the messages on their way.
 /// Who makes it sees to it that nobody has the number of another, and no node the key of another; rounds leave it so.

@@ -9,10 +9,11 @@ ghost use Rattle.net_actors.specs.Views.{player_of, worker_of};
 use crate::cast::{Cast, play};
 use crate::fault::RoundFault;
 use crate::gate::Gate;
-use crate::member::{Letter, Member};
+use crate::member::{Letter, act as act_as_node, watch as watch_as_node};
 use adjudicator_book::{Book, Seat};
 use adjudicator_core::Adjudicator;
 use net_party::Party;
+use net_world::Member;
 use std::alloc::Global;
 use std::sync::Wait;
 use std::thread::Threads;
@@ -91,7 +92,7 @@ pub(crate) fn act<R: Threads + Wait + Sync, G: Gate, P: Party>(
         Worker::Node(mut member, mut sent) => {
             let number = member.node.number();
             gate.begin(ACTS, number);
-            let mut more = member.act(rt, alloc, book, &mut seat, post)?;
+            let mut more = act_as_node(&mut member, rt, alloc, book, &mut seat, post)?;
             gate.finish(ACTS, number);
             sent.append(&mut more)?;
             Ok(Job {
@@ -126,7 +127,7 @@ pub(crate) fn watch<R: Threads + Wait + Sync, G: Gate, P: Party>(
         Worker::Node(mut member, sent) => {
             let number = member.node.number();
             gate.begin(WATCHES, number);
-            member.watch(rt, alloc, book, &mut seat)?;
+            watch_as_node(&mut member, rt, alloc, book, &mut seat)?;
             gate.finish(WATCHES, number);
             Ok(Job {
                 seat,

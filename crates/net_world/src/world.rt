@@ -58,12 +58,13 @@ impl<P: Party, D: Docket> World<P, D> {
         self.docket.entries()
     }
 
-    /// The entries in the order of time, after which nothing happens.
-    pub fn into_history(self) -> Vec<Entry>
-        ensures same { newest_first result.items ≡ self.history }
+    /// The entries in the order of time and the nodes with their watchers, after which nothing happens.
+    pub fn into_parts(self) -> (Vec<Entry>, Vec<Member<P>>)
+        ensures same { newest_first result.0.items ≡ self.history }
+        ensures members { result.1.items ≡ self.members }
         ensures legal { Legal real self.history }
     {
-        self.docket.into_entries()
+        (self.docket.into_entries(), self.members)
     }
 
     /// The nodes with their watchers, in the order in which they joined.

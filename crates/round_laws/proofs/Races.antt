@@ -1,5 +1,5 @@
 -- A race stays one.
-use Rattle.std.proofs.Common.{◌≡◌, ℕ, zero, suc, ◌+◌, ◌^◌, ◌<◌, ◌≤◌, ◌⊎◌, inl, inr, Bool, false, List, [], ◌∷◌, ◌++◌, length, replicate, reverse, drop, refl, sym, ap, ◌∙◌, subst, arith, length-append, length-drop, append_assoc, append-nil}
+use Rattle.std.proofs.Common.{◌≡◌, ℕ, zero, suc, ◌+◌, ◌^◌, ◌<◌, ◌≤◌, ◌⊎◌, inl, inr, Bool, false, List, [], ◌∷◌, ◌++◌, length, map, replicate, reverse, drop, refl, sym, ap, ◌∙◌, subst, arith, length-append, length-drop, append_assoc, append-nil}
 use Rattle.std.proofs.lemmas.List.{reverse-append, length-reverse, length-replicate}
 use Rattle.std.proofs.lemmas.Bool.Decides.{nat_tests}
 use Rattle.std.specs.Prelude.{Option, Some, None, Result, Ok, nat_lt}
@@ -16,7 +16,6 @@ use Rattle.channel_calls.specs.declared.call.Op.{Op}
 use Rattle.channel_calls.specs.declared.call.Op.TheVariants as ops
 use Rattle.channel_calls.specs.declared.entry.Entry.{Entry}
 use Rattle.channel_calls.specs.declared.event.Event.{Event}
-use Rattle.adjudicator_book.specs.Caller.{Caller, IsCaller, whole}
 use Rattle.adjudicator_book.specs.History.{StartsWith}
 use Rattle.adjudicator_book.proofs.Sums.{starts_trans, legal_more}
 use Rattle.adjudicator_core.specs.Shared.{entry_after}
@@ -35,24 +34,23 @@ use Rattle.sign_index.specs.Signing.{Signing}
 use Rattle.support_chain.specs.Real.{real}
 use Rattle.world_laws.specs.Standing.{AreKept, Follows}
 use Rattle.round_model.specs.Members.{HaveFollowed}
-use Rattle.round_model.specs.Rounds.{CrewOf, Runs}
+use Rattle.round_model.specs.Rounds.{CrewOf}
 use Rattle.round_model.specs.Working.{IsHistory, Given}
 use Rattle.round_laws.specs.Crews.{IsMember, IsCrew}
 use Rattle.round_laws.specs.Journals.{event_of, Wrote, WritesJournals}
 use Rattle.round_laws.specs.Laws.{RacesStay}
-use Rattle.round_laws.specs.Races.{Stage, entered_on, next_time, with_nodes, Goes, enters, tells, turns, joins, rounds, Race, IsRacer, IsRacing}
+use Rattle.round_laws.specs.Races.{Stage, entered_on, next_time, with_nodes, Goes, enters, tells, follows, turns, joins, rounds, Race, IsRacer, IsRacing}
 use Rattle.round_laws.specs.Told.{NodeRan, StandOnce, all_of, Round}
 use Rattle.round_laws.proofs.Kept.{longer-is, Match, match_of, sees-kept, told-kept, later-kept, ran-many, rounds_keep}
 use Rattle.round_laws.proofs.Lines.{Gained, node_gains, comes-next, in-append, in-reverse, in-map}
 use Rattle.round_laws.proofs.Phases.{found_once}
-use Rattle.round_laws.proofs.Whole.{runs_are_rounds}
 
 -- ---- what the driver enters
 
-abbrev entry_on : List Entry → Op → Entry
+abbrev pub entry_on : List Entry → Op → Entry
 entry_on seen op = record { number = suc (length seen); by = 0; op = op; reply = reply_to real (newest_first seen) op }
 
-on-front : (seen : List Entry) (op : Op) → newest_first (entered_on seen op) ≡ entry_on seen op ∷ newest_first seen
+pub on-front : (seen : List Entry) (op : Op) → newest_first (entered_on seen op) ≡ entry_on seen op ∷ newest_first seen
 on-front seen op = reverse-append seen (entry_on seen op ∷ [])
 
 on-starts : (seen : List Entry) (op : Op) → StartsWith (entered_on seen op) seen
@@ -70,12 +68,12 @@ accepted now t a b =
     ap (λ (x : Bool). refuse_if x (Backwards now) (refuse_if (nat_lt (2 ^ 62) t) TooLate (Ok t))) (not-less t now a)
     ∙ ap (λ (x : Bool). refuse_if x TooLate (Ok t)) (not-less (2 ^ 62) t b)
 
-time-set : (h : List Entry) → now_of h + 1 ≤ 2 ^ 62 → time_set (ops.Time (now_of h + 1)) (reply_to real h (ops.Time (now_of h + 1))) ≡ Some (now_of h + 1)
+pub time-set : (h : List Entry) → now_of h + 1 ≤ 2 ^ 62 → time_set (ops.Time (now_of h + 1)) (reply_to real h (ops.Time (now_of h + 1))) ≡ Some (now_of h + 1)
 unfolding reply_to
 time-set h low = ap (λ (o : Result ℕ Refusal). time_set (ops.Time (now_of h + 1)) (told_as Now o)) (accepted (now_of h) (now_of h + 1) (omega arith) low)
 
 -- in a race each time is one later, so the time is at most the number of entries
-now-low : (h : List Entry) (ends : List ℕ) → AreTicks h ends → now_of h ≤ length h
+pub now-low : (h : List Entry) (ends : List ℕ) → AreTicks h ends → now_of h ≤ length h
 now-low [] ends ticks = omega arith
 now-low (e ∷ past) ends ticks =
     go (time_set e.op e.reply) refl (now-low past ends (λ later older x time split sets. ticks (e ∷ later) older x time (ap (λ (l : List Entry). e ∷ l) split) sets))
@@ -101,7 +99,7 @@ at-behind [] rest k i x e a = ap (λ (n : ℕ). get_elem? rest n) (omega (arith,
 at-behind (y ∷ h) rest k zero x e a = absurd (omega (arith, e))
 at-behind (y ∷ h) rest k (suc i) x e a = at-behind h rest k i x (omega (arith, e)) a
 
-no-time : (h later : List Entry) (s : StartsWith later h) (gave : List Given) → StandOnce h later gave → AreTimeless (reverse s.0)
+pub no-time : (h later : List Entry) (s : StartsWith later h) (gave : List Given) → StandOnce h later gave → AreTimeless (reverse s.0)
 no-time h later s gave stands e i =
     let p = place_of s.0 e (in-reverse e s.0 i) in
     let at : get_elem? later (length h + p.place) ≡ some e = ap (λ (l : List Entry). get_elem? l (length h + p.place)) s.1 ∙ at-behind h s.0 p.place (length h + p.place) e refl p.at in
@@ -176,6 +174,45 @@ module _ {P : Type 0} (ways : Ways P) (stands : List Entry → P → Type 0) (lo
   in-there m [] back = inl refl
   in-there m (y ∷ front) back = inr (in-there m front back)
 
+  -- it sees what the driver has seen, and nothing is written
+  record Saw (s : Stage P) (m : MemberOf P) : Type 0 where
+    wrote : Wrote ways lost [] m.node (sees ways s.seen m).node
+    count : ways.seen (sees ways s.seen m).node ≡ length s.seen
+    member : IsMember stands (newest_first s.seen) (sees ways s.seen m)
+
+  saw-all : (s : Stage P) (m : MemberOf P) → IsMember stands (newest_first s.seen) m → IsHistory s.seen → lost m.node ≡ false → Saw s m
+  saw-all s m is legal well = record { wrote = saw.0; count = omega (arith, saw.1, length-drop (ways.seen m.node) s.seen, low); member = member }
+    where
+      legal' : Legal real (newest_first s.seen)
+      legal' = shared_legal real s.seen legal
+
+      low : ways.seen m.node ≤ length s.seen
+      low = omega (arith, kept.within (newest_first s.seen) m.node is.node, length-reverse s.seen)
+
+      saw : Wrote ways lost [] m.node (sees ways s.seen m).node × (ways.seen (sees ways s.seen m).node ≡ ways.seen m.node + length (drop (ways.seen m.node) s.seen))
+      saw = writes.saw (newest_first s.seen) (drop (ways.seen m.node) s.seen) m.node legal' (comes-next s.seen (ways.seen m.node) low) well
+
+      member : IsMember stands (newest_first s.seen) (sees ways s.seen m)
+      member =
+          let k = sees-kept ways stands kept s.seen m legal' (record { node = is.node; watchers = is.watchers }) in
+          record { node = k.node; watchers = k.watchers; few = is.few }
+
+  no-event : (x : Line) (gained : List Line) → map event_of gained ≡ reverse [] → In x gained → ⊥
+  no-event x gained are i = in-reverse (event_of x) [] (subst (λ (l : List Event). In (event_of x) l) are (in-map event_of x gained i))
+
+  seen-of : (s : Stage P) (m : MemberOf P) → IsMember stands (newest_first s.seen) m → IsHistory s.seen → IsRacer ways lost s m
+      → IsMember stands (newest_first s.seen) (sees ways s.seen m) × IsRacer ways lost s (sees ways s.seen m)
+  seen-of s m is legal r =
+      let saw = saw-all s m is legal r.well in (
+        saw.member,
+        record {
+          well = saw.wrote.well;
+          watched = r.watched;
+          raced = subst (λ (l : List Line). IsRaced (newest_first s.seen) l s.ends) (sym saw.wrote.lines)
+              (goes_on (newest_first s.seen) [] (ways.lines m.node) saw.wrote.gained s.ends r.raced (λ x i. absurd i) (λ x i. absurd (no-event x saw.wrote.gained saw.wrote.are i)));
+        },
+      )
+
   told-of : (s : Stage P) (m : MemberOf P) (step : ℕ) (command : Command) → IsMember stands (newest_first s.seen) m → IsHistory s.seen → IsRacer ways lost s m
       → IsMember stands (newest_first s.seen) (told ways step command (sees ways s.seen m)) × IsRacer ways lost s (told ways step command (sees ways s.seen m))
   told-of s m step command is legal r = (member, record { well = asked.1.well; watched = r.watched; raced = raced })
@@ -218,66 +255,69 @@ module _ {P : Type 0} (ways : Ways P) (stands : List Entry → P → Type 0) (lo
       raced : IsRaced (newest_first s.seen) (ways.lines (told ways step command (sees ways s.seen m)).node) s.ends
       raced = subst (λ (l : List Line). IsRaced (newest_first s.seen) l s.ends) (sym lines) (goes_on (newest_first s.seen) [] (ways.lines m.node) gained s.ends r.raced (λ x i. absurd i) has_seen)
 
-  tells-node : (s : Stage P) (front back : List (MemberOf P)) (m : MemberOf P) (step : ℕ) (command : Command) → s.crew.nodes ≡ front ++ m ∷ back → IsRacing ways stands lost s
-      → IsRacing ways stands lost (with_nodes s (front ++ told ways step command (sees ways s.seen m) ∷ back))
-  tells-node s front back m step command at is = record {
+  -- one node in place of another, which races too
+  node-changed : (s : Stage P) (front back : List (MemberOf P)) (m m' : MemberOf P) → s.crew.nodes ≡ front ++ m ∷ back
+      → IsMember stands (newest_first s.seen) m' × IsRacer ways lost s m' → IsRacing ways stands lost s → IsRacing ways stands lost (with_nodes s (front ++ m' ∷ back))
+  node-changed s front back m m' at races is = record {
     crew = record { legal = is.crew.legal; nodes = λ x i. (of x (in-middle x m m' front back i)).0; notes = is.crew.notes };
     ticks = is.ticks;
     racers = λ x i. let r = (of x (in-middle x m m' front back i)).1 in record { well = r.well; watched = r.watched; raced = r.raced };
   }
     where
-      m' : MemberOf P
-      m' = told ways step command (sees ways s.seen m)
-
-      there : In m s.crew.nodes
-      there = subst (λ (l : List (MemberOf P)). In m l) (sym at) (in-there m front back)
-
       of : (x : MemberOf P) → (x ≡ m') ⊎ In x (front ++ m ∷ back) → IsMember stands (newest_first s.seen) x × IsRacer ways lost s x
-      of x (inl e) = subst (λ (y : MemberOf P). IsMember stands (newest_first s.seen) y × IsRacer ways lost s y) (sym e) (told-of s m step command (is.crew.nodes m there) is.crew.legal (is.racers m there))
+      of x (inl e) = subst (λ (y : MemberOf P). IsMember stands (newest_first s.seen) y × IsRacer ways lost s y) (sym e) races
       of x (inr i) = let j = subst (λ (l : List (MemberOf P)). In x l) (sym at) i in (is.crew.nodes x j, is.racers x j)
+
+  at-front : (s : Stage P) (front back : List (MemberOf P)) (m : MemberOf P) → s.crew.nodes ≡ front ++ m ∷ back → In m s.crew.nodes
+  at-front s front back m at = subst (λ (l : List (MemberOf P)). In m l) (sym at) (in-there m front back)
+
+  tells-node : (s : Stage P) (front back : List (MemberOf P)) (m : MemberOf P) (step : ℕ) (command : Command) → s.crew.nodes ≡ front ++ m ∷ back → IsRacing ways stands lost s
+      → IsRacing ways stands lost (with_nodes s (front ++ told ways step command (sees ways s.seen m) ∷ back))
+  tells-node s front back m step command at is =
+      let i = at-front s front back m at in
+      node-changed s front back m _ at (told-of s m step command (is.crew.nodes m i) is.crew.legal (is.racers m i)) is
+
+  follows-node : (s : Stage P) (front back : List (MemberOf P)) (m : MemberOf P) → s.crew.nodes ≡ front ++ m ∷ back → IsRacing ways stands lost s
+      → IsRacing ways stands lost (with_nodes s (front ++ sees ways s.seen m ∷ back))
+  follows-node s front back m at is =
+      let i = at-front s front back m at in
+      node-changed s front back m _ at (seen-of s m (is.crew.nodes m i) is.crew.legal (is.racers m i)) is
 
   -- ---- a round, and its time
 
-  pub have-followed : (h : List Entry) (m : MemberOf P) → IsMember stands (newest_first h) m → HaveFollowed h m.watchers
+  have-followed : (h : List Entry) (m : MemberOf P) → IsMember stands (newest_first h) m → HaveFollowed h m.watchers
   have-followed h m is l i = let f = is.watchers l i in omega (arith, ap length f.is, length-append f.later f.past, f.count, length-reverse h)
 
-  runs-round : (s : Stage P) (c d : Caller Entry) (after : CrewOf P) → c.seen ≡ s.seen → c.part ≡ whole → IsCaller c → Runs ways s.crew after c d → IsRacing ways stands lost s
-      → IsRacing ways stands lost (record { crew = after; seen = entered_on d.seen (ops.Time (next_time d.seen)); ends = length d.seen ∷ s.ends })
-  runs-round s c d after seen all sound runs is = record { crew = entered-crew after d.seen op crew; ticks = ticks; racers = racers }
+  runs-round : (s : Stage P) (later : List Entry) (after : CrewOf P) → Round ways s.crew after s.seen later → length later < 2 ^ 32 → IsRacing ways stands lost s
+      → IsRacing ways stands lost (record { crew = after; seen = entered_on later (ops.Time (next_time later)); ends = length later ∷ s.ends })
+  runs-round s later after round most is = record { crew = entered-crew after later op crew; ticks = ticks; racers = racers }
     where
       op : Op
-      op = ops.Time (next_time d.seen)
+      op = ops.Time (next_time later)
 
-      round : Round ways s.crew after s.seen d.seen
-      round = subst (λ (h : List Entry). Round ways s.crew after h d.seen) seen (runs_are_rounds P ways s.crew after c d sound all runs).0
-
-      new_sound : IsCaller d
-      new_sound = (runs_are_rounds P ways s.crew after c d sound all runs).1
-
-      crew : IsCrew stands d.seen after
-      crew = rounds_keep ways stands s.crew after s.seen d.seen kept is.crew round
+      crew : IsCrew stands later after
+      crew = rounds_keep ways stands s.crew after s.seen later kept is.crew round
 
       none : AreTimeless (reverse round.grows.0)
-      none = no-time s.seen d.seen round.grows (all_of round.gave ++ all_of round.called) round.entered
+      none = no-time s.seen later round.grows (all_of round.gave ++ all_of round.called) round.entered
 
-      few : now_of (newest_first d.seen) + 1 ≤ 2 ^ 62
+      few : now_of (newest_first later) + 1 ≤ 2 ^ 62
       few =
-          let later = goes_on (newest_first s.seen) (reverse round.grows.0) [] [] s.ends is.ticks none (none-gained (over s.ends)) in
-          let low = subst (λ (l : List Entry). now_of l ≤ length l) (sym (longer-is s.seen d.seen round.grows)) (now-low (reverse round.grows.0 ++ newest_first s.seen) s.ends later.ticks) in
-          let most = new_sound.few in
-          omega (arith, low, most, length-reverse d.seen)
+          let gone = goes_on (newest_first s.seen) (reverse round.grows.0) [] [] s.ends is.ticks none (none-gained (over s.ends)) in
+          let low = subst (λ (l : List Entry). now_of l ≤ length l) (sym (longer-is s.seen later round.grows)) (now-low (reverse round.grows.0 ++ newest_first s.seen) s.ends gone.ticks) in
+          omega (arith, low, most, length-reverse later)
 
-      ticks : IsRaced (newest_first (entered_on d.seen op)) [] (length d.seen ∷ s.ends)
+      ticks : IsRaced (newest_first (entered_on later op)) [] (length later ∷ s.ends)
       ticks =
-          subst (λ (l : List Entry). IsRaced l [] (length d.seen ∷ s.ends)) (sym (on-front d.seen op))
-          (subst (λ (n : ℕ). IsRaced (entry_on d.seen op ∷ newest_first d.seen) [] (n ∷ s.ends)) (length-reverse d.seen)
-          (passed (newest_first s.seen) (reverse round.grows.0) (newest_first d.seen) s.ends (entry_on d.seen op) (longer-is s.seen d.seen round.grows) is.ticks none (time-set (newest_first d.seen) few)))
+          subst (λ (l : List Entry). IsRaced l [] (length later ∷ s.ends)) (sym (on-front later op))
+          (subst (λ (n : ℕ). IsRaced (entry_on later op ∷ newest_first later) [] (n ∷ s.ends)) (length-reverse later)
+          (passed (newest_first s.seen) (reverse round.grows.0) (newest_first later) s.ends (entry_on later op) (longer-is s.seen later round.grows) is.ticks none (time-set (newest_first later) few)))
 
-      racers : (m : MemberOf P) → In m after.nodes → IsRacer ways lost (record { crew = after; seen = entered_on d.seen op; ends = length d.seen ∷ s.ends }) m
-      racers m i = record { well = gained.well; watched = (let a = r.watched in omega (arith, a, ran-many ways stands kept s.crew.post s.seen d.seen f.x m f.z f.w f.holds)); raced = raced }
+      racers : (m : MemberOf P) → In m after.nodes → IsRacer ways lost (record { crew = after; seen = entered_on later op; ends = length later ∷ s.ends }) m
+      racers m i = record { well = gained.well; watched = (let a = r.watched in omega (arith, a, ran-many ways stands kept s.crew.post s.seen later f.x m f.z f.w f.holds)); raced = raced }
         where
-          f : Match (NodeRan ways s.crew.post s.seen d.seen) s.crew.nodes m
-          f = match_of (NodeRan ways s.crew.post s.seen d.seen) s.crew.nodes after.nodes round.sent round.gave m round.nodes i
+          f : Match (NodeRan ways s.crew.post s.seen later) s.crew.nodes m
+          f = match_of (NodeRan ways s.crew.post s.seen later) s.crew.nodes after.nodes round.sent round.gave m round.nodes i
 
           r : IsRacer ways lost s f.x
           r = is.racers f.x f.there
@@ -285,20 +325,20 @@ module _ {P : Type 0} (ways : Ways P) (stands : List Entry → P → Type 0) (lo
           member : IsMember stands (newest_first s.seen) f.x
           member = is.crew.nodes f.x f.there
 
-          gained : Gained ways lost writes s.seen d.seen f.x.node m.node
-          gained = node_gains ways lost writes s.seen d.seen s.crew.post f.x m f.z f.w f.holds r.watched (shared_legal real d.seen crew.legal) r.well
+          gained : Gained ways lost writes s.seen later f.x.node m.node
+          gained = node_gains ways lost writes s.seen later s.crew.post f.x m f.z f.w f.holds r.watched (shared_legal real later crew.legal) r.well
               (omega (arith, kept.within (newest_first s.seen) f.x.node member.node, length-reverse s.seen)) (have-followed s.seen f.x member)
 
-          one : IsRaced (entry_on d.seen op ∷ newest_first d.seen) (gained.gained ++ ways.lines f.x.node) (length (newest_first d.seen) ∷ s.ends)
-          one = ended (newest_first s.seen) (reverse round.grows.0) (newest_first d.seen) (ways.lines f.x.node) gained.gained s.ends (entry_on d.seen op)
-              (longer-is s.seen d.seen round.grows) r.raced none
-              (subst (λ (n : ℕ). GainsRound n (newest_first d.seen) gained.gained) (sym (length-reverse s.seen)) gained.round) (time-set (newest_first d.seen) few)
+          one : IsRaced (entry_on later op ∷ newest_first later) (gained.gained ++ ways.lines f.x.node) (length (newest_first later) ∷ s.ends)
+          one = ended (newest_first s.seen) (reverse round.grows.0) (newest_first later) (ways.lines f.x.node) gained.gained s.ends (entry_on later op)
+              (longer-is s.seen later round.grows) r.raced none
+              (subst (λ (n : ℕ). GainsRound n (newest_first later) gained.gained) (sym (length-reverse s.seen)) gained.round) (time-set (newest_first later) few)
 
-          raced : IsRaced (newest_first (entered_on d.seen op)) (ways.lines m.node) (length d.seen ∷ s.ends)
+          raced : IsRaced (newest_first (entered_on later op)) (ways.lines m.node) (length later ∷ s.ends)
           raced =
-              subst (λ (l : List Entry). IsRaced l (ways.lines m.node) (length d.seen ∷ s.ends)) (sym (on-front d.seen op))
-              (subst (λ (l : List Line). IsRaced (entry_on d.seen op ∷ newest_first d.seen) l (length d.seen ∷ s.ends)) (sym gained.lines)
-              (subst (λ (n : ℕ). IsRaced (entry_on d.seen op ∷ newest_first d.seen) (gained.gained ++ ways.lines f.x.node) (n ∷ s.ends)) (length-reverse d.seen) one))
+              subst (λ (l : List Entry). IsRaced l (ways.lines m.node) (length later ∷ s.ends)) (sym (on-front later op))
+              (subst (λ (l : List Line). IsRaced (entry_on later op ∷ newest_first later) l (length later ∷ s.ends)) (sym gained.lines)
+              (subst (λ (n : ℕ). IsRaced (entry_on later op ∷ newest_first later) (gained.gained ++ ways.lines f.x.node) (n ∷ s.ends)) (length-reverse later) one))
 
   -- ---- a node joins
 
@@ -353,6 +393,7 @@ module _ {P : Type 0} (ways : Ways P) (stands : List Entry → P → Type 0) (lo
   stays-one : (s t : Stage P) → IsRacing ways stands lost s → Goes ways s t → IsRacing ways stands lost t
   stays-one s t is (enters call e) = subst (IsRacing ways stands lost) (sym e) (enters-call s call is)
   stays-one s t is (tells front back m step command at e) = subst (IsRacing ways stands lost) (sym e) (tells-node s front back m step command at is)
+  stays-one s t is (follows front back m at e) = subst (IsRacing ways stands lost) (sym e) (follows-node s front back m at is)
   stays-one s t is (turns cast post notes e) =
       subst (IsRacing ways stands lost) (sym e)
       (record {
@@ -361,7 +402,7 @@ module _ {P : Type 0} (ways : Ways P) (stands : List Entry → P → Type 0) (lo
         racers = λ m i. let r = is.racers m i in record { well = r.well; watched = r.watched; raced = r.raced };
       })
   stays-one s t is (joins number signer watchers fresh any few e) = subst (IsRacing ways stands lost) (sym e) (joins-race s number signer watchers fresh any few is)
-  stays-one s t is (rounds c d after seen all sound runs e) = subst (IsRacing ways stands lost) (sym e) (runs-round s c d after seen all sound runs is)
+  stays-one s t is (rounds later after round most e) = subst (IsRacing ways stands lost) (sym e) (runs-round s later after round most is)
 
   stays : (steps : List (Stage P)) (s t : Stage P) → IsRacing ways stands lost s → Race ways steps s t → IsRacing ways stands lost t
   stays [] s t is e = subst (IsRacing ways stands lost) (sym e) is

@@ -5,7 +5,6 @@ use Rattle.channel_calls.specs.declared.call.Call.{Call}
 use Rattle.channel_calls.specs.declared.call.Op.{Op}
 use Rattle.channel_calls.specs.declared.call.Op.TheVariants as ops
 use Rattle.channel_calls.specs.declared.entry.Entry.{Entry}
-use Rattle.adjudicator_book.specs.Caller.{Caller, IsCaller, whole}
 use Rattle.adjudicator_book.specs.History.{StartsWith}
 use Rattle.net_model.specs.Journals.{In}
 use Rattle.net_party.specs.Ways.{Ways, unlooking}
@@ -15,10 +14,11 @@ use Rattle.net_world.specs.Members.{MemberOf, sees, told}
 use Rattle.race_laws.specs.Races.{IsRaced}
 use Rattle.round_model.specs.Members.{Letter}
 use Rattle.round_model.specs.Players.{Player}
-use Rattle.round_model.specs.Rounds.{CrewOf, Runs}
+use Rattle.round_model.specs.Rounds.{CrewOf}
 use Rattle.sign_index.specs.Signing.{Signing}
 use Rattle.support_chain.specs.Real.{real}
 use Rattle.round_laws.specs.Crews.{IsCrew}
+use Rattle.round_laws.specs.Told.{Round}
 
 -- a race by now: its crew, what the driver has seen, and how long the history was after each round, the last one first
 pub record Stage (P : Type 0) : Type 0 where
@@ -40,18 +40,20 @@ abbrev pub with_rest : {P : Type 0} → Stage P → List Player → List Letter 
 with_rest s cast post = record s { crew = record s.crew { cast = cast; post = post } }
 
 module _ {P : Type 0} (ways : Ways P) where
-  -- One step of a race. Its driver enters a call, or tells a node a command, which sees what the driver has seen; the
+  -- One step of a race. Its driver enters a call; or a node sees what the driver has seen, and may be told a command then; the
   -- messages on their way change, and actors come or go, whose notes begin what it has seen; a new node joins, with so many
   -- watchers; or there is a round, and after it the next time is entered.
   pub data Goes (s t : Stage P) : Type 0 where
     enters : (call : Call) → t ≡ record s { seen = entered_on s.seen (ops.Call call) } → Goes s t
     tells : (front back : List (MemberOf P)) (m : MemberOf P) (step : ℕ) (command : Command) → s.crew.nodes ≡ front ++ m ∷ back
         → t ≡ with_nodes s (front ++ told ways step command (sees ways s.seen m) ∷ back) → Goes s t
+    follows : (front back : List (MemberOf P)) (m : MemberOf P) → s.crew.nodes ≡ front ++ m ∷ back
+        → t ≡ with_nodes s (front ++ sees ways s.seen m ∷ back) → Goes s t
     turns : (cast : List Player) (post : List Letter) → ((x : Player) → In x cast → StartsWith s.seen x.notes) → t ≡ with_rest s cast post → Goes s t
     joins : (number : ℕ) (signer : Signing) (watchers : ℕ) → IsFresh signer → 0 < watchers → watchers < 2 ^ 32
         → t ≡ with_nodes s (s.crew.nodes ++ record { node = ways.fresh number signer; watchers = replicate watchers unlooking } ∷ []) → Goes s t
-    rounds : (c d : Caller Entry) (after : CrewOf P) → c.seen ≡ s.seen → c.part ≡ whole → IsCaller c → Runs ways s.crew after c d
-        → t ≡ record { crew = after; seen = entered_on d.seen (ops.Time (next_time d.seen)); ends = length d.seen ∷ s.ends } → Goes s t
+    rounds : (later : List Entry) (after : CrewOf P) → Round ways s.crew after s.seen later → length later < 2 ^ 32
+        → t ≡ record { crew = after; seen = entered_on later (ops.Time (next_time later)); ends = length later ∷ s.ends } → Goes s t
 
   -- a race of so many steps
   abbrev pub Race : List (Stage P) → Stage P → Stage P → Type 0

@@ -1,11 +1,11 @@
 -- What the limits give of all steps that were read.
-use Rattle.std.proofs.Common.{◌≡◌, ◌≤◌, ◌<◌, ◌+◌, ◌^◌, ℕ, List, [], ◌∷◌, length, refl, true, false, arith, length-append}
+use Rattle.std.proofs.Common.{◌≡◌, ◌≤◌, ◌<◌, ◌+◌, ◌^◌, ◌∙◌, ℕ, List, [], ◌∷◌, length, refl, true, false, arith, length-append}
 use Rattle.std.specs.Prelude.{Bool, ◌&&◌, ◌||◌, ◌==◌, not, nat_lt, nat_le, All, IsTrue, if◌then◌else◌}
 use Rattle.std.proofs.lemmas.Bool.{ltb-true, leb-true, eqb-true}
 use Rattle.std.proofs.lemmas.List.Elements.{All-nil, All-cons}
 use Rattle.std.proofs.lemmas.List.Sums.{sum_by-cons}
 use Rattle.script_rules.specs.Bounds.{Fits, persons, persons_of, rounds, rounds_of}
-use Rattle.script_rules.specs.Conditions.{after, fits, is_able, within}
+use Rattle.script_rules.specs.Conditions.{after, fits, is_able, within, runs_in_race}
 use Rattle.script_rules.specs.Context.{has_index}
 use Rattle.script_rules.specs.Digests.{key_of, person_name}
 use Rattle.script_reader.specs.Script.{start, AreChecked}
@@ -21,10 +21,14 @@ few_watchers : (node : Bool) (watchers : ℕ) → (if node then within watchers 
 few_watchers true watchers e = leb-true watchers 4 ((both (nat_le 1 watchers) (nat_le watchers 4) e).1)
 few_watchers false watchers e = let none = eqb-true watchers 0 e in omega (arith, none)
 
-able_fits : (h : ℕ) (node : Bool) (watchers : ℕ) → is_able h node watchers ≡ true → IsTrue (h == 5 || h == 10) × (watchers ≤ 4)
+some_watchers : (node : Bool) (watchers : ℕ) → (if node then within watchers 1 4 else watchers == 0) ≡ true → node ≡ true → 1 ≤ watchers
+some_watchers true watchers e is = leb-true 1 watchers ((both (nat_le 1 watchers) (nat_le watchers 4) e).0)
+some_watchers false watchers e is = absurd (cc)
+
+able_fits : (h : ℕ) (node : Bool) (watchers : ℕ) → is_able h node watchers ≡ true → IsTrue (h == 5 || h == 10) × (watchers ≤ 4) × (node ≡ true → 1 ≤ watchers)
 able_fits h node watchers e =
     let p = both (h == 5 || h == 10) (if node then within watchers 1 4 else watchers == 0) e in
-    (p.0, few_watchers node watchers p.1)
+    (p.0, few_watchers node watchers p.1, some_watchers node watchers p.1)
 
 pair_fits : (a b : ℕ) → nat_lt a (2 ^ 32) && nat_lt b (2 ^ 8) ≡ true → (a < 2 ^ 32) × (b < 2 ^ 8)
 pair_fits a b e = let p = both (nat_lt a (2 ^ 32)) (nat_lt b (2 ^ 8)) e in (ltb-true a (2 ^ 32) p.0, ltb-true b (2 ^ 8) p.1)
@@ -64,6 +68,43 @@ step_fits c (steps.Rounds count) e = tt
 pub all_fit : (c : Context) (ss : List Step) → AreChecked c ss → All Fits ss
 all_fit c [] h = All-nil Fits
 all_fit c (s ∷ ss) h = All-cons Fits s ss (step_fits c s (h.0).fit) (all_fit (after c s) ss h.1)
+
+-- ---- a race
+
+in_race : (race : Bool) (b : Bool) → race ≡ true → not race || b ≡ true → b ≡ true
+in_race true b is e = e
+in_race false b is e = absurd (cc)
+
+-- a step declares nothing that makes a race of what is none
+same_race : (c : Context) (s : Step) → (after c s).race ≡ c.race
+same_race c (steps.Deposit channel asset expected amount) = refl
+same_race c (steps.Time to) = refl
+same_race c (steps.Person name seed h node watchers) = refl
+same_race c (steps.Channel name people nonce app duration) = refl
+same_race c (steps.Sign name channel by turn is_final outcome votes proposal) = refl
+same_race c (steps.Catch name from channel turn) = refl
+same_race c (steps.Send to state) = refl
+same_race c (steps.Drop to) = refl
+same_race c (steps.Challenge channel chain by) = refl
+same_race c (steps.Respond channel from state) = refl
+same_race c (steps.Refute channel state) = refl
+same_race c (steps.Checkpoint channel chain) = refl
+same_race c (steps.Conclude channel chain) = refl
+same_race c (steps.Transfer channel state asset index) = refl
+same_race c (steps.Claim guarantor state target target_state asset position) = refl
+same_race c (steps.Open who channel outcome) = refl
+same_race c (steps.OpenOn who ledger channel asset amounts) = refl
+same_race c (steps.OpenVirtual who ledgers guarantors joint channel asset amounts) = refl
+same_race c (steps.Pay who channel asset amount) = refl
+same_race c (steps.Close who channel) = refl
+same_race c (steps.Exit who) = refl
+same_race c (steps.Rounds count) = refl
+
+-- each step of a race may stand in one
+pub all_may_race : (c : Context) (ss : List Step) → c.race ≡ true → AreChecked c ss → All (λ (s : Step). runs_in_race s ≡ true) ss
+all_may_race c [] race h = All-nil (λ (s : Step). runs_in_race s ≡ true)
+all_may_race c (s ∷ ss) race h =
+    All-cons (λ (x : Step). runs_in_race x ≡ true) s ss (in_race c.race (runs_in_race s) race (h.0).raced) (all_may_race (after c s) ss (same_race c s ∙ race) h.1)
 
 -- ---- people
 

@@ -1,5 +1,5 @@
 -- What the limits give of all steps that were read, whatever stood before each, and the signers that they declare.
-use Rattle.std.specs.Prelude.{ℕ, ◌<◌, ◌≤◌, ◌^◌, ◌==◌, ◌||◌, IsTrue, List, length, sum_by}
+use Rattle.std.specs.Prelude.{◌≡◌, ℕ, true, ◌<◌, ◌≤◌, ◌^◌, ◌==◌, ◌||◌, IsTrue, List, length, sum_by}
 use Rattle.std.specs.List.{filter_map}
 use Rattle.sign_index.specs.Signing.{Signing}
 use Rattle.script_rules.specs.Conditions.{signer_of}
@@ -9,7 +9,7 @@ use Rattle.script_rules.specs.declared.step.Step.TheVariants as steps
 -- each value is within its limit
 abbrev pub Fits : Step → Type 0
 Fits (steps.Deposit channel asset expected amount) = asset < 2 ^ 32
-Fits (steps.Person name seed h node watchers) = IsTrue (h == 5 || h == 10) × (watchers ≤ 4)
+Fits (steps.Person name seed h node watchers) = IsTrue (h == 5 || h == 10) × (watchers ≤ 4) × (node ≡ true → 1 ≤ watchers)
 Fits (steps.Channel name people nonce app duration) = duration < 2 ^ 32
 Fits (steps.Sign name channel by turn is_final outcome votes proposal) = votes ≤ 3
 Fits (steps.Challenge channel chain by) = length chain ≤ 4

@@ -1,0 +1,77 @@
+-- What a step means in a race fits it, and declares at most one person.
+use Rattle.std.proofs.Common.{◌≡◌, ℕ, zero, suc, true, false, length, refl, ◌∙◌, ap, arith, rules}
+use Rattle.std.specs.Prelude.{Option, Some, None, unwrap_or}
+use Rattle.net_party.specs.Ways.{Ways}
+use Rattle.race_plays.specs.Races.{RaceOf, RunsRounds, FitsRace, Does}
+use Rattle.script_names.specs.Meanings.{Meaning, learning, meant, meaning}
+use Rattle.script_names.specs.declared.effect.Effect.{Effect}
+use Rattle.script_names.specs.declared.effect.Effect.TheVariants.{Nothing, Enter, Join, Tell, Post, Lose, Catch, Rounds}
+use Rattle.script_names.specs.declared.names.Names.{Names}
+use Rattle.script_people.specs.People.{◌>>=◌}
+use Rattle.script_play.proofs.Kept.{done_people}
+use Rattle.script_play.proofs.Meant.{meaning_grows}
+use Rattle.script_play.specs.Play.{done}
+use Rattle.script_rules.specs.Bounds.{Fits}
+use Rattle.script_rules.specs.Conditions.{runs_in_race}
+use Rattle.script_rules.specs.declared.step.Step.{Step}
+use Rattle.script_rules.specs.declared.step.Step.TheVariants as steps
+
+abbrev FitsIf : Option Meaning → Type 0
+FitsIf None = Unit {0}
+FitsIf (Some m) = FitsRace m.effect
+
+after : {A : Type 0} (o : Option A) (f : A → Option Meaning) → ((x : A) → FitsIf (f x)) → FitsIf (o >>= f)
+after None f h = tt
+after (Some x) f h = h x
+
+whole : (n : Names) (o : Option Meaning) → FitsIf o → FitsRace (unwrap_or o (learning n)).effect
+whole n None g = tt
+whole n (Some m) g = g
+
+meant_fits : (n : Names) (step : Step) → Fits step → runs_in_race step ≡ true → FitsIf (meant n step)
+meant_fits n (steps.Deposit channel asset expected amount) fit may = search (rules, after)
+meant_fits n (steps.Time to) fit may = absurd (cc)
+meant_fits n (steps.Person name seed h true watchers) fit may = ((meaning_grows n (steps.Person name seed h true watchers) fit).fits, omega (arith, fit.2 refl), omega (arith, fit.1))
+meant_fits n (steps.Person name seed h false watchers) fit may = tt
+meant_fits n (steps.Channel name people nonce app duration) fit may = search (rules, after)
+meant_fits n (steps.Sign name channel by turn is_final items votes proposal) fit may = search (rules, after)
+meant_fits n (steps.Catch name from channel turn) fit may = search (rules, after)
+meant_fits n (steps.Send to state) fit may = search (rules, after)
+meant_fits n (steps.Drop to) fit may = search (rules, after)
+meant_fits n (steps.Challenge channel chain by) fit may = search (rules, after)
+meant_fits n (steps.Respond channel from next) fit may = search (rules, after)
+meant_fits n (steps.Refute channel next) fit may = search (rules, after)
+meant_fits n (steps.Checkpoint channel chain) fit may = search (rules, after)
+meant_fits n (steps.Conclude channel chain) fit may = search (rules, after)
+meant_fits n (steps.Transfer channel state asset index) fit may = search (rules, after)
+meant_fits n (steps.Claim guarantor promise target ending asset position) fit may = search (rules, after)
+meant_fits n (steps.Open who channel opening) fit may = search (rules, after)
+meant_fits n (steps.OpenOn who ledger channel asset amounts) fit may = search (rules, after)
+meant_fits n (steps.OpenVirtual who ledgers guarantors joint channel asset amounts) fit may = search (rules, after)
+meant_fits n (steps.Pay who channel asset amount) fit may = search (rules, after)
+meant_fits n (steps.Close who channel) fit may = search (rules, after)
+meant_fits n (steps.Exit who) fit may = tt
+meant_fits n (steps.Rounds count) fit may = tt
+
+pub meaning_fits : (n : Names) (step : Step) → Fits step → runs_in_race step ≡ true → FitsRace (meaning n step).effect
+meaning_fits n step fit may = whole n (meant n step) (meant_fits n step fit may)
+
+-- ---- nobody is declared by what is done
+
+module _ {P : Type 0} (ways : Ways P) where
+  rounds_names : (count : ℕ) (s t : RaceOf P) → RunsRounds ways count s t → t.scene.names ≡ s.scene.names
+  rounds_names zero s t e = ap (λ (r : RaceOf P). r.scene.names) e
+  rounds_names (suc count) s t (mid, ran, last) = ap (λ (r : RaceOf P). r.scene.names) last.is ∙ rounds_names count s mid ran
+
+  by_done : (step : ℕ) (effect : Effect) (s t : RaceOf P) → t ≡ record s { scene = done ways step s.scene effect } → length t.scene.names.people ≡ length s.scene.names.people
+  by_done step effect s t e = ap (λ (r : RaceOf P). length r.scene.names.people) e ∙ ap length (done_people ways step s.scene effect)
+
+  pub does_people : (step : ℕ) (effect : Effect) (s t : RaceOf P) → Does ways step effect s t → length t.scene.names.people ≡ length s.scene.names.people
+  does_people step (Rounds count) s t e = ap (λ (n : Names). length n.people) (rounds_names count s t e)
+  does_people step Nothing s t e = by_done step Nothing s t e
+  does_people step (Enter op) s t e = by_done step (Enter op) s t e
+  does_people step (Join number signer watchers) s t e = by_done step (Join number signer watchers) s t e
+  does_people step (Tell numbers command) s t e = by_done step (Tell numbers command) s t e
+  does_people step (Post to bytes) s t e = by_done step (Post to bytes) s t e
+  does_people step (Lose to) s t e = by_done step (Lose to) s t e
+  does_people step (Catch name number key channel turn) s t e = by_done step (Catch name number key channel turn) s t e

@@ -1,0 +1,32 @@
+use Rattle.std.proofs.Common.{false, map, sym, ◌∙◌, ap, subst}
+use Rattle.adjudicator_book.specs.Caller.{Caller, IsCaller}
+use Rattle.channel_calls.specs.History.{newest_first, now_of}
+use Rattle.channel_calls.specs.declared.entry.Entry.{Entry}
+use Rattle.net_actors.specs.Views.{player_of}
+use Rattle.script_race.proofs.Driving.{opens}
+use Rattle.script_race.proofs.racing.Race.make.Goals as goal
+
+pub returns-clause-seated : goal.returns-clause-seated
+returns-clause-seated g c =
+    let is = c.in-Ok.ensures in
+    record {
+      book = ap (λ (c : Caller Entry). c.book) is;
+      part = ap (λ (c : Caller Entry). c.part) is;
+      sound = subst (λ (c : Caller Entry). IsCaller c) (sym is) (opens _);
+      now = sym (ap (λ (c : Caller Entry). now_of (newest_first c.seen)) is);
+    }
+
+pub returns-clause-starts : goal.returns-clause-starts
+returns-clause-starts g c =
+    let cast = map (player_of (λ c. (goal.Actor-dyn g (c.actor.vtable, c.actor.value)).tells c.actor.value) (λ c. (goal.Actor-dyn g (c.actor.vtable, c.actor.value)).told c.actor.value)) c.args.cast.items in
+    let history = ap (λ (c : Caller Entry). newest_first c.seen) c.in-Ok.ensures in
+    let rounds = c.make-4.ensures ∙ c.new-3.ensures.items in
+    λ i. record {
+      scene = record {
+        names = c.make-3.ensures i;
+        world = record { history = history i; members = c.new.ensures.items i; is_lost = false };
+        post = c.new-2.ensures.items i;
+        rounds = rounds i;
+      };
+      cast = cast;
+    }

@@ -1,0 +1,18 @@
+use Rattle.std.proofs.Common.{◌≡◌, ◌≤◌, ◌+◌, length, drop}
+use Rattle.race_plays.specs.Races.{RaceOf, Races}
+use Rattle.script_play.specs.Play.{numbered}
+use Rattle.script_race.specs.Driving.{race_of, IsSeated, Racing}
+use Rattle.script_rules.specs.Bounds.{persons_of, signers_of}
+use Rattle.script_race.proofs.replay.race.Given as goal
+
+abbrev pub invariant-loop-step : goal.invariant-loop-step
+invariant-loop-step g l =
+    record {
+      fresh : l.signers.items ≡ signers_of (drop l.step-index l.steps);
+      number : l.number ≡ l.step-index;
+      raced : (t : RaceOf g.row.P.Denot) → Races g.P.Party.ways (numbered (l.number + 1) (drop l.step-index l.steps)) (race_of (λ c. (goal.Actor-dyn g (c.actor.vtable, c.actor.value)).tells c.actor.value) (λ c. (goal.Actor-dyn g (c.actor.vtable, c.actor.value)).told c.actor.value) l.race) t
+          → Races g.P.Party.ways (numbered 1 l.steps) (race_of (λ c. (goal.Actor-dyn g (c.actor.vtable, c.actor.value)).tells c.actor.value) (λ c. (goal.Actor-dyn g (c.actor.vtable, c.actor.value)).told c.actor.value) l.initial.race) t;
+      seated : IsSeated l.race;
+      racing : Racing (λ c. (goal.Actor-dyn g (c.actor.vtable, c.actor.value)).tells c.actor.value) (λ c. (goal.Actor-dyn g (c.actor.vtable, c.actor.value)).told c.actor.value) g.P.Party.ways g.P.Party.stands g.P.Party.lost l.race;
+      few : length l.race.names.people + persons_of (drop l.step-index l.steps) ≤ 16;
+    }
