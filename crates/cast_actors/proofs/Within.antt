@@ -1,0 +1,45 @@
+-- An old challenge once more keeps the limits.
+use Rattle.std.proofs.Common.{◌≡◌, Bool, true, false, List, [], ◌∷◌, refl, sym, subst, ◌⊎◌, ⊎_elim}
+use Rattle.std.specs.Prelude.{Option, Some, cond}
+use Rattle.std.specs.List.{list_all, find, AllByRecursion}
+use Rattle.std.proofs.lemmas.Bool.{and_parts, leb-true, true≢false}
+use Rattle.nitro_bytes.specs.Chains.{KeepsMark}
+use Rattle.nitro_bytes.specs.declared.chain.Mark.{Mark}
+use Rattle.channel_calls.specs.declared.call.Call.TheVariants.{Deposit, Challenge, Respond, Refute, Checkpoint, Conclude, Transfer, Claim}
+use Rattle.channel_calls.specs.declared.call.Op.{Op}
+use Rattle.channel_calls.specs.declared.call.Op.TheVariants as ops
+use Rattle.channel_calls.specs.declared.entry.Entry.{Entry}
+use Rattle.round_model.specs.declared.actor.Act.{Act}
+use Rattle.round_model.specs.declared.actor.Act.TheVariants as acts
+use Rattle.round_model.specs.Acts.{IsWithinLimits}
+use Rattle.cast_actors.specs.Replays.{is_short, is_challenge, entering, entering_if, replayed}
+
+marks_keep : (marks : List Mark) → list_all (λ m. is_short m.signature) marks ≡ true → AllByRecursion KeepsMark marks
+marks_keep [] e = tt
+marks_keep (m ∷ ms) e = (leb-true _ _ (and_parts _ _ e).0, marks_keep ms (and_parts _ _ e).1)
+
+keeps : (op : Op) → is_challenge op ≡ true → IsWithinLimits (entering op)
+keeps (ops.Call (Challenge chain who signature)) e =
+    let few = and_parts _ _ e in
+    let more = and_parts _ _ few.1 in
+    let ends = and_parts _ _ more.1 in
+    (record { states = leb-true _ _ few.0; marks = leb-true _ _ more.0; signatures = marks_keep chain.marks ends.0 }, leb-true _ _ ends.1)
+keeps (ops.Call (Deposit channel asset expected amount)) e = tt
+keeps (ops.Call (Respond f from next)) e = absurd (true≢false (sym e))
+keeps (ops.Call (Refute f next)) e = absurd (true≢false (sym e))
+keeps (ops.Call (Checkpoint chain)) e = absurd (true≢false (sym e))
+keeps (ops.Call (Conclude chain)) e = absurd (true≢false (sym e))
+keeps (ops.Call (Transfer channel o asset index)) e = tt
+keeps (ops.Call (Claim guarantor promise target o asset position)) e = tt
+keeps (ops.Time to) e = tt
+
+step : (e : Entry) (rest : Option Entry) (b : Bool) → is_challenge e.op ≡ b → IsWithinLimits (entering_if rest) → IsWithinLimits (entering_if (cond b (Some e) rest))
+step e rest true is below = keeps e.op is
+step e rest false is below = below
+
+pub replayed_keeps : (entries : List Entry) → IsWithinLimits (replayed entries)
+replayed_keeps [] = tt
+replayed_keeps (e ∷ es) = step e (find (λ e. is_challenge e.op) es) (is_challenge e.op) refl (replayed_keeps es)
+
+pub answer_keeps : (a b : Act) → IsWithinLimits b → (a ≡ acts.NoMemory) ⊎ (a ≡ b) → IsWithinLimits a
+answer_keeps a b keeps w = ⊎_elim (λ e. subst (λ x. IsWithinLimits x) (sym e) tt) (λ e. subst (λ x. IsWithinLimits x) (sym e) keeps) w
