@@ -20,7 +20,7 @@ use Rattle.node_model.specs.Playing.{SignerOf, signing_of}
 use Rattle.node_ways.specs.Ways.{made_of}
 use Rattle.node_ways.specs.Ways.{key_of as ways_key}
 use Rattle.nitro_bytes.specs.Outcomes.{IsName}
-use Rattle.pair_laws.specs.Pair.{fixed}
+use Rattle.pair_laws.specs.TwoPeople.{fixed}
 use Rattle.pair_play.specs.Finish.{AreMade}
 use Rattle.script_names.specs.Meanings.{valid_fixed}
 use Rattle.script_play.proofs.Meant.{id_long}

@@ -24,7 +24,8 @@ use Rattle.node_ways.specs.Gains.{share_known}
 use Rattle.node_ways.specs.Placed.{IsPlaced}
 use Rattle.node_ways.specs.Ways.{Numbered, ways}
 use Rattle.pair_laws.specs.Pair.{is_taken, are_taken}
-use Rattle.pair_play.specs.Finish.{IsWhole, Finishes}
+use Rattle.pair_play.specs.Finish.{Finishes}
+use Rattle.pair_play.specs.Whole.{IsWhole}
 use Rattle.pair_play.specs.Rounds.{member, world}
 use Rattle.play_laws.proofs.Played.{plays_are_kept, plays_follow_commands}
 use Rattle.play_report.specs.Reported.{IsPlayed, journal_of, shares_of, events}

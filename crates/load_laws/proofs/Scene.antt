@@ -11,7 +11,7 @@ use Rattle.net_party.specs.declared.command.Command.TheVariants.{Pay, Close}
 use Rattle.node_model.specs.Nodes.{new_node}
 use Rattle.node_ways.specs.Ways.{Numbered, ways}
 use Rattle.pair_laws.proofs.Numbers.{no-more}
-use Rattle.pair_laws.specs.Pair.{fixed, name}
+use Rattle.pair_laws.specs.TwoPeople.{fixed, name}
 use Rattle.pair_play.specs.Finish.{paying, told_both, asked_both}
 use Rattle.pair_play.specs.Rounds.{world}
 use Rattle.pair_play.proofs.Paying.{turns}

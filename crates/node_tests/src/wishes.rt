@@ -1,46 +1,37 @@
 //! A payment's outcome that was worked out by hand, and what a node that knows nothing says.
 
-use crate::messages::{amounts, channel_of, key_of, open};
+use crate::messages::{amounts, key_of, state_of};
 use channel_calls::NodeRefusal;
-use net_party::Command;
-use nitro_bytes::{Name, NoMemory};
+use channel_name::person_name;
+use nitro_bytes::{ByteFault, Dest, NoMemory};
 use node_mind::Known;
-use node_refusals::command_refusal;
-use node_wishes::{handle, pay_refusal, paying, signable};
+use node_wishes::{Payment, handle, pay_refusal, signable, state_of as paid_state};
 use std::alloc::Global;
 use std::test::Fail;
 
-/// Takes a command up that isn't refused.
-fn take(known: &mut Known, command: &Command) -> Result<(), NoMemory> {
-    let refusal = command_refusal(known, 32, 0, command)?;
-    if refusal.is_none() {
-        known.commanded(command)?;
-    }
-    Ok(())
-}
-
-/// What both have after a payment, where a state of it can be signed.
-fn paid(known: &Known, channel: &Name, amount: u64) -> Result<Option<(u64, u64)>, NoMemory> {
-    match paying(known, channel, 0, amount)? {
-        None => Ok(None),
-        Some(state) => Ok(amounts(&state)),
-    }
-}
-
-/// What the first and the second have after its payment, where they open with 5 and 3.
-fn paid_first(alloc: Global, amount: u64) -> Result<Result<Option<(u64, u64)>, NoMemory>, Fail> {
+/// What both have after a payment of the first, where they have 5 and 3.
+fn paid_first(alloc: Global, amount: u64) -> Result<Result<Option<(u64, u64)>, ByteFault>, Fail> {
     let people = (key_of(alloc, 1)?, key_of(alloc, 2)?);
-    let channel = channel_of(alloc, &people)?;
-    let command = open(alloc, &people, 1)?;
-    let mut known = Known::make(alloc, people.0);
-    take(&mut known, &command)?;
-    Ok(paid(&known, &channel, amount))
+    let before = state_of(alloc, &people, 1, (5, 3))?;
+    let payment = Payment {
+        from: Dest::Person(person_name(&people.0)),
+        to: Dest::Person(person_name(&people.1)),
+        asset: 0,
+        amount,
+    };
+    match paid_state(alloc, 2, &payment, Some(before.outcome())) {
+        Ok(state) => Ok(Ok(amounts(&state))),
+        Err(fault) => Ok(Err(fault)),
+    }
 }
 
-/// Where the sum is too large for an amount there is no such state, and memory is said to be wanting.
+/// Where the sum is too large for an amount there is no such state.
 #[test]
 fn a_payment_moves_an_amount(rt: HostRuntime) -> Result<(), Fail> {
-    let cases = [(2, Ok(Some((3, 5)))), (u64::MAX, Err(NoMemory))];
+    let cases = [
+        (2, Ok(Some((3, 5)))),
+        (u64::MAX, Err(ByteFault::TotalTooLarge(0))),
+    ];
     for (amount, wanted) in cases {
         assert_eq!(rt; paid_first(rt.alloc(), amount)?, wanted, "{amount}");
     }

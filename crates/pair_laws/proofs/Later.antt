@@ -6,7 +6,8 @@ use Rattle.channel_calls.specs.declared.call.Call.{Call}
 use Rattle.channel_calls.specs.declared.call.Call.TheVariants.{Transfer}
 use Rattle.channel_calls.proofs.Names.{bytes_eq_self}
 use Rattle.pair_laws.proofs.Numbers.{same-number, zeroless}
-use Rattle.pair_laws.specs.Pair.{Pair, name, split}
+use Rattle.pair_laws.specs.Pair.{split}
+use Rattle.pair_laws.specs.TwoPeople.{Pair, name}
 use Rattle.std.specs.Prelude.{min}
 use Rattle.channel_calls.specs.declared.call.Op.TheVariants as ops
 use Rattle.channel_calls.specs.declared.refusal.Reply.TheVariants.{Paid}

@@ -29,7 +29,8 @@ use Rattle.node_model.specs.Playing.{Signing, SignerOf}
 use Rattle.node_model.specs.Refusing.{signs_in, message_refusal, command_refusal}
 use Rattle.node_tables.specs.Stages.{stages, calls_in}
 use Rattle.pair_laws.proofs.Pasts.{grown}
-use Rattle.pair_laws.specs.Pair.{Pair, fixed, name, mind, node, Becomes, Past}
+use Rattle.pair_laws.specs.Pair.{mind, node, Becomes, Past}
+use Rattle.pair_laws.specs.TwoPeople.{Pair, fixed, name}
 use Rattle.pair_laws.proofs.Notes.{by}
 
 abbrev pub Letters : Type 0

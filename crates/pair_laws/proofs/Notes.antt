@@ -9,7 +9,8 @@ use Rattle.channel_model.specs.Rules.{Rules}
 use Rattle.channel_calls.specs.declared.view.WorldView.{WorldView}
 use Rattle.channel_calls.proofs.Names.{bytes_eq_self}
 use Rattle.node_model.specs.Minds.{noted}
-use Rattle.pair_laws.specs.Pair.{Pair, fixed, name, mind, mark, marks_a, marks_b, state}
+use Rattle.pair_laws.specs.Pair.{mind, mark, marks_a, marks_b, state}
+use Rattle.pair_laws.specs.TwoPeople.{Pair, fixed, name}
 
 -- a key signed the state
 abbrev pub Well : Rules → Pair → List ℕ → StateParts → List ℕ → Type 0

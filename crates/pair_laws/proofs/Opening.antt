@@ -14,7 +14,8 @@ use Rattle.node_model.specs.Refusing.{signs_in, message_refusal}
 use Rattle.node_tables.specs.Stages.{stages, calls_in}
 use Rattle.outcome_targets.specs.Limits.{is_valid}
 use Rattle.pair_laws.proofs.Numbers.{same-number}
-use Rattle.pair_laws.specs.Pair.{Pair, fixed, name, mind, mark, marks_a, marks_b, state, split, seeing, funded}
+use Rattle.pair_laws.specs.Pair.{mind, mark, marks_a, marks_b, state, split, seeing, funded}
+use Rattle.pair_laws.specs.TwoPeople.{Pair, fixed, name}
 use Rattle.pair_laws.proofs.Notes.{Well, by, whole}
 
 -- What is asked of the two and of what they begin with.

@@ -8,7 +8,8 @@ use Rattle.channel_calls.specs.declared.call.Call.{Call}
 use Rattle.channel_calls.specs.declared.call.Call.TheVariants.{Deposit, Conclude, Transfer}
 use Rattle.channel_calls.proofs.Names.{bytes_eq_self}
 use Rattle.pair_laws.proofs.Numbers.{same-number, not-less, zeroless}
-use Rattle.pair_laws.specs.Pair.{Pair, name, state, split, chain}
+use Rattle.pair_laws.specs.Pair.{state, split, chain}
+use Rattle.pair_laws.specs.TwoPeople.{Pair, name}
 use Rattle.pair_laws.proofs.Notes.{by}
 use Rattle.std.specs.Prelude.{min}
 use Rattle.nitro_bytes.specs.declared.chain.Chain.{Chain}

@@ -14,7 +14,8 @@ use Rattle.node_model.specs.Minds.{facts_of, commanded}
 use Rattle.node_model.specs.Refusing.{signs_in, message_refusal, command_refusal}
 use Rattle.node_tables.specs.Stages.{stages, calls_in}
 use Rattle.pair_laws.proofs.Numbers.{same-number}
-use Rattle.pair_laws.specs.Pair.{Pair, fixed, name, mind, marks_a, marks_b, state, funded, chain}
+use Rattle.pair_laws.specs.Pair.{mind, marks_a, marks_b, state, funded, chain}
+use Rattle.pair_laws.specs.TwoPeople.{Pair, fixed, name}
 use Rattle.pair_laws.proofs.Notes.{Well, by, whole}
 use Rattle.wish_laws.proofs.Finding.{flips}
 use Rattle.pair_laws.proofs.Opening.{Begins}

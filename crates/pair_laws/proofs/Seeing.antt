@@ -17,7 +17,8 @@ use Rattle.node_model.specs.Minds.{facts_of, commanded}
 use Rattle.node_model.specs.Refusing.{signs_in, not_open, message_refusal, command_refusal}
 use Rattle.node_tables.specs.Stages.{stages, calls_in}
 use Rattle.pair_laws.proofs.Numbers.{same-number, from-zero}
-use Rattle.pair_laws.specs.Pair.{Pair, fixed, name, mind, state, split, seeing, funded, chain}
+use Rattle.pair_laws.specs.Pair.{mind, state, split, seeing, funded, chain}
+use Rattle.pair_laws.specs.TwoPeople.{Pair, fixed, name}
 use Rattle.pair_laws.proofs.Notes.{by}
 use Rattle.std.specs.Prelude.{min, is_some}
 use Rattle.nitro_bytes.specs.declared.chain.Chain.{Chain}

@@ -1,6 +1,6 @@
 -- A direct payment channel of two people, and what one of them knows of it.
 use Rattle.std.specs.Prelude.{◌≡◌, ℕ, ◌+◌, ◌&&◌, Bool, true, false, List, [], ◌∷◌, Option, Some}
-use Rattle.nitro_bytes.specs.Parts.{FixedParts, StateParts, fixed_with, state_with}
+use Rattle.nitro_bytes.specs.Parts.{StateParts, state_with}
 use Rattle.nitro_bytes.specs.declared.chain.Chain.{Chain}
 use Rattle.nitro_bytes.specs.declared.chain.Mark.{Mark}
 use Rattle.nitro_bytes.specs.declared.value.AssetOutcome.{AssetOutcome}
@@ -21,22 +21,7 @@ use Rattle.channel_calls.specs.declared.event.Event.{Event}
 use Rattle.node_model.specs.Nodes.{NodeOf}
 use Rattle.node_model.specs.Playing.{SignerOf}
 use Rattle.node_model.specs.Minds.{Mind}
-
--- The two keys, in the channel's order; what tells the channel from others of the two; and what each has at first.
-pub record Pair : Type 0 where
-  pub key_a : List ℕ
-  pub key_b : List ℕ
-  pub nonce : ℕ
-  pub duration : ℕ
-  pub asset : ℕ
-  pub a : ℕ
-  pub b : ℕ
-
-abbrev pub fixed : Pair → FixedParts
-fixed p = fixed_with (p.key_a ∷ p.key_b ∷ []) p.nonce 1 p.duration
-
-abbrev pub name : Rules → Pair → List ℕ
-name r p = r.named (fixed p)
+use Rattle.pair_laws.specs.TwoPeople.{Pair, fixed, name}
 
 abbrev pub item : List ℕ → ℕ → Item
 item key amount = record { to = Person (name_of_person key); amount = amount }

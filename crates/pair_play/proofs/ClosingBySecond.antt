@@ -16,7 +16,7 @@ use Rattle.node_ways.specs.Gains.{share_known}
 use Rattle.std.specs.Prelude.{reverse}
 use Rattle.std.specs.Str.{bytes_eq}
 use Rattle.node_model.specs.Places.{AreFew}
-use Rattle.pair_play.specs.Finish.{IsWhole}
+use Rattle.pair_play.specs.Whole.{IsWhole}
 use Rattle.pair_play.proofs.Worths.{paid_first, paid_behind, share_first, share_second, none-left}
 use Rattle.channel_calls.proofs.Names.{bytes_eq_self}
 use Rattle.pair_laws.proofs.Numbers.{same-number, not-less, early-one, early-two, below-one, below-two, even-then, from-zero, zeros, zeros-more}
@@ -32,7 +32,8 @@ use Rattle.script_play.specs.Play.{SceneOf, play_rounds}
 use Rattle.world_rounds.specs.Rounds.{Letter}
 use Rattle.script_names.specs.declared.names.Names.{Names}
 use Rattle.support_chain.specs.Real.{real}
-use Rattle.pair_laws.specs.Pair.{Pair, fixed, name, mind, mark, marks_a, marks_b, state, split, funded, chain}
+use Rattle.pair_laws.specs.Pair.{mind, mark, marks_a, marks_b, state, split, funded, chain}
+use Rattle.pair_laws.specs.TwoPeople.{Pair, fixed, name}
 use Rattle.pair_laws.proofs.Replies.{deposits, last_chain, concluded, paid_b, replies_conclude, replies_transfer_b}
 use Rattle.pair_laws.proofs.Running.{Runs, signs_final_b, waits_final_c, calls_closing, takes_final_a, signs_last_a, concludes}
 use Rattle.pair_laws.proofs.Nodes.{tick_waits, tick_signs, handles, handles_late, sends_a, sends_b}

@@ -10,7 +10,8 @@ use Rattle.script_play.specs.Play.{SceneOf, play_rounds}
 use Rattle.script_names.specs.declared.names.Names.{Names}
 use Rattle.support_chain.specs.Real.{real}
 use Rattle.pair_laws.proofs.Numbers.{is-below, one-less, later, odd-then, even-then}
-use Rattle.pair_laws.specs.Pair.{Pair, mind, marks_a, marks_b, state}
+use Rattle.pair_laws.specs.Pair.{mind, marks_a, marks_b, state}
+use Rattle.pair_laws.specs.TwoPeople.{Pair}
 use Rattle.pair_play.proofs.Closing as closing
 use Rattle.pair_play.proofs.ClosingBySecond as second
 use Rattle.pair_play.proofs.Opens.{both, opens}

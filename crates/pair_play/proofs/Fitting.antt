@@ -13,7 +13,8 @@ use Rattle.channel_calls.proofs.Formats.{message_format}
 use Rattle.node_model.specs.Playing.{SignerOf}
 use Rattle.outcome_targets.specs.Limits.{is_valid}
 use Rattle.support_chain.specs.Real.{real}
-use Rattle.pair_laws.specs.Pair.{Pair, name, split, state}
+use Rattle.pair_laws.specs.Pair.{split, state}
+use Rattle.pair_laws.specs.TwoPeople.{Pair, name}
 use Rattle.pair_laws.proofs.Notes.{by}
 use Rattle.pair_play.proofs.Phases.{Fits, signature}
 use Rattle.pair_play.proofs.Steps.{repeats}

@@ -17,7 +17,8 @@ use Rattle.node_ways.specs.Ways.{Numbered, ways}
 use Rattle.script_play.specs.Play.{SceneOf, play_rounds}
 use Rattle.script_names.specs.declared.names.Names.{Names}
 use Rattle.support_chain.specs.Real.{real}
-use Rattle.pair_laws.specs.Pair.{Pair, name, mind, mark, marks_b, state, funded}
+use Rattle.pair_laws.specs.Pair.{mind, mark, marks_b, state, funded}
+use Rattle.pair_laws.specs.TwoPeople.{Pair, name}
 use Rattle.pair_laws.proofs.Replies.{first_entry, second_entry, deposits, replies_first, replies_second}
 use Rattle.pair_laws.proofs.Running.{Runs, rests, calls_nothing}
 use Rattle.pair_laws.proofs.Nodes.{tick_waits}

@@ -12,7 +12,8 @@ use Rattle.script_play.specs.Play.{SceneOf, play_round, told}
 use Rattle.script_names.specs.declared.names.Names.{Names}
 use Rattle.support_chain.specs.Real.{real}
 use Rattle.pair_laws.proofs.Numbers.{is-below, one-less, later, odd-then, even-then, no-more, sum-a, sum-b}
-use Rattle.pair_laws.specs.Pair.{Pair, fixed, name, marks_a, marks_b, state}
+use Rattle.pair_laws.specs.Pair.{marks_a, marks_b, state}
+use Rattle.pair_laws.specs.TwoPeople.{Pair, fixed, name}
 use Rattle.pair_laws.proofs.Replies.{deposits}
 use Rattle.pair_laws.proofs.Running.{PaysA, PaysB}
 use Rattle.pair_play.proofs.Opens.{both, a_runs, b_runs}

@@ -11,7 +11,8 @@ use Rattle.script_play.specs.Play.{SceneOf, play_round}
 use Rattle.script_names.specs.declared.names.Names.{Names}
 use Rattle.support_chain.specs.Real.{real}
 use Rattle.pair_laws.proofs.Numbers.{same-number, sum-a, sum-b}
-use Rattle.pair_laws.specs.Pair.{Pair, name, mark, marks_a, marks_b, state, funded}
+use Rattle.pair_laws.specs.Pair.{mark, marks_a, marks_b, state, funded}
+use Rattle.pair_laws.specs.TwoPeople.{Pair, name}
 use Rattle.pair_laws.proofs.Replies.{deposits}
 use Rattle.pair_laws.proofs.Running.{Runs, PaysA, PaysB, rests, calls_nothing, pays_a, pays_b, signs_payment_a, signs_payment_b, takes_payment_a, takes_payment_b}
 use Rattle.pair_laws.proofs.Nodes.{tick_waits, told_pay, answers_pay, handles, sends_a, sends_b}

@@ -23,7 +23,8 @@ use Rattle.node_tables.specs.Stages.{stages}
 use Rattle.world_rounds.specs.Rounds.{Letter}
 use Rattle.support_chain.specs.Real.{real}
 use Rattle.wish_laws.proofs.Finding.{flips}
-use Rattle.pair_laws.specs.Pair.{Pair, name, mind, mark, marks_a, marks_b, state, seeing, funded, node, Becomes, Past}
+use Rattle.pair_laws.specs.Pair.{mind, mark, marks_a, marks_b, state, seeing, funded, node, Becomes, Past}
+use Rattle.pair_laws.specs.TwoPeople.{Pair, name}
 use Rattle.pair_laws.proofs.Notes.{Well, by, notes_first, notes_second, notes_a, notes_b}
 use Rattle.pair_laws.proofs.Nodes.{Ticks, tick_waits, tick_signs, handles, sends_a, sends_b}
 use Rattle.pair_laws.proofs.Opening.{Begins, signs_0, signs_1, signs_2, signs_3, waits_0, waits_1, waits_unfunded, waits_half, waits_2, waits_3, calls_none, calls_one, deposits_a, deposits_late, deposits_b, calls_funded, calls_posting, takes_0, takes_1, takes_2, takes_3}

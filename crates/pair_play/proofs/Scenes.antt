@@ -25,7 +25,8 @@ use Rattle.world_rounds.specs.Rounds.{Letter, Mailed, round}
 use Rattle.script_names.specs.declared.names.Names.{Names}
 use Rattle.script_people.specs.declared.people.Person.{Person}
 use Rattle.support_chain.specs.Real.{real}
-use Rattle.pair_laws.specs.Pair.{Pair, node, Becomes, Past}
+use Rattle.pair_laws.specs.Pair.{node, Becomes, Past}
+use Rattle.pair_laws.specs.TwoPeople.{Pair}
 use Rattle.pair_play.proofs.Acting.{the-mailed, sees_all}
 use Rattle.pair_play.proofs.Rounds.{rounds_are_made}
 use Rattle.pair_play.specs.Rounds.{world, member, Is, Pairing, enter_all, Does, StaysCalm}

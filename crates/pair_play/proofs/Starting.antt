@@ -12,7 +12,8 @@ use Rattle.node_ways.specs.Ways.{Numbered, ways}
 use Rattle.script_play.specs.Play.{SceneOf, play_rounds, told}
 use Rattle.script_names.specs.declared.names.Names.{Names}
 use Rattle.support_chain.specs.Real.{real}
-use Rattle.pair_laws.specs.Pair.{Pair, fixed, split, mind, node}
+use Rattle.pair_laws.specs.Pair.{split, mind, node}
+use Rattle.pair_laws.specs.TwoPeople.{Pair, fixed}
 use Rattle.pair_laws.proofs.Nodes.{told_open}
 use Rattle.pair_laws.proofs.Seeing.{opens_a, opens_b, opened_a, opened_b}
 use Rattle.pair_play.proofs.Finishing.{Finishes, Enough, asked_both, two_finish}

@@ -10,7 +10,8 @@ use Rattle.support_chain.specs.Real.{real}
 use Rattle.support_chain.specs.Steps.{step_fault}
 use Rattle.wish_laws.proofs.Finding.{flips}
 use Rattle.pair_laws.proofs.Numbers.{same-number}
-use Rattle.pair_laws.specs.Pair.{Pair, fixed, state}
+use Rattle.pair_laws.specs.Pair.{state}
+use Rattle.pair_laws.specs.TwoPeople.{Pair, fixed}
 use Rattle.pair_play.proofs.Paying.{CanPay}
 
 past : (turn : ℕ) → nat_le 3 turn ≡ true → nat_lt (turn + 1) 4 ≡ false

@@ -12,7 +12,8 @@ use Rattle.channel_model.proofs.Turns.{last_turn_at_most, turn_down}
 use Rattle.channel_calls.specs.Marked.{marked_of, is_newer, is_supported}
 use Rattle.support_chain.specs.Real.{real}
 use Rattle.pair_laws.proofs.Numbers.{same-number, not-less}
-use Rattle.pair_laws.specs.Pair.{Pair, fixed, state, marks_a, marks_b, chain}
+use Rattle.pair_laws.specs.Pair.{state, marks_a, marks_b, chain}
+use Rattle.pair_laws.specs.TwoPeople.{Pair, fixed}
 use Rattle.pair_laws.proofs.Notes.{Well}
 use Rattle.pair_laws.proofs.Replies.{last_chain}
 

@@ -12,7 +12,8 @@ use Rattle.history_view.specs.Views.{is_paid, paid_amount}
 use Rattle.node_ways.specs.Gains.{share_known}
 use Rattle.support_chain.specs.Real.{real}
 use Rattle.pair_laws.proofs.Numbers.{same-number}
-use Rattle.pair_laws.specs.Pair.{Pair, name, mind}
+use Rattle.pair_laws.specs.Pair.{mind}
+use Rattle.pair_laws.specs.TwoPeople.{Pair, name}
 use Rattle.pair_laws.proofs.Seeing.{Balance, ended}
 
 pub none-left : (n : ℕ) → n - n ≡ 0

@@ -4,12 +4,7 @@ use Rattle.std.specs.Str.{bytes_eq}
 use Rattle.nitro_bytes.specs.Chains.{IsSignature}
 use Rattle.nitro_bytes.specs.Outcomes.{IsName}
 use Rattle.nitro_bytes.specs.Parts.{StateParts}
-use Rattle.nitro_bytes.specs.declared.chain.Chain.{Chain}
-use Rattle.nitro_bytes.specs.declared.value.AssetOutcome.{AssetOutcome}
 use Rattle.channel_calls.specs.History.{paid_to, held_of, flows_of}
-use Rattle.channel_calls.specs.declared.call.Call.TheVariants.{Deposit, Conclude, Transfer}
-use Rattle.channel_calls.specs.declared.call.Op.TheVariants as ops
-use Rattle.channel_calls.specs.declared.refusal.Reply.TheVariants.{Held, Concluded, Paid}
 use Rattle.flow_balances.specs.Receipts.{assets_of}
 use Rattle.node_ways.specs.Gains.{share_known}
 use Rattle.channel_calls.specs.declared.entry.Entry.{Entry}
@@ -25,8 +20,10 @@ use Rattle.world_rounds.specs.Rounds.{Letter}
 use Rattle.script_names.specs.declared.names.Names.{Names}
 use Rattle.script_people.specs.declared.people.Person.{Person}
 use Rattle.support_chain.specs.Real.{real}
-use Rattle.pair_laws.specs.Pair.{Pair, fixed, name, split}
+use Rattle.pair_laws.specs.Pair.{split}
+use Rattle.pair_laws.specs.TwoPeople.{Pair, fixed, name}
 use Rattle.pair_play.specs.Rounds.{Pairing, Is}
+use Rattle.pair_play.specs.Whole.{IsWhole}
 
 -- the signature of a state with an index, and the bytes of the state with it
 abbrev pub signature : Pair → SignerOf → ℕ → StateParts → List ℕ
@@ -108,36 +105,6 @@ pub record Enough (sa sb : SignerOf) (ua ub : ℕ) (amounts : List ℕ) : Type 0
   pub turns : 6 + length amounts < 2 ^ 48
   pub first : suc (suc ua) + signs_first true amounts < (signing_of sa).limit
   pub second : suc (suc ub) + signs_second true amounts < (signing_of sb).limit
-
--- ---- what was entered and accepted
-
--- a person deposits this
-pub record IsDeposit (p : Pair) (by expected amount : ℕ) (e : Entry) : Type 0 where
-  pub caller : e.by ≡ by
-  pub op : e.op ≡ ops.Call (Deposit (name real p) p.asset expected amount)
-  pub reply : e.reply ≡ Held (expected + amount)
-
--- the channel is concluded
-pub record IsConclusion (p : Pair) (e : Entry) : Type 0 where
-  pub chain : Chain
-  pub turn : ℕ
-  pub named : real.named chain.fixed ≡ name real p
-  pub op : e.op ≡ ops.Call (Conclude chain)
-  pub reply : e.reply ≡ Concluded turn
-
--- an item of its outcome is paid
-pub record IsTransfer (p : Pair) (e : Entry) : Type 0 where
-  pub outcome : List AssetOutcome
-  pub index : ℕ
-  pub amount : ℕ
-  pub op : e.op ≡ ops.Call (Transfer (name real p) outcome p.asset index)
-  pub reply : e.reply ≡ Paid amount
-
--- two deposits, a conclusion and two transfers, in the order of time
-abbrev pub IsWhole : Pair → List Entry → Type 0
-IsWhole p (a ∷ b ∷ c ∷ d ∷ e ∷ []) =
-    IsDeposit p 1 0 p.a a × IsDeposit p 2 p.a p.b b × IsConclusion p c × IsTransfer p d × IsTransfer p e
-IsWhole p _ = ⊥
 
 -- ---- the end
 

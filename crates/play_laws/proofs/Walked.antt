@@ -36,7 +36,7 @@ pub record IsKept {P : Type 0} (ways : Ways P) (commands : ℕ → Option Comman
   pub joins : (number : ℕ) (signer : Signing) (watchers : ℕ) (w : WorldOf P) → IsFresh signer → World w → World (joined ways number signer watchers w)
 
 module _ {P : Type 0} (ways : Ways P) (commands : ℕ → Option Command) (World : WorldOf P → Type 0) (kept : IsKept ways commands World) where
-  calls_kept : (by : ℕ) (calls : List Call) (w : WorldOf P) → World w → World (fold (entered_by ways by) w calls)
+  pub calls_kept : (by : ℕ) (calls : List Call) (w : WorldOf P) → World w → World (fold (entered_by ways by) w calls)
   calls_kept by [] w is = is
   calls_kept by (call ∷ calls) w is = calls_kept by calls (entered_by ways by w call) (kept.happens w (happenings.Enter by call) tt is)
 
@@ -77,7 +77,7 @@ module _ {P : Type 0} (ways : Ways P) (commands : ℕ → Option Command) (World
       let before = play_rounds ways count s in
       second_kept before.names.people _ (first_kept before.post before.names.people _ (rounds_kept count s is))
 
-  told_kept : (number : ℕ) (command : Command) (numbers : List ℕ) (s : SceneOf P) → commands number ≡ Some command → World s.world → World (fold (told ways number command) s numbers).world
+  pub told_kept : (number : ℕ) (command : Command) (numbers : List ℕ) (s : SceneOf P) → commands number ≡ Some command → World s.world → World (fold (told ways number command) s numbers).world
   told_kept number command [] s of is = is
   told_kept number command (who ∷ numbers) s of is =
       told_kept number command numbers (told ways number command s who) of
@@ -87,7 +87,7 @@ module _ {P : Type 0} (ways : Ways P) (commands : ℕ → Option Command) (World
   entering_free (ops.Call call) = tt
   entering_free (ops.Time to) = tt
 
-  done_kept : (number : ℕ) (s : SceneOf P) (effect : Effect) → FitsEffect effect → commands number ≡ command_in effect → World s.world → World (done ways number s effect).world
+  pub done_kept : (number : ℕ) (s : SceneOf P) (effect : Effect) → FitsEffect effect → commands number ≡ command_in effect → World s.world → World (done ways number s effect).world
   done_kept number s Nothing fits of is = is
   done_kept number s (Enter op) fits of is = kept.happens s.world (entering op) (entering_free op) is
   done_kept number s (Join who signer watchers) fits of is = kept.joins who signer watchers s.world fits is
@@ -99,7 +99,7 @@ module _ {P : Type 0} (ways : Ways P) (commands : ℕ → Option Command) (World
 
   -- ---- what names stand for
 
-  naming_alike : (n : Names) (name key channel : List ℕ) (o : Option Signed) → AreAlike (naming n name key channel o) n
+  pub naming_alike : (n : Names) (name key channel : List ℕ) (o : Option Signed) → AreAlike (naming n name key channel o) n
   naming_alike n name key channel None = alike_self n
   naming_alike n name key channel (Some s) = record { people = refl; channels = refl }
 
@@ -107,11 +107,11 @@ module _ {P : Type 0} (ways : Ways P) (commands : ℕ → Option Command) (World
   rounds_alike zero s = alike_self s.names
   rounds_alike (suc count) s = rounds_alike count s
 
-  told_alike : (number : ℕ) (command : Command) (numbers : List ℕ) (s : SceneOf P) → AreAlike (fold (told ways number command) s numbers).names s.names
+  pub told_alike : (number : ℕ) (command : Command) (numbers : List ℕ) (s : SceneOf P) → AreAlike (fold (told ways number command) s numbers).names s.names
   told_alike number command [] s = alike_self s.names
   told_alike number command (who ∷ numbers) s = told_alike number command numbers (told ways number command s who)
 
-  done_alike : (number : ℕ) (s : SceneOf P) (effect : Effect) → AreAlike (done ways number s effect).names s.names
+  pub done_alike : (number : ℕ) (s : SceneOf P) (effect : Effect) → AreAlike (done ways number s effect).names s.names
   done_alike number s Nothing = alike_self s.names
   done_alike number s (Enter op) = alike_self s.names
   done_alike number s (Join who signer watchers) = alike_self s.names
@@ -121,7 +121,7 @@ module _ {P : Type 0} (ways : Ways P) (commands : ℕ → Option Command) (World
   done_alike number s (Catch name who key channel turn) = naming_alike s.names name key channel _
   done_alike number s (Rounds count) = rounds_alike count s
 
-  and_alike : (a b c : Names) → AreAlike a b → AreAlike b c → AreAlike a c
+  pub and_alike : (a b c : Names) → AreAlike a b → AreAlike b c → AreAlike a c
   and_alike a b c x y = record { people = x.people ∙ y.people; channels = x.channels ∙ y.channels }
 
   -- ---- steps
@@ -145,7 +145,7 @@ module _ {P : Type 0} (ways : Ways P) (commands : ℕ → Option Command) (World
       plus-one : (k count : ℕ) → (k + 1) + count ≡ k + suc count
       plus-one k count = omega arith
 
-  seen_kept : (people : List Person) (w : WorldOf P) → World w → World (fold (seen_by ways) w people)
+  pub seen_kept : (people : List Person) (w : WorldOf P) → World w → World (fold (seen_by ways) w people)
   seen_kept [] w is = is
   seen_kept (p ∷ people) w is = seen_kept people (seen_by ways w p) (kept.happens w (happenings.See p.number) tt is)
 

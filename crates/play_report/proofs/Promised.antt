@@ -46,7 +46,7 @@ use Rattle.world_laws.specs.Standing.{AreKept, IsWorld}
 use Rattle.play_report.proofs.Lines.{adds_in, lines_told, adds_fixed}
 use Rattle.play_report.proofs.Pairs.{all_reverse, in_all}
 use Rattle.play_report.specs.Members.{IsMade}
-use Rattle.play_report.specs.Reported.{IsJudged, AreJudged, shares_of, exits_after, journal_of, events, Tells, IsSafeIf, IsFairIf, Premised, Promises, IsPlayed}
+use Rattle.play_report.specs.Reported.{IsJudged, AreJudged, shares_of, exits_after, journal_of, events, Tells, IsSafeIf, IsFairIf, IsInTimeIf, Premised, Promises, IsPlayed}
 use Rattle.play_report.specs.Shares.{HasFollowed, exits_for, exits_if, known_shares, known_exits}
 
 -- ---- the fixed parts that a journal opens are among those that its accepted commands name
@@ -60,6 +60,11 @@ in-filter test x (y ∷ ys) i = go (test y) i (in-filter test x ys)
     go true (inr j) later = inr (later j)
     go false j later = inr (later j)
 
+-- what a command adds for somebody is among what it opens
+pub by_command : (key : List ℕ) (o : Option Command) (f : FixedParts) → In f (adds key o) → In f (named_by o)
+by_command key None f j = j
+by_command key (Some command) f j = in-filter (takes_part key) f (opened_by command) j
+
 opened-named : (key : List ℕ) (events : List Told) (s : List ℕ) → In s (strings_opened (lines_of key events)) → In s (flat_map of_fixed (named_in events))
 opened-named key events s i =
     let line = joined (λ (y : Line). flat_map of_fixed (opened y)) s (lines_of key events) i in
@@ -69,15 +74,11 @@ opened-named key events s i =
     (In-flat_map (λ (x : Told). cond (is_followed x.deed) (named_by x.command) []) part.from event.0 events event.1
     (named event.0 part.from (subst (λ (y : Line). In part.from (opened y)) event.2 part.there))) part.is
   where
-    by-command : (o : Option Command) (f : FixedParts) → In f (adds key o) → In f (named_by o)
-    by-command None f j = j
-    by-command (Some command) f j = in-filter (takes_part key) f (opened_by command) j
-
     named : (x : Told) (f : FixedParts) → In f (opened (line_of key x)) → In f (cond (is_followed x.deed) (named_by x.command) [])
     named x f j = go (is_followed x.deed) j
       where
         go : (b : Bool) → In f (cond b (adds key x.command) []) → In f (cond b (named_by x.command) [])
-        go true k = by-command x.command f k
+        go true k = by_command key x.command f k
         go false k = k
 
 -- ---- shares
@@ -120,20 +121,12 @@ from-member ways (m ∷ members) j (inr i) = let f = from-member ways members j 
 -- ---- the report
 
 module _ {P : Type 0} (ways : Ways P) (stands : List Entry → P → Type 0) (lost : P → Bool) (shares : P → ℕ → ℕ) (exits : P → Option (List (ℕ × ℕ))) (told : P → List Told)
-    (kept : AreKept ways stands) (tells : (p : P) → AreTold (ways.lines p) (reverse (ways.journal p))) (opens : LinesAreTold ways told) (commands : TellsCommands ways told)
+    (kept : AreKept ways stands) (tells : (p : P) → AreTold (ways.lines p) (reverse (ways.journal p))) (opens : LinesAreTold ways told)
     (gets : SharesAreReal ways stands lost shares told) (got : ExitsAreReal ways stands lost exits told) (rules : JournalsAreByRules ways stands told) (holds : KeepsShares ways stands told)
-    (steps : List Step) (fit : All Fits steps) (load : Option Load) (r : Report) (made : IsMade ways lost shares exits load r (play ways steps)) where
-  abbrev scene : SceneOf P
-  scene = play ways steps
-
+    (command : ℕ → Option Command) (scene : SceneOf P) (world : IsWorld stands scene.world) (by : (m : MemberOf P) → In m scene.world.members → told m.node ≡ events command (journal_of ways m))
+    (load : Option Load) (r : Report) (made : IsMade ways lost shares exits load r scene) where
   abbrev past : List Entry
   past = newest_first r.history
-
-  abbrev command : ℕ → Option Command
-  command = command_of steps
-
-  world : IsWorld stands scene.world
-  world = (plays_are_kept ways stands kept).worlds steps fit
 
   legal : Legal real past
   legal = subst (Legal real) (sym made.history) world.legal
@@ -144,15 +137,12 @@ module _ {P : Type 0} (ways : Ways P) (stands : List Entry → P → Type 0) (lo
   stood : (m : MemberOf P) → In m scene.world.members → stands past m.node
   stood m i = subst (λ (h : List Entry). stands h m.node) (sym made.history) (world.nodes m i)
 
-  by : (m : MemberOf P) → In m scene.world.members → told m.node ≡ events command (journal_of ways m)
-  by = plays_follow_commands ways (IsToldBy ways told) commands steps fit
-
   followed : (m : MemberOf P) → In m scene.world.members → HasFollowed ways lost (length past) m.node
   followed m i =
       subst (λ (n : ℕ). HasFollowed ways lost n m.node) (sym (length-reverse r.history))
       (in_all (λ (n : MemberOf P). HasFollowed ways lost (length r.history) n.node) m scene.world.members made.followed i)
 
-  -- ---- it tells the play
+  -- ---- it tells the scene
 
   abbrev assets : List ℕ
   assets = assets_of (flows_of r.history)
@@ -173,8 +163,8 @@ module _ {P : Type 0} (ways : Ways P) (stands : List Entry → P → Type 0) (lo
       (got past m.node legal valid (stood m i) (followed m i).able)
       ∙ ap (λ (xs : List Told). exits_after (share_after past (ways.key m.node) xs) (ways.key m.node) assets (until_exit xs)) (by m i)
 
-  tells_play : Tells command ways load r scene
-  tells_play = record {
+  pub tells_scene : Tells command ways load r scene
+  tells_scene = record {
     history = made.history;
     journals = made.journals;
     rounds = made.rounds;
@@ -286,7 +276,7 @@ module _ {P : Type 0} (ways : Ways P) (stands : List Entry → P → Type 0) (lo
       subst (λ (k : Journal). Q k p) (sym f.is) (each f.member f.there p (subst (λ (k : Journal). IsJudged r.history r.journals k p) f.is judged)))
       made.judged
 
-  promises : Promises command r
+  pub promises : Promises command r
   promises = record {
     honest = λ j i. let f = from j i in subst (λ (k : Journal). IsHonest past k.key (events command k)) (sym f.is) (honest-all f.member f.there);
     safe = pairs (IsSafeIf command r) safe-if;
@@ -295,5 +285,27 @@ module _ {P : Type 0} (ways : Ways P) (stands : List Entry → P → Type 0) (lo
     paid = pairs (Premised command r IsPaidOnExit) paid-if;
   }
 
-  pub is_played : IsPlayed ways load r steps
-  is_played = record { tells = tells_play; keeps = promises }
+  -- where its watchers are in time by what it noted and opened, this is told
+  pub all_in_time :
+      ((m : MemberOf P) → In m scene.world.members → AreValid past (lines_of (ways.key m.node) (told m.node)) → NoneCollide (hashed past (lines_of (ways.key m.node) (told m.node)))
+      → InTime real past (lines_of (ways.key m.node) (told m.node)))
+      → Pairwise (IsInTimeIf command r) r.journals r.premises
+  all_in_time timely = pairs (IsInTimeIf command r) one
+    where
+      one : (m : MemberOf P) → In m scene.world.members → (p : Judged) → IsJudged r.history r.journals (journal_of ways m) p → IsInTimeIf command r (journal_of ways m) p
+      one m i p judged =
+          subst (λ (xs : List Told). DistinctWith r.history r.journals (strings_opened (lines_of (ways.key m.node) xs)) → p.in_time ≡ true) (by m i)
+          (λ apart. (judged.in_time (added m i)).1
+          (subst (InTime real past) (sym (lines-are m i)) (timely m i (values m i) (none-opened m i apart))))
+
+-- the report of a play is that of the play, and keeps its promises
+pub is_played : {P : Type 0} (ways : Ways P) (stands : List Entry → P → Type 0) (lost : P → Bool) (shares : P → ℕ → ℕ) (exits : P → Option (List (ℕ × ℕ))) (told : P → List Told)
+    → AreKept ways stands → ((p : P) → AreTold (ways.lines p) (reverse (ways.journal p))) → LinesAreTold ways told → TellsCommands ways told
+    → SharesAreReal ways stands lost shares told → ExitsAreReal ways stands lost exits told → JournalsAreByRules ways stands told → KeepsShares ways stands told
+    → (steps : List Step) → All Fits steps → (load : Option Load) (r : Report) → IsMade ways lost shares exits load r (play ways steps) → IsPlayed ways load r steps
+is_played ways stands lost shares exits told kept tells opens commands gets got rules holds steps fit load r made =
+    let world : IsWorld stands (play ways steps).world = (plays_are_kept ways stands kept).worlds steps fit in
+    let by = plays_follow_commands ways (IsToldBy ways told) commands steps fit in record {
+      tells = tells_scene ways stands lost shares exits told kept tells opens gets got rules holds (command_of steps) (play ways steps) world by load r made;
+      keeps = promises ways stands lost shares exits told kept tells opens gets got rules holds (command_of steps) (play ways steps) world by load r made;
+    }

@@ -2,6 +2,7 @@
 use Rattle.std.specs.Prelude.{◌≡◌, ℕ, Bool, List, map, flat_map, length, Option}
 use Rattle.std.specs.List.{AllByRecursion}
 use Rattle.channel_calls.specs.History.{flows_of, newest_first}
+use Rattle.channel_calls.specs.declared.entry.Entry.{Entry}
 use Rattle.flow_balances.specs.Receipts.{assets_of}
 use Rattle.net_model.specs.Valid.{IsValidEntry, IsValidEvent}
 use Rattle.net_party.specs.Ways.{Ways}
@@ -10,6 +11,7 @@ use Rattle.play_report.specs.Reported.{AreJudged, journal_of}
 use Rattle.play_report.specs.Shares.{HasFollowed, known_shares, known_exits}
 use Rattle.report_text.specs.declared.report.Load.{Load}
 use Rattle.report_text.specs.declared.report.Report.{Report}
+use Rattle.script_names.specs.declared.names.Names.{Names}
 use Rattle.script_play.specs.Play.{SceneOf}
 use Rattle.told_party.specs.Telling.{HaveFixed}
 
@@ -20,6 +22,13 @@ AllFixed ways members = AllByRecursion (λ m. HaveFixed (ways.lines m.node)) mem
 -- no node failed for want of memory, and each followed so many entries
 abbrev pub AllFollowed : {P : Type 0} → Ways P → (lost : P → Bool) → ℕ → List (MemberOf P) → Type 0
 AllFollowed ways lost count members = AllByRecursion (λ m. HasFollowed ways lost count m.node) members
+
+-- what names stand for, the counts of rounds, the entries in the order of time and the nodes are those of the scene
+pub record ArePartsOf {P : Type 0} (names : Names) (rounds : List ℕ) (history : List Entry) (members : List (MemberOf P)) (s : SceneOf P) : Type 0 where
+  pub names_are : names ≡ s.names
+  pub rounds_are : rounds ≡ s.rounds
+  pub history_is : newest_first history ≡ s.world.history
+  pub members_are : members ≡ s.world.members
 
 -- The report is made of what the nodes of the scene tell, and its values are such as their types promise.
 pub record IsMade {P : Type 0} (ways : Ways P) (lost : P → Bool) (can_get : P → ℕ → ℕ) (got : P → Option (List (ℕ × ℕ))) (load : Option Load)

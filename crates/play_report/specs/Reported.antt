@@ -99,6 +99,10 @@ module _ (commands : ℕ → Option Command) where
     abbrev pub IsFairIf : Journal → Judged → Type 0
     IsFairIf j p = p.unforged ≡ true → NoCollision j → SignsFairly (newest_first r.history) j.key (events j)
 
+    -- Where no strings collide that its watchers tell apart, they are told to have been in time.
+    abbrev pub IsInTimeIf : Journal → Judged → Type 0
+    IsInTimeIf j p = NoneOpenedCollide j → p.in_time ≡ true
+
     -- Where moreover its watchers are told to have been in time, the person keeps this.
     abbrev pub Premised : (List Entry → List ℕ → List Told → Type 0) → Journal → Judged → Type 0
     Premised Promise j p = p.unforged ≡ true → p.in_time ≡ true → NoCollision j → Promise (newest_first r.history) j.key (events j)

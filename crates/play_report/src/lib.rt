@@ -7,4 +7,4 @@ mod making;
 mod sharing;
 mod walking;
 
-pub use making::report_play;
+pub use making::{report_of, report_play};

@@ -1,25 +1,27 @@
-//! The report of a play.
+//! The report of what a run or a race came to, and that of a play.
 
 ghost use Rattle.std.specs.Prelude.{◌≡◌, ◌≤◌, All, IfOk, OnOk, length, map, flat_map};
 ghost use Rattle.std.specs.List.{AllByRecursion};
 ghost use Rattle.channel_calls.specs.History.{Legal, flows_of, newest_first};
 ghost use Rattle.flow_balances.specs.Receipts.{assets_of};
 ghost use Rattle.net_model.specs.Valid.{IsValidEvent};
-ghost use Rattle.net_world.specs.Entered.{oldest_first};
 ghost use Rattle.support_chain.specs.Real.{real};
+ghost use Rattle.script_play.specs.Play.{SceneOf};
 ghost use Rattle.script_rules.specs.Bounds.{Fits, persons_of, rounds_of, signers_of};
-ghost use Rattle.play_report.specs.Members.{AllFixed, AllFollowed, IsMade};
+ghost use Rattle.play_report.specs.Members.{AllFixed, AllFollowed, ArePartsOf, IsMade};
 ghost use Rattle.play_report.specs.Reported.{journal_of, IsPlayed};
 ghost use Rattle.play_report.specs.Shares.{known_shares, known_exits};
 
 use crate::judging::judge_all;
 use crate::sharing::{exits_of, have_followed, shares_of};
 use crate::walking::{journals_are_valid, journals_of, openings_are_fixed};
+use channel_calls::Entry;
 use net_model::entries_are_valid;
-use net_world::Docket;
+use net_world::{Docket, Member};
 use nitro_bytes::{Listed, NoMemory};
 use premises::Journal;
 use report_text::{Load, Report, Share, assets_of};
+use script_names::Names;
 use script_play::{Scene, play};
 use script_rules::{STEP_LIMIT, Step};
 use sign_index::Signer;
@@ -35,24 +37,28 @@ struct Tales {
     exits: Vec<Share>,
 }
 
-/// What is told of people whose nodes have followed the whole history of a play.
-fn tales_of<P: ToldParty, D: Docket>(alloc: Global, scene: &Scene<P, D>) -> Result<Tales, NoMemory>
-    ensures journals { IfOk result (λ t. t.journals.items ≡ map (journal_of P.ways) scene.now.world.members) }
+/// What is told of people whose nodes have followed the whole history.
+fn tales_of<P: ToldParty>(
+    alloc: Global,
+    history: &[Entry],
+    members: &[Member<P>],
+) -> Result<Tales, NoMemory>
+    ensures journals { IfOk result (λ t. t.journals.items ≡ map (journal_of P.ways) members.now) }
     ensures valid { IfOk result (λ t. AllByRecursion (λ j. AllByRecursion IsValidEvent j.events) t.journals.items) }
-    ensures fixed { OnOk result (AllFixed P.ways scene.now.world.members) }
+    ensures fixed { OnOk result (AllFixed P.ways members.now) }
     ensures shares { IfOk result (λ t. t.shares.items
-        ≡ flat_map (λ m. known_shares P.ways P.shares (assets_of (flows_of (oldest_first scene.now.world.history))) m.node) scene.now.world.members) }
+        ≡ flat_map (λ m. known_shares P.ways P.shares (assets_of (flows_of history.now)) m.node) members.now) }
     ensures exits { IfOk result (λ t. t.exits.items
-        ≡ flat_map (λ m. known_exits P.ways P.exits (assets_of (flows_of (oldest_first scene.now.world.history))) m.node) scene.now.world.members) }
-    ensures followed { OnOk result (AllFollowed P.ways P.lost (length (oldest_first scene.now.world.history)) scene.now.world.members) }
+        ≡ flat_map (λ m. known_exits P.ways P.exits (assets_of (flows_of history.now)) m.node) members.now) }
+    ensures followed { OnOk result (AllFollowed P.ways P.lost (length history.now) members.now) }
 {
-    let journals = journals_of(alloc, scene.members())?;
-    openings_are_fixed(scene.members());
+    let journals = journals_of(alloc, members)?;
+    openings_are_fixed(members);
     journals_are_valid(&journals);
-    let assets = assets_of(alloc, scene.history())?;
-    have_followed(scene.members(), scene.history().len())?;
-    let shares = shares_of(alloc, &assets, scene.members())?;
-    let exits = exits_of(alloc, &assets, scene.members())?;
+    let assets = assets_of(alloc, history)?;
+    have_followed(members, history.len())?;
+    let shares = shares_of(alloc, &assets, members)?;
+    let exits = exits_of(alloc, &assets, members)?;
     Ok(Tales {
         journals,
         shares,
@@ -60,17 +66,21 @@ fn tales_of<P: ToldParty, D: Docket>(alloc: Global, scene: &Scene<P, D>) -> Resu
     })
 }
 
-/// The report of what a play came to, with a note of the load that its script was made of, if it was.
-fn report_of<P: ToldParty, D: Docket>(
+/// The report of these parts of a scene: what names stand for, how long the history was after each round, the entries in the
+/// order of time, and the nodes; with a note of the load that its script was made of, if it was.
+pub fn report_of<P: ToldParty>(
     alloc: Global,
-    scene: Scene<P, D>,
+    names: Names,
+    rounds: Listed<u32>,
+    history: Vec<Entry>,
+    members: &[Member<P>],
     load: Option<Load>,
 ) -> Result<Report, NoMemory>
-    ensures made { IfOk result (λ report. IsMade P.ways P.lost P.shares P.exits load report scene) }
-    ensures legal { IfOk result (λ report. Legal real (newest_first report.history)) }
+    ensures made { (s : SceneOf P) → ArePartsOf names rounds history.items members.now s
+        → IfOk result (λ report. IsMade P.ways P.lost P.shares P.exits load report s) }
+    ensures history { IfOk result (λ report. report.history ≡ history.items) }
 {
-    let tales = tales_of(alloc, &scene)?;
-    let (names, rounds, history) = scene.into_parts();
+    let tales = tales_of(alloc, &history, members)?;
     entries_are_valid(&history);
     let premises = judge_all(alloc, &history, &tales.journals)?;
     Ok(Report {
@@ -105,5 +115,6 @@ pub fn report_play<P: ToldParty, D: Docket>(
     ensures legal { IfOk result (λ report. Legal real (newest_first report.history)) }
 {
     let scene: Scene<P, D> = play(alloc, steps, signers)?;
-    report_of(alloc, scene, load)
+    let (names, rounds, history, members) = scene.into_parts();
+    report_of(alloc, names, rounds, history, &members, load)
 }

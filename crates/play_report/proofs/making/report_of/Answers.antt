@@ -1,19 +1,29 @@
-use Rattle.std.proofs.Common.{rules}
+use Rattle.std.proofs.Common.{rules, List, ◌∙◌, ap, sym, subst, length, flat_map}
+use Rattle.channel_calls.specs.History.{flows_of, newest_first}
+use Rattle.channel_calls.specs.declared.entry.Entry.{Entry}
+use Rattle.flow_balances.specs.Receipts.{assets_of}
 use Rattle.play_report.proofs.Made.{made_so}
+use Rattle.play_report.specs.Members.{AllFollowed}
+use Rattle.play_report.specs.Shares.{known_shares, known_exits}
 use Rattle.play_report.proofs.making.report_of.Goals as goal
 
 pub returns-clause-made : goal.returns-clause-made
-returns-clause-made g c =
-    made_so g.P.Party.ways g.P.ToldParty.lost g.P.ToldParty.shares g.P.ToldParty.exits c.args.load c.args.scene
+returns-clause-made g c s parts =
+    made_so g.P.Party.ways g.P.Party.lost g.P.ToldParty.shares g.P.ToldParty.exits c.args.load
     (record {
       history = c.make.result;
       journals = c.make-2.result;
-      rounds = c.into_parts-names.result.1;
-      labels = c.into_parts-names.result.0.labels;
+      rounds = c.args.rounds;
+      labels = c.args.names.labels;
       premises = c.make-3.result;
       shares = c.make-4.result;
       exits = c.make-5.result;
       load = c.args.load;
     })
-    (search rules) (search rules) (search rules) (search rules) (search rules) (search rules) (search rules) (search rules) (search rules) (search rules)
-    c.in_ok-tales.ensures.fixed c.in_ok-tales.ensures.followed
+    c.args.names c.args.members.now s
+    (record { names_are = parts.names_are; rounds_are = parts.rounds_are; history_is = ap newest_first c.make.ensures ∙ parts.history_is; members_are = parts.members_are })
+    (search rules) (search rules) (search rules)
+    (c.make-4.ensures ∙ (c.in_ok-tales.ensures.shares ∙ ap (λ (h : List Entry). flat_map (λ m. known_shares g.P.Party.ways g.P.ToldParty.shares (assets_of (flows_of h)) m.node) c.args.members.now) (c.deref.ensures.value ∙ sym c.make.ensures)))
+    (c.make-5.ensures ∙ (c.in_ok-tales.ensures.exits ∙ ap (λ (h : List Entry). flat_map (λ m. known_exits g.P.Party.ways g.P.ToldParty.exits (assets_of (flows_of h)) m.node) c.args.members.now) (c.deref.ensures.value ∙ sym c.make.ensures)))
+    (search rules) (search rules) (search rules)
+    c.in_ok-tales.ensures.fixed (subst (λ (h : List Entry). AllFollowed g.P.Party.ways g.P.Party.lost (length h) c.args.members.now) (c.deref.ensures.value ∙ sym c.make.ensures) c.in_ok-tales.ensures.followed)

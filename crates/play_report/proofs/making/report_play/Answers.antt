@@ -1,4 +1,4 @@
-use Rattle.std.proofs.Common.{subst}
+use Rattle.std.proofs.Common.{rules, subst}
 use Rattle.std.specs.Prelude.{IfOk, Result, Ok, Err}
 use Rattle.report_text.specs.declared.report.Report.{Report}
 use Rattle.play_report.proofs.Promised.{is_played}
@@ -7,13 +7,15 @@ use Rattle.play_report.specs.Reported.{IsPlayed}
 use Rattle.play_report.proofs.making.report_play.Goals as goal
 
 pub returns-clause-played : goal.returns-clause-played
-returns-clause-played g c = go c.report_of.result c.report_of.ensures.made
+returns-clause-played g c =
+    go c.report_of.result
+    (c.report_of.ensures.made c.in_ok-scene.scene (record { names_are = search rules; rounds_are = search rules; history_is = search rules; members_are = search rules }))
   where
-    go : {E : Type 0} (result : Result Report E) → IfOk result (λ r. IsMade g.P.Party.ways g.P.ToldParty.lost g.P.ToldParty.shares g.P.ToldParty.exits c.args.load r c.in_ok-scene.scene)
+    go : {E : Type 0} (result : Result Report E) → IfOk result (λ r. IsMade g.P.Party.ways g.P.Party.lost g.P.ToldParty.shares g.P.ToldParty.exits c.args.load r c.in_ok-scene.scene)
         → IfOk result (λ r. IsPlayed g.P.Party.ways c.args.load r c.args.steps.now)
     go (Ok r) made =
-        is_played g.P.Party.ways g.P.Party.stands g.P.ToldParty.lost g.P.ToldParty.shares g.P.ToldParty.exits g.P.ToldParty.told
+        is_played g.P.Party.ways g.P.Party.stands g.P.Party.lost g.P.ToldParty.shares g.P.ToldParty.exits g.P.ToldParty.told
         g.met.P.ToldParty.keeps g.met.P.ToldParty.tells g.met.P.ToldParty.opens g.met.P.ToldParty.commands g.met.P.ToldParty.gets g.met.P.ToldParty.got g.met.P.ToldParty.plays g.met.P.ToldParty.holds
         c.args.steps.now c.requires.fit c.args.load r
-        (subst (λ s. IsMade g.P.Party.ways g.P.ToldParty.lost g.P.ToldParty.shares g.P.ToldParty.exits c.args.load r s) c.in_ok-scene.ensures made)
+        (subst (λ s. IsMade g.P.Party.ways g.P.Party.lost g.P.ToldParty.shares g.P.ToldParty.exits c.args.load r s) c.in_ok-scene.ensures made)
     go (Err e) made = tt

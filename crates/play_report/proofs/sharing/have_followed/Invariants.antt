@@ -5,4 +5,4 @@ use Rattle.play_report.specs.Shares.{HasFollowed}
 use Rattle.play_report.proofs.sharing.have_followed.Given as goal
 
 abbrev pub invariant-loop-member : goal.invariant-loop-member
-invariant-loop-member g l = AllByRecursion (λ (m : MemberOf _). HasFollowed g.P.Party.ways g.P.ToldParty.lost l.count m.node) (take l.member-index l.members)
+invariant-loop-member g l = AllByRecursion (λ (m : MemberOf _). HasFollowed g.P.Party.ways g.P.Party.lost l.count m.node) (take l.member-index l.members)
