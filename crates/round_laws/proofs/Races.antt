@@ -285,7 +285,7 @@ module _ {P : Type 0} (ways : Ways P) (stands : List Entry → P → Type 0) (lo
 
   -- ---- a round, and its time
 
-  have-followed : (h : List Entry) (m : MemberOf P) → IsMember stands (newest_first h) m → HaveFollowed h m.watchers
+  pub have-followed : (h : List Entry) (m : MemberOf P) → IsMember stands (newest_first h) m → HaveFollowed h m.watchers
   have-followed h m is l i = let f = is.watchers l i in omega (arith, ap length f.is, length-append f.later f.past, f.count, length-reverse h)
 
   runs-round : (s : Stage P) (later : List Entry) (after : CrewOf P) → Round ways s.crew after s.seen later → length later < 2 ^ 32 → IsRacing ways stands lost s
