@@ -1,9 +1,12 @@
+pub mod Allowed
 pub mod Nodes
 pub mod Notes
 pub mod Opening
 pub mod Replies
 pub mod Running
 pub mod Seeing
+pub mod Signing
+pub mod Taking
 pub mod Pasts
 pub mod Later
 pub mod Numbers

@@ -27,7 +27,8 @@ use Rattle.node_model.specs.Minds.{Mind, fresh, noted, noted_message, facts_of, 
 use Rattle.node_model.specs.Nodes.{NodeOf, gave, handled, told_to, wrote, asked, paid_if, exited, signed, signed_if, challenged_all}
 use Rattle.node_model.specs.Playing.{Signing, SignerOf}
 use Rattle.node_model.specs.Refusing.{signs_in, message_refusal, command_refusal}
-use Rattle.node_tables.specs.Stages.{stages, calls_in}
+use Rattle.node_tables.specs.Stages.{calls_in}
+use Rattle.pair_laws.specs.Table.{stages}
 use Rattle.pair_laws.proofs.Pasts.{grown}
 use Rattle.pair_laws.specs.Pair.{mind, node, Becomes, Past}
 use Rattle.pair_laws.specs.TwoPeople.{Pair, fixed, name}

@@ -1,4 +1,5 @@
 -- What the two sign, call and take until the channel runs.
+pub use Rattle.pair_laws.specs.Signed.{Begins}
 use Rattle.std.proofs.Common.{◌≡◌, ℕ, ◌+◌, ◌-◌, ◌<◌, true, false, List, [], ◌∷◌, arith}
 use Rattle.std.specs.Prelude.{nat_lt, nat_le, Option, Some, None, Ok}
 use Rattle.std.specs.Str.{bytes_eq}
@@ -11,20 +12,12 @@ use Rattle.channel_calls.proofs.Names.{bytes_eq_self}
 use Rattle.history_view.specs.Views.{unseen}
 use Rattle.node_model.specs.Minds.{facts_of}
 use Rattle.node_model.specs.Refusing.{signs_in, message_refusal}
-use Rattle.node_tables.specs.Stages.{stages, calls_in}
-use Rattle.outcome_targets.specs.Limits.{is_valid}
+use Rattle.node_tables.specs.Stages.{calls_in}
+use Rattle.pair_laws.specs.Table.{stages}
 use Rattle.pair_laws.proofs.Numbers.{same-number}
-use Rattle.pair_laws.specs.Pair.{mind, mark, marks_a, marks_b, state, split, seeing, funded}
-use Rattle.pair_laws.specs.TwoPeople.{Pair, fixed, name}
+use Rattle.pair_laws.specs.Pair.{mind, mark, marks_a, marks_b, state, seeing, funded}
+use Rattle.pair_laws.specs.TwoPeople.{Pair, name}
 use Rattle.pair_laws.proofs.Notes.{Well, by, whole}
-
--- What is asked of the two and of what they begin with.
-pub record Begins (r : Rules) (p : Pair) : Type 0 where
-  pub valid : is_valid (split p p.a p.b) ≡ true
-  pub apart : bytes_eq (name_of_person p.key_a) (name_of_person p.key_b) ≡ false
-  pub repeats : (turn : ℕ) → turn < 3 → r.step (fixed p) (state p turn false p.a p.b) (state p (turn + 1) false p.a p.b) ≡ None
-  pub some_a : 0 < p.a
-  pub some_b : 0 < p.b
 
 -- ---- signing
 

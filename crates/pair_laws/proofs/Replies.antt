@@ -1,4 +1,5 @@
 -- What the adjudicator answers to the entries of the two.
+pub use Rattle.pair_laws.specs.Entries.{first_entry, second_entry, deposits}
 use Rattle.std.proofs.Common.{◌≡◌, ℕ, ◌+◌, ◌-◌, ◌<◌, true, false, List, [], ◌∷◌, arith}
 use Rattle.std.specs.Prelude.{◌^◌, nat_lt, Ok}
 use Rattle.std.proofs.lemmas.Bool.Decides.{nat_tests}
@@ -10,7 +11,6 @@ use Rattle.channel_calls.proofs.Names.{bytes_eq_self}
 use Rattle.pair_laws.proofs.Numbers.{same-number, not-less, zeroless}
 use Rattle.pair_laws.specs.Pair.{state, split, chain}
 use Rattle.pair_laws.specs.TwoPeople.{Pair, name}
-use Rattle.pair_laws.proofs.Notes.{by}
 use Rattle.std.specs.Prelude.{min}
 use Rattle.nitro_bytes.specs.declared.chain.Chain.{Chain}
 use Rattle.channel_calls.specs.declared.call.Op.TheVariants as ops
@@ -37,23 +37,13 @@ held-one a = omega arith
 held-both : (a b : ℕ) → 0 + b + a - 0 ≡ a + b
 held-both a b = omega arith
 
-abbrev pub first_entry : Rules → Pair → ℕ → Entry
-first_entry r p by = entry 1 by (Deposit (name r p) p.asset 0 p.a) (Held (0 + p.a))
-
 pub replies_first : (r : Rules) (p : Pair) → Begins r p → Small p → reply_to r [] (ops.Call (Deposit (name r p) p.asset 0 p.a)) ≡ Held (0 + p.a)
 unfolding reply_to
 replies_first r p b w = simp (zeroless p.a b.some_a, fits-one p.a p.b w.sum)
 
-abbrev pub second_entry : Rules → Pair → ℕ → Entry
-second_entry r p by = entry 2 by (Deposit (name r p) p.asset p.a p.b) (Held (p.a + p.b))
-
 pub replies_second : (r : Rules) (p : Pair) (caller : ℕ) → Begins r p → Small p → reply_to r (first_entry r p caller ∷ []) (ops.Call (Deposit (name r p) p.asset p.a p.b)) ≡ Held (p.a + p.b)
 unfolding reply_to
 replies_second r p caller b w = simp (bytes_eq_self (name r p), same-number p.asset, held-one p.a, zeroless p.b b.some_b, not-less p.a, fits-both p.a p.b w.sum)
-
--- the two entries of the deposits
-abbrev pub deposits : Rules → Pair → List Entry
-deposits r p = second_entry r p 2 ∷ first_entry r p 1 ∷ []
 
 abbrev pub last_chain : Pair → (turn x y : ℕ) → List Mark → Chain
 last_chain p turn x y marks = chain p (state p turn true x y ∷ state p (turn + 1) true x y ∷ []) marks

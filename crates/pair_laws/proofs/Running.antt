@@ -12,7 +12,8 @@ use Rattle.channel_calls.proofs.Names.{bytes_eq_self}
 use Rattle.net_party.specs.declared.command.Command.TheVariants.{Pay, Close}
 use Rattle.node_model.specs.Minds.{facts_of, commanded}
 use Rattle.node_model.specs.Refusing.{signs_in, message_refusal, command_refusal}
-use Rattle.node_tables.specs.Stages.{stages, calls_in}
+use Rattle.node_tables.specs.Stages.{calls_in}
+use Rattle.pair_laws.specs.Table.{stages}
 use Rattle.pair_laws.proofs.Numbers.{same-number}
 use Rattle.pair_laws.specs.Pair.{mind, marks_a, marks_b, state, funded, chain}
 use Rattle.pair_laws.specs.TwoPeople.{Pair, fixed, name}

@@ -1,4 +1,5 @@
 -- What the two know after entries, and how the channel ends.
+pub use Rattle.pair_laws.specs.Entries.{entry}
 use Rattle.std.proofs.Common.{◌≡◌, ℕ, ◌+◌, ◌-◌, Bool, true, false, List, [], ◌∷◌, refl, ◌∙◌, ap}
 use Rattle.std.specs.Prelude.{◌==◌, Option, Some, None, Ok}
 use Rattle.std.specs.Str.{bytes_eq}
@@ -7,7 +8,6 @@ use Rattle.nitro_bytes.specs.declared.chain.Mark.{Mark}
 use Rattle.nitro_bytes.specs.declared.chain.Signed.{Signed}
 use Rattle.channel_name.specs.Digests.{name_of_person}
 use Rattle.channel_model.specs.Rules.{Rules}
-use Rattle.channel_calls.specs.declared.call.Call.{Call}
 use Rattle.channel_calls.specs.declared.call.Call.TheVariants.{Deposit, Conclude, Transfer}
 use Rattle.channel_calls.specs.declared.event.NodeRefusal.{NodeRefusal}
 use Rattle.channel_calls.specs.declared.view.WorldView.{WorldView}
@@ -15,7 +15,8 @@ use Rattle.channel_calls.proofs.Names.{bytes_eq_self}
 use Rattle.history_view.specs.Views.{unseen}
 use Rattle.node_model.specs.Minds.{facts_of, commanded}
 use Rattle.node_model.specs.Refusing.{signs_in, not_open, message_refusal, command_refusal}
-use Rattle.node_tables.specs.Stages.{stages, calls_in}
+use Rattle.node_tables.specs.Stages.{calls_in}
+use Rattle.pair_laws.specs.Table.{stages}
 use Rattle.pair_laws.proofs.Numbers.{same-number, from-zero}
 use Rattle.pair_laws.specs.Pair.{mind, state, split, seeing, funded, chain}
 use Rattle.pair_laws.specs.TwoPeople.{Pair, fixed, name}
@@ -23,9 +24,6 @@ use Rattle.pair_laws.proofs.Notes.{by}
 use Rattle.std.specs.Prelude.{min, is_some}
 use Rattle.nitro_bytes.specs.declared.chain.Chain.{Chain}
 use Rattle.channel_calls.specs.Marked.{marked_of, is_newer}
-use Rattle.channel_calls.specs.declared.call.Op.TheVariants as ops
-use Rattle.channel_calls.specs.declared.entry.Entry.{Entry}
-use Rattle.channel_calls.specs.declared.refusal.Reply.{Reply}
 use Rattle.channel_calls.specs.declared.refusal.Reply.TheVariants.{Held, Concluded, Paid}
 use Rattle.net_party.specs.declared.command.Command.TheVariants.{Open}
 use Rattle.node_model.specs.Minds.{saw, fresh}
@@ -61,9 +59,6 @@ pub opened_b : (r : Rules) (p : Pair) → bytes_eq p.key_b p.key_a ≡ false
 opened_b r p apart = simp (bytes_eq_self p.key_b, apart)
 
 -- ---- deposits
-
-abbrev pub entry : ℕ → ℕ → Call → Reply → Entry
-entry number by call reply = record { number = number; by = by; op = ops.Call call; reply = reply }
 
 pub sees_first : (r : Rules) (p : Pair) (me by n : ℕ) (key : List ℕ) (closing : Bool) (states : List StateParts) (marks : List Mark) (last : Option StateParts)
     → saw r (entry 1 by (Deposit (name r p) p.asset 0 p.a) (Held n)) (mind r p me key closing unseen states marks last) ≡ mind r p me key closing (seeing r p 1 p.a) states marks last

@@ -31,13 +31,13 @@ the-mailed w post = record { world = w; post = post }
 abbrev acted-if : Bool → Person → List Letter → List Letter → WorldOf Numbered → Mailed Numbered
 acted-if t p post out w = cond t (node_acted ways post (the-mailed w out) p) (the-mailed w out)
 
-enters : (by : ℕ) (calls : List Call) (h : List Entry) (a : NodeOf) (ea : Lookout) (b : NodeOf) (eb : Lookout) → fold (entered_by ways by) (world h a ea b eb) calls ≡ world (enter_all by h calls) a ea b eb
+enters : (by : ℕ) (calls : List Call) (h : List Entry) (a : NodeOf) (ea : List Lookout) (b : NodeOf) (eb : List Lookout) → fold (entered_by ways by) (world h a ea b eb) calls ≡ world (enter_all by h calls) a ea b eb
 enters by [] h a ea b eb = refl
 enters by (call ∷ calls) h a ea b eb = enters by calls (entered h by (ops.Call call)) a ea b eb
 
 -- ---- messages
 
-hands_a : (who : List ℕ) (post : List Letter) (h : List Entry) (a : NodeOf) (ea : Lookout) (b : NodeOf) (eb : Lookout) → a.is_lost ≡ false
+hands_a : (who : List ℕ) (post : List Letter) (h : List Entry) (a : NodeOf) (ea : List Lookout) (b : NodeOf) (eb : List Lookout) → a.is_lost ≡ false
     → fold (handed ways 1 who) (world h a ea b eb) post ≡ world h (hand who post a) ea b eb
 hands_a who [] h a ea b eb kept = refl
 hands_a who (letter ∷ post) h a ea b eb kept = go (bytes_eq letter.0 who) (λ n k. hands_a who post h n ea b eb k)
@@ -51,7 +51,7 @@ hands_a who (letter ∷ post) h a ea b eb kept = go (bytes_eq letter.0 who) (λ 
     go true rest = ap (λ (w : WorldOf Numbered). fold (handed ways 1 who) w post) (lost-not a kept) ∙ rest (handled stages real letter.1 a) kept
     go false rest = rest a kept
 
-hands_b : (who : List ℕ) (post : List Letter) (h : List Entry) (a : NodeOf) (ea : Lookout) (b : NodeOf) (eb : Lookout) → b.is_lost ≡ false
+hands_b : (who : List ℕ) (post : List Letter) (h : List Entry) (a : NodeOf) (ea : List Lookout) (b : NodeOf) (eb : List Lookout) → b.is_lost ≡ false
     → fold (handed ways 2 who) (world h a ea b eb) post ≡ world h a ea (hand who post b) eb
 hands_b who [] h a ea b eb kept = refl
 hands_b who (letter ∷ post) h a ea b eb kept = go (bytes_eq letter.0 who) (λ n k. hands_b who post h a ea n eb k)
@@ -74,12 +74,12 @@ sees_all signer (e ∷ entries) m used journal commands = sees_all signer entrie
 
 -- ---- a node's half
 
-pub record Acts_a (signer : SignerOf) (first : Person) (post out : List Letter) (h : List Entry) (n : NodeOf) (ea : Lookout) (b : NodeOf) (eb : Lookout) (m : Mind) (used : ℕ) (sends : List Letter) (calls : List Call) : Type 0 where
+pub record Acts_a (signer : SignerOf) (first : Person) (post out : List Letter) (h : List Entry) (n : NodeOf) (ea : List Lookout) (b : NodeOf) (eb : List Lookout) (m : Mind) (used : ℕ) (sends : List Letter) (calls : List Call) : Type 0 where
   pub node_then : NodeOf
   pub knows : Becomes signer m used node_then
   pub is : acted ways post (record { world = world h n ea b eb; post = out }) first ≡ record { world = world (enter_all 1 h calls) node_then ea b eb; post = out ++ sends }
 
-ticks_a : (out : List Letter) (h : List Entry) (signer : SignerOf) (m : Mind) (used : ℕ) (journal : Past) (commands : List Command) (ea : Lookout) (b : NodeOf) (eb : Lookout) (sends : List Letter) (calls : List Call)
+ticks_a : (out : List Letter) (h : List Entry) (signer : SignerOf) (m : Mind) (used : ℕ) (journal : Past) (commands : List Command) (ea : List Lookout) (b : NodeOf) (eb : List Lookout) (sends : List Letter) (calls : List Call)
     → tick_gives stages real (signing_of signer) (node signer m used journal commands) ≡ record { sends = sends; calls = calls; spent = None }
     → the-mailed (with_calls ways 1 (happenings.Tick 1) (world h (node signer m used journal commands) ea b eb)) (out ++ (given ways (happenings.Tick 1) (world h (node signer m used journal commands) ea b eb)).sends)
     ≡ the-mailed (world (enter_all 1 h calls) (after_tick stages real (signing_of signer) (node signer m used journal commands)) ea b eb) (out ++ sends)
@@ -87,7 +87,7 @@ ticks_a out h signer m used journal commands ea b eb sends calls gives =
     ap (λ (o : Outs). the-mailed (fold (entered_by ways 1) (world h (after_tick stages real (signing_of signer) (node signer m used journal commands)) ea b eb) o.calls) (out ++ o.sends)) gives
     ∙ ap (λ (w : WorldOf Numbered). the-mailed w (out ++ sends)) (enters 1 calls h (after_tick stages real (signing_of signer) (node signer m used journal commands)) ea b eb)
 
-pub acts_a : (signer : SignerOf) (first : Person) (post out : List Letter) (h : List Entry) (n : NodeOf) (ea : Lookout) (b : NodeOf) (eb : Lookout) (before after : Mind) (used used_after : ℕ) (sends : List Letter) (calls : List Call)
+pub acts_a : (signer : SignerOf) (first : Person) (post out : List Letter) (h : List Entry) (n : NodeOf) (ea : List Lookout) (b : NodeOf) (eb : List Lookout) (before after : Mind) (used used_after : ℕ) (sends : List Letter) (calls : List Call)
     → first.number ≡ 1 → first.hand ≡ None → Becomes signer before used n → Does signer (name_of_person first.key) h post before used after used_after sends calls
     → Acts_a signer first post out h n ea b eb after used_after sends calls
 acts_a signer first post out h n ea b eb before after used used_after sends calls one no-hand knows d =
@@ -107,12 +107,12 @@ acts_a signer first post out h n ea b eb before after used used_after sends call
           ∙ ticks_a out h signer d.taken used t.journal t.commands ea b eb sends calls (d.gives t.journal t.commands);
     }
 
-pub record Acts_b (signer : SignerOf) (second : Person) (post out : List Letter) (h : List Entry) (a : NodeOf) (ea : Lookout) (n : NodeOf) (eb : Lookout) (m : Mind) (used : ℕ) (sends : List Letter) (calls : List Call) : Type 0 where
+pub record Acts_b (signer : SignerOf) (second : Person) (post out : List Letter) (h : List Entry) (a : NodeOf) (ea : List Lookout) (n : NodeOf) (eb : List Lookout) (m : Mind) (used : ℕ) (sends : List Letter) (calls : List Call) : Type 0 where
   pub node_then : NodeOf
   pub knows : Becomes signer m used node_then
   pub is : acted ways post (record { world = world h a ea n eb; post = out }) second ≡ record { world = world (enter_all 2 h calls) a ea node_then eb; post = out ++ sends }
 
-ticks_b : (out : List Letter) (h : List Entry) (signer : SignerOf) (m : Mind) (used : ℕ) (journal : Past) (commands : List Command) (a : NodeOf) (ea : Lookout) (eb : Lookout) (sends : List Letter) (calls : List Call)
+ticks_b : (out : List Letter) (h : List Entry) (signer : SignerOf) (m : Mind) (used : ℕ) (journal : Past) (commands : List Command) (a : NodeOf) (ea : List Lookout) (eb : List Lookout) (sends : List Letter) (calls : List Call)
     → tick_gives stages real (signing_of signer) (node signer m used journal commands) ≡ record { sends = sends; calls = calls; spent = None }
     → the-mailed (with_calls ways 2 (happenings.Tick 2) (world h a ea (node signer m used journal commands) eb)) (out ++ (given ways (happenings.Tick 2) (world h a ea (node signer m used journal commands) eb)).sends)
     ≡ the-mailed (world (enter_all 2 h calls) a ea (after_tick stages real (signing_of signer) (node signer m used journal commands)) eb) (out ++ sends)
@@ -120,7 +120,7 @@ ticks_b out h signer m used journal commands a ea eb sends calls gives =
     ap (λ (o : Outs). the-mailed (fold (entered_by ways 2) (world h a ea (after_tick stages real (signing_of signer) (node signer m used journal commands)) eb) o.calls) (out ++ o.sends)) gives
     ∙ ap (λ (w : WorldOf Numbered). the-mailed w (out ++ sends)) (enters 2 calls h a ea (after_tick stages real (signing_of signer) (node signer m used journal commands)) eb)
 
-pub acts_b : (signer : SignerOf) (second : Person) (post out : List Letter) (h : List Entry) (a : NodeOf) (ea : Lookout) (n : NodeOf) (eb : Lookout) (before after : Mind) (used used_after : ℕ) (sends : List Letter) (calls : List Call)
+pub acts_b : (signer : SignerOf) (second : Person) (post out : List Letter) (h : List Entry) (a : NodeOf) (ea : List Lookout) (n : NodeOf) (eb : List Lookout) (before after : Mind) (used used_after : ℕ) (sends : List Letter) (calls : List Call)
     → second.number ≡ 2 → second.hand ≡ None → Becomes signer before used n → Does signer (name_of_person second.key) h post before used after used_after sends calls
     → Acts_b signer second post out h a ea n eb after used_after sends calls
 acts_b signer second post out h a ea n eb before after used used_after sends calls one no-hand knows d =

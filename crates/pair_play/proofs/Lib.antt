@@ -8,11 +8,13 @@ pub mod Looking
 pub mod Opens
 pub mod Paying
 pub mod Payments
+pub mod Phased
 pub mod Phases
 pub mod Rounds
 pub mod Scenes
 pub mod Starting
 pub mod Steps
 pub mod Supporting
+pub mod Timely
 pub mod Whole
 pub mod Worths

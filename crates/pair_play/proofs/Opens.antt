@@ -1,6 +1,7 @@
 -- The eight rounds in which a channel opens.
 pub use Rattle.pair_play.specs.Finish.{both}
-use Rattle.std.proofs.Common.{◌≡◌, ℕ, suc, ◌+◌, Bool, true, false, List, [], ◌∷◌, refl, ap}
+pub use Rattle.pair_play.specs.Standing.{a_runs, b_runs}
+use Rattle.std.proofs.Common.{◌≡◌, ℕ, suc, ◌+◌, true, false, List, [], ◌∷◌, refl, ap}
 use Rattle.std.specs.Prelude.{nat_lt, Option, Some, None}
 use Rattle.nitro_bytes.specs.Parts.{StateParts}
 use Rattle.nitro_bytes.specs.declared.chain.Mark.{Mark}
@@ -26,13 +27,6 @@ use Rattle.pair_play.proofs.Calming.{soothed, deposits_soothe}
 use Rattle.pair_play.proofs.Phases.{Fits, does, none_came, sig_2, sig_3, round_1_a, round_1_b, round_2_a, round_2_b, round_3_a, round_3_b, round_4_a, round_4_b, round_5_a, round_5_b, round_6_a, round_6_b}
 use Rattle.pair_play.proofs.Scenes.{AreTwo, At, scene_round}
 use Rattle.pair_play.specs.Rounds.{Does, StaysCalm}
-
--- the two run the channel, of which they hold these two states
-abbrev pub a_runs : Pair → Bool → (older latest : StateParts) → List Mark → Option StateParts → Mind
-a_runs p closing older latest marks last = mind real p 0 p.key_a closing (funded real p) (older ∷ latest ∷ []) marks last
-
-abbrev pub b_runs : Pair → Bool → (older latest : StateParts) → List Mark → Option StateParts → Mind
-b_runs p closing older latest marks last = mind real p 1 p.key_b closing (funded real p) (older ∷ latest ∷ []) marks last
 
 -- nothing came, and nothing is done
 pub idle_a : (p : Pair) (sa : SignerOf) (used before turn u v x y : ℕ) (m1 m2 : Mark) (last : Option StateParts) → Runs p turn x y

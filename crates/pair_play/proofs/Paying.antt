@@ -1,10 +1,9 @@
 -- Payments in turn, each followed by its round.
 pub use Rattle.pair_play.specs.Finish.{all_covered, first_has, second_has, signs_first, signs_second, paying}
-use Rattle.std.proofs.Common.{◌≡◌, ℕ, suc, ◌+◌, ◌-◌, ◌%◌, ◌<◌, ◌≤◌, Bool, true, false, cond, not, List, [], ◌∷◌, length, refl, subst, arith}
-use Rattle.std.specs.Prelude.{◌^◌, nat_lt, nat_le, Option, Some, None}
+pub use Rattle.pair_play.specs.Standing.{Standing, marks_by, parity}
+use Rattle.std.proofs.Common.{◌≡◌, ℕ, suc, ◌+◌, ◌-◌, ◌%◌, ◌<◌, ◌≤◌, Bool, true, false, not, List, [], ◌∷◌, length, refl, subst, arith}
+use Rattle.std.specs.Prelude.{◌^◌, nat_lt, nat_le, Some, None}
 use Rattle.std.proofs.lemmas.Bool.Decides.{nat_tests}
-use Rattle.nitro_bytes.specs.Parts.{StateParts}
-use Rattle.nitro_bytes.specs.declared.chain.Mark.{Mark}
 use Rattle.net_party.specs.declared.command.Command.TheVariants.{Pay}
 use Rattle.node_model.specs.Playing.{SignerOf, signing_of}
 use Rattle.node_ways.specs.Ways.{Numbered, ways}
@@ -12,14 +11,12 @@ use Rattle.script_play.specs.Play.{SceneOf, play_round, told}
 use Rattle.script_names.specs.declared.names.Names.{Names}
 use Rattle.support_chain.specs.Real.{real}
 use Rattle.pair_laws.proofs.Numbers.{is-below, one-less, later, odd-then, even-then, no-more, sum-a, sum-b}
-use Rattle.pair_laws.specs.Pair.{marks_a, marks_b, state}
+use Rattle.pair_laws.specs.Pair.{state}
 use Rattle.pair_laws.specs.TwoPeople.{Pair, fixed, name}
-use Rattle.pair_laws.proofs.Replies.{deposits}
 use Rattle.pair_laws.proofs.Running.{PaysA, PaysB}
-use Rattle.pair_play.proofs.Opens.{both, a_runs, b_runs}
 use Rattle.pair_play.proofs.Payments.{by_a, by_b, paid_by_a, paid_by_b}
 use Rattle.pair_play.proofs.Phases.{Fits, signature}
-use Rattle.pair_play.proofs.Scenes.{AreTwo, At}
+use Rattle.pair_play.proofs.Scenes.{AreTwo}
 
 -- whose turn it is then
 abbrev pub turns : Bool → List ℕ → Bool
@@ -30,28 +27,6 @@ turns turn (amount ∷ rest) = turns (not turn) rest
 pub record CanPay (p : Pair) : Type 0 where
   pub by_first : (turn x y amount : ℕ) → nat_le 3 turn ≡ true → amount ≤ x → (turn + 1) % 2 ≡ 0 → real.step (fixed p) (state p turn false x y) (state p (turn + 1) false (x - amount) (y + amount)) ≡ None
   pub by_second : (turn x y amount : ℕ) → nat_le 3 turn ≡ true → amount ≤ y → (turn + 1) % 2 ≡ 1 → real.step (fixed p) (state p turn false x y) (state p (turn + 1) false (x + amount) (y - amount)) ≡ None
-
-abbrev pub marks_by : Bool → (ga gb : List ℕ) → List Mark
-marks_by next_a ga gb = cond next_a (marks_b ga gb) (marks_a ga gb)
-
-abbrev pub parity : Bool → ℕ
-parity next_a = cond next_a 0 1
-
--- The channel runs: both hold the same two states, of which the latest has this turn and these amounts.
-pub record Standing (p : Pair) (sa sb : SignerOf) (names : Names) (next_a : Bool) (turn x y ua ub : ℕ) (s : SceneOf Numbered) : Type 0 where
-  pub before : ℕ
-  pub u : ℕ
-  pub v : ℕ
-  pub ga : List ℕ
-  pub gb : List ℕ
-  pub last_a : Option StateParts
-  pub last_b : Option StateParts
-  pub late : nat_le 3 turn ≡ true
-  pub whose : (turn + 1) % 2 ≡ parity next_a
-  pub sum : x + y ≡ p.a + p.b
-  pub at :
-      At names (deposits real p) (both p sa sb ua ub (a_runs p false (state p before false u v) (state p turn false x y) (marks_by next_a ga gb) last_a)
-      (b_runs p false (state p before false u v) (state p turn false x y) (marks_by next_a ga gb) last_b)) [] s
 
 is-covered : (a b : ℕ) → a ≤ b → nat_le a b ≡ true
 is-covered a b h = grind (arith, nat_tests)

@@ -1,4 +1,4 @@
--- Rounds and commands of a script in which the two are all people.
+-- Rounds and commands of a script in which the two alone have nodes.
 pub use Rattle.pair_play.specs.Finish.{AreTwo, At}
 use Rattle.std.proofs.Common.{◌≡◌, ℕ, ◌+◌, Bool, false, List, [], ◌∷◌, ◌++◌, drop, sym, ◌∙◌, ap, subst}
 use Rattle.std.specs.Prelude.{fold, None, Result, Ok}
@@ -42,12 +42,12 @@ scene_round p names {h} h1 h2 {q} {post} {s} {mind_a} {mind_b} {used_a} {used_b}
     let db : Does q.signer_b (name_of_person p.key_b) (enter_all 1 h calls_a) post q.mind_b q.used_b mind_b used_b sends_b calls_b =
     subst (λ (k : List Entry). Does q.signer_b (name_of_person p.key_b) k post q.mind_b q.used_b mind_b used_b sends_b calls_b) (sym first_is) does_b in
     let whole : enter_all 2 (enter_all 1 h calls_a) calls_b ≡ h2 = ap (λ (k : List Entry). enter_all 2 k calls_b) first_is ∙ second_is in
-    let made = rounds_are_made are.first are.second p.key_a p.key_b h post q s.world are.one are.two are.node_a are.node_b are.key_a are.key_b at.is mind_a mind_b used_a used_b sends_a sends_b calls_a calls_b does_a db
+    let made = rounds_are_made are.first are.second are.others p.key_a p.key_b h post q s.world are.one are.two are.node_a are.node_b are.key_a are.key_b are.bare at.is mind_a mind_b used_a used_b sends_a sends_b calls_a calls_b does_a db
     (subst (StaysCalm h) (sym whole) stays) in
     let rounds : round ways s.names.people (the-mailed s.world s.post) ≡ the-mailed made.0 (sends_a ++ sends_b) =
     ap (λ (n : Names). round ways n.people (the-mailed s.world s.post)) at.named
     ∙ ap (λ (people : List Person). round ways people (the-mailed s.world s.post)) are.are
-    ∙ ap (λ (letters : List Letter). round ways (are.first ∷ are.second ∷ []) (the-mailed s.world letters)) at.mail
+    ∙ ap (λ (letters : List Letter). round ways (are.first ∷ are.second ∷ are.others) (the-mailed s.world letters)) at.mail
     ∙ made.1 in
     record {
       named = at.named;
@@ -67,11 +67,11 @@ pub record Obeys (signer : SignerOf) (h : List Entry) (command : Command) (m : M
   pub answers : (journal : Past) (commands : List Command) → command_answers stages real (signing_of signer) 0 command (node signer seen used journal commands) ≡ Ok (record { sends = sends; calls = []; spent = None })
 
 -- what is noted of an exit, after an exit alone
-abbrev noted_a : List Entry → Bool → NodeOf → Lookout → NodeOf → Lookout → WorldOf Numbered
-noted_a h t n eye_a b eye_b = record { history = h; members = record { node = noting_if t (record { number = 1; node = n; exits = None }); watchers = eye_a ∷ [] } ∷ member 2 b eye_b ∷ []; is_lost = false }
+abbrev noted_a : List Entry → Bool → NodeOf → List Lookout → NodeOf → List Lookout → WorldOf Numbered
+noted_a h t n eye_a b eye_b = record { history = h; members = record { node = noting_if t (record { number = 1; node = n; exits = None }); watchers = eye_a } ∷ member 2 b eye_b ∷ []; is_lost = false }
 
-abbrev noted_b : List Entry → Bool → NodeOf → Lookout → NodeOf → Lookout → WorldOf Numbered
-noted_b h t a eye_a n eye_b = record { history = h; members = member 1 a eye_a ∷ record { node = noting_if t (record { number = 2; node = n; exits = None }); watchers = eye_b ∷ [] } ∷ []; is_lost = false }
+abbrev noted_b : List Entry → Bool → NodeOf → List Lookout → NodeOf → List Lookout → WorldOf Numbered
+noted_b h t a eye_a n eye_b = record { history = h; members = member 1 a eye_a ∷ record { node = noting_if t (record { number = 2; node = n; exits = None }); watchers = eye_b } ∷ []; is_lost = false }
 
 pub scene_told_a : (names : Names) (h : List Entry) (q : Pairing) (post sends : List Letter) (s : SceneOf Numbered) (step : ℕ) (command : Command) (after : Mind) (used_after : ℕ)
     → At names h q post s → Obeys q.signer_a h command q.mind_a q.used_a after used_after sends

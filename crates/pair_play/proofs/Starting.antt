@@ -42,6 +42,15 @@ obeys_open_b p sa sb used w =
       answers = λ j c. ap (command_gives stages real (signing_of sb) 0 (Open (fixed p) (split p p.a p.b)) (node sb (fresh p.key_b) used j c)) (opens_b real p (signing_of sb).limit used w.begins);
     }
 
+-- both were told to open
+pub both_told : (p : Pair) (sa sb : SignerOf) (names : Names) (ua ub opening : ℕ) (s : SceneOf Numbered) → Fits p sa sb
+    → At names [] (both p sa sb ua ub (fresh p.key_a) (fresh p.key_b)) [] s
+    → At names [] (both p sa sb ua ub (mind real p 0 p.key_a false unseen [] [] None) (mind real p 1 p.key_b false unseen [] [] None)) [] (told_both p opening s)
+both_told p sa sb names ua ub opening s w start =
+    let t1 = scene_told_a names [] (both p sa sb ua ub (fresh p.key_a) (fresh p.key_b)) [] [] s opening (Open (fixed p) (split p p.a p.b)) (mind real p 0 p.key_a false unseen [] [] None) ua start (obeys_open_a p sa sb ua w) in
+    scene_told_b names [] (both p sa sb ua ub (mind real p 0 p.key_a false unseen [] [] None) (fresh p.key_b)) [] [] (told ways opening (Open (fixed p) (split p p.a p.b)) s 1) opening (Open (fixed p) (split p p.a p.b))
+    (mind real p 1 p.key_b false unseen [] [] None) ub t1 (obeys_open_b p sa sb ub w)
+
 -- From two nodes that know nothing: they are told to open, eight rounds follow, then payments that are covered, each followed
 -- by a round, and they are told to close; after six more rounds both are paid exactly.
 pub honest_two_finish : (p : Pair) (sa sb : SignerOf) (names : Names) (opening step last : ℕ) (amounts : List ℕ) (s : SceneOf Numbered) → Fits p sa sb → AreTwo p names.people
@@ -49,7 +58,4 @@ pub honest_two_finish : (p : Pair) (sa sb : SignerOf) (names : Names) (opening s
     → At names [] (both p sa sb 0 0 (fresh p.key_a) (fresh p.key_b)) [] s
     → Finishes p sa sb names (first_has true p.a p.b amounts) (second_has true p.a p.b amounts) (play_rounds ways 6 (asked_both p last (paying p true step amounts (play_rounds ways 8 (told_both p opening s)))))
 honest_two_finish p sa sb names opening step last amounts s w two room covered some_x some_y start =
-    let t1 = scene_told_a names [] (both p sa sb 0 0 (fresh p.key_a) (fresh p.key_b)) [] [] s opening (Open (fixed p) (split p p.a p.b)) (mind real p 0 p.key_a false unseen [] [] None) 0 start (obeys_open_a p sa sb 0 w) in
-    let t2 = scene_told_b names [] (both p sa sb 0 0 (mind real p 0 p.key_a false unseen [] [] None) (fresh p.key_b)) [] [] (told ways opening (Open (fixed p) (split p p.a p.b)) s 1) opening (Open (fixed p) (split p p.a p.b))
-    (mind real p 1 p.key_b false unseen [] [] None) 0 t1 (obeys_open_b p sa sb 0 w) in
-    two_finish p sa sb names 0 0 step last amounts (told_both p opening s) w two room covered some_x some_y t2
+    two_finish p sa sb names 0 0 step last amounts (told_both p opening s) w two room covered some_x some_y (both_told p sa sb names 0 0 opening s w start)

@@ -14,7 +14,7 @@ use Rattle.net_party.specs.declared.command.Command.TheVariants.{Open, Pay, Clos
 use Rattle.node_model.specs.Minds.{Mind, fresh}
 use Rattle.node_model.specs.Places.{AreFew}
 use Rattle.node_model.specs.Playing.{SignerOf, signing_of}
-use Rattle.node_ways.specs.Ways.{Numbered, ways}
+use Rattle.node_ways.specs.Ways.{Numbered}
 use Rattle.script_play.specs.Play.{SceneOf, play_round, play_rounds, told}
 use Rattle.world_rounds.specs.Rounds.{Letter}
 use Rattle.script_names.specs.declared.names.Names.{Names}
@@ -22,7 +22,7 @@ use Rattle.script_people.specs.declared.people.Person.{Person}
 use Rattle.support_chain.specs.Real.{real}
 use Rattle.pair_laws.specs.Pair.{split}
 use Rattle.pair_laws.specs.TwoPeople.{Pair, fixed, name}
-use Rattle.pair_play.specs.Rounds.{Pairing, Is}
+use Rattle.pair_play.specs.Rounds.{Pairing, Is, AreBare, ways}
 use Rattle.pair_play.specs.Whole.{IsWhole}
 
 -- the signature of a state with an index, and the bytes of the state with it
@@ -45,17 +45,19 @@ pub record AreMade (p : Pair) (sa sb : SignerOf) : Type 0 where
   pub short_a : (used : ℕ) (message : List ℕ) → IsSignature ((signing_of sa).made used message)
   pub short_b : (used : ℕ) (message : List ℕ) → IsSignature ((signing_of sb).made used message)
 
--- the two are all people, and both have nodes
+-- The two are declared first and have nodes; the others have none.
 pub record AreTwo (p : Pair) (people : List Person) : Type 0 where
   pub first : Person
   pub second : Person
-  pub are : people ≡ first ∷ second ∷ []
+  pub others : List Person
+  pub are : people ≡ first ∷ second ∷ others
   pub one : first.number ≡ 1
   pub two : second.number ≡ 2
   pub node_a : first.hand ≡ None
   pub node_b : second.hand ≡ None
   pub key_a : first.key ≡ p.key_a
   pub key_b : second.key ≡ p.key_b
+  pub bare : AreBare others
 
 -- what a script has come to
 pub record At (names : Names) (h : List Entry) (q : Pairing) (post : List Letter) (s : SceneOf Numbered) : Type 0 where
