@@ -1,0 +1,39 @@
+//! How a replay ends.
+
+ghost use Rattle.std.specs.Prelude.{◌≡◌};
+ghost use Rattle.tower_cli.specs.Replaying.{code_of};
+
+use history_check::Verdict;
+use nitro_bytes::ByteFault;
+
+/// How a replay ended, numbered as the ends of runs are.
+#[derive(Clone, Copy, Debug, PartialEq, Eq)]
+pub enum Status {
+    Done,
+    NoMemory,
+    Usage,
+    /// The bytes are no record.
+    Unspelled(ByteFault),
+    /// The record isn't sound.
+    Unsound(Verdict),
+    ReadFault,
+    WriteFault,
+    TooLong,
+}
+
+impl Status {
+    /// The status number that the program ends with.
+    pub fn code(self) -> u8
+        ensures { result ≡ code_of self }
+    {
+        match self {
+            Status::Done => 0,
+            Status::NoMemory => 1,
+            Status::Usage => 2,
+            Status::Unspelled(_) | Status::Unsound(_) => 3,
+            Status::ReadFault => 4,
+            Status::WriteFault => 5,
+            Status::TooLong => 6,
+        }
+    }
+}
