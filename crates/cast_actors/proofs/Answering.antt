@@ -10,7 +10,7 @@ use Rattle.channel_calls.specs.declared.entry.Entry.{Entry}
 use Rattle.round_model.specs.Acts.{IsWithinLimits}
 use Rattle.round_model.specs.declared.actor.Act.{Act}
 use Rattle.round_model.specs.declared.actor.Act.TheVariants as acts
-use Rattle.script_laws.proofs.Signatures.{short_signature}
+use Rattle.sign_index.proofs.Lengths.{short_signature}
 use Rattle.sign_index.specs.Signing.{Signing}
 use Rattle.cast_actors.specs.Equivocates.{message_of, entering_if, responds, next_state, answer_to, answer_if, is_answerable, key_of, equivocated}
 

@@ -40,6 +40,7 @@ two seed =
     record {
       first = person_of 65 1 seed;
       second = person_of 66 2 seed;
+      others = [];
       are = refl;
       one = refl;
       two = refl;
@@ -47,6 +48,7 @@ two seed =
       node_b = refl;
       key_a = refl;
       key_b = refl;
+      bare = tt;
     }
 
 start : (seed : ℕ) → At (names_of seed) [] (both (pair_of seed) (signer_of 65 seed) (signer_of 66 seed) 0 0 (fresh (pair_of seed).key_a) (fresh (pair_of seed).key_b)) [] (joined_both seed)
@@ -56,14 +58,14 @@ start seed =
       is = record {
         a = node (signer_of 65 seed) (fresh (pair_of seed).key_a) 0 none-past [];
         b = node (signer_of 66 seed) (fresh (pair_of seed).key_b) 0 none-past [];
-        eye_a = unlooking;
-        eye_b = unlooking;
-        is = ap (λ (key : List ℕ). world [] (node (signer_of 65 seed) (fresh key) 0 none-past []) unlooking (new_node (signer_of 66 seed)) unlooking) (key_is 65 seed)
-            ∙ ap (λ (key : List ℕ). world [] (node (signer_of 65 seed) (fresh (pair_of seed).key_a) 0 none-past []) unlooking (node (signer_of 66 seed) (fresh key) 0 none-past []) unlooking) (key_is 66 seed);
+        eye_a = unlooking ∷ [];
+        eye_b = unlooking ∷ [];
+        is = ap (λ (key : List ℕ). world [] (node (signer_of 65 seed) (fresh key) 0 none-past []) (unlooking ∷ []) (new_node (signer_of 66 seed)) (unlooking ∷ [])) (key_is 65 seed)
+            ∙ ap (λ (key : List ℕ). world [] (node (signer_of 65 seed) (fresh (pair_of seed).key_a) 0 none-past []) (unlooking ∷ []) (node (signer_of 66 seed) (fresh key) 0 none-past []) (unlooking ∷ [])) (key_is 66 seed);
         knows_a = begins-so 65 seed (pair_of seed).key_a;
         knows_b = begins-so 66 seed (pair_of seed).key_b;
-        calm_a = record { within = omega arith; calm = λ held. refl };
-        calm_b = record { within = omega arith; calm = λ held. refl };
+        calm_a = (record { within = omega arith; calm = λ held. refl }, tt);
+        calm_b = (record { within = omega arith; calm = λ held. refl }, tt);
       };
       mail = refl;
     }
@@ -80,12 +82,12 @@ finishes seed count apart few =
 nothing-new : (h : List Entry) (n : ℕ) → n ≡ length h → drop n (oldest_first h) ≡ []
 nothing-new h n all = nil_from_length (drop n (oldest_first h)) (omega (arith, length-drop n (oldest_first h), length-reverse h, all))
 
-sees-a : (h : List Entry) (signer : SignerOf) (m : Mind) (used : ℕ) (journal : Past) (commands : List Command) (ea : Lookout) (b : NodeOf) (eb : Lookout) → m.view.count ≡ length h
+sees-a : (h : List Entry) (signer : SignerOf) (m : Mind) (used : ℕ) (journal : Past) (commands : List Command) (ea : List Lookout) (b : NodeOf) (eb : List Lookout) → m.view.count ≡ length h
     → happened ways (happenings.See 1) (world h (node signer m used journal commands) ea b eb) ≡ world h (node signer m used journal commands) ea b eb
 sees-a h signer m used journal commands ea b eb all =
     ap (λ (es : List Entry). world h (saw_all real es (node signer m used journal commands)) ea b eb) (nothing-new h m.view.count all)
 
-sees-b : (h : List Entry) (signer : SignerOf) (m : Mind) (used : ℕ) (journal : Past) (commands : List Command) (a : NodeOf) (ea : Lookout) (eb : Lookout) → m.view.count ≡ length h
+sees-b : (h : List Entry) (signer : SignerOf) (m : Mind) (used : ℕ) (journal : Past) (commands : List Command) (a : NodeOf) (ea : List Lookout) (eb : List Lookout) → m.view.count ≡ length h
     → happened ways (happenings.See 2) (world h a ea (node signer m used journal commands) eb) ≡ world h a ea (node signer m used journal commands) eb
 sees-b h signer m used journal commands a ea eb all =
     ap (λ (es : List Entry). world h a ea (saw_all real es (node signer m used journal commands)) eb) (nothing-new h m.view.count all)

@@ -62,7 +62,7 @@ abbrev pub joined_both : ℕ → SceneOf Numbered
 joined_both seed =
     record {
       names = names_of seed;
-      world = world [] (new_node (signer_of 65 seed)) unlooking (new_node (signer_of 66 seed)) unlooking;
+      world = world [] (new_node (signer_of 65 seed)) (unlooking ∷ []) (new_node (signer_of 66 seed)) (unlooking ∷ []);
       post = [];
       rounds = [];
     }

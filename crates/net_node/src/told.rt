@@ -60,7 +60,7 @@ impl ToldParty for Node {
 
     ghost exits = { exits };
 
-    ghost told = { told };
+    ghost reported = { told };
 
     fn share(&self, asset: u32) -> Result<u128, NoMemory> {
         share_known(self.alloc(), self.mind(), asset)
@@ -77,7 +77,7 @@ impl ToldParty for Node {
 
     ghost keeps = { nodes_are_kept };
 
-    ghost tells = { lines_are_told };
+    ghost reports = { lines_are_told };
 
     ghost opens = { lines_open };
 

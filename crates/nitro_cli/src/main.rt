@@ -1,13 +1,21 @@
-//! The program: `nitro_cli run` reads a script from standard input, plays it and prints the history; `nitro_cli load` plays
-//! one that it makes from a seed.
+//! The program: `nitro_cli run` reads a script from standard input, plays it and prints the history; `nitro_cli race` plays it
+//! by rounds in threads, beside actors of whom nobody expects anything good; `nitro_cli load` plays one that it makes from a
+//! seed.
 #![tactic(auto)]
 
-use byte_sink::StdSink;
-use byte_source::StdSource;
+ghost use Rattle.std.specs.Prelude.{◌≡◌, []};
+
+use byte_sink::{Sink, StdSink};
+use byte_source::{Source, StdSource};
+use cast_actors::{Equivocator, Idle, Replayer};
+use net_actors::{Actor, Cast, Notes};
 use nitro_bytes::{Label, NoMemory};
 use script_run::run_words;
+use std::alloc::Global;
 use std::process::ExitCode;
 use std::rt::Env;
+use std::sync::Wait;
+use std::thread::Threads;
 use std::{env, io};
 
 /// The words after the program's name. Words that aren't text count as none.
@@ -24,6 +32,39 @@ fn words<R: Env + AllocGlobal>(rt: &R) -> Result<Vec<Label>, NoMemory> {
     Ok(words)
 }
 
+/// Somebody of a cast, who has seen nothing.
+fn unseeing(alloc: Global, number: u32, actor: Box<dyn Actor + Send>) -> Cast
+    ensures { result.notes.entries.items ≡ [] }
+{
+    let entries = Vec::new(alloc);
+    Cast {
+        number,
+        actor,
+        notes: Notes { entries },
+        done: false,
+    }
+}
+
+/// Plays what the words ask for, and gives the status number. In a race three act beside the nodes: one plays old challenges
+/// again, one answers a challenge in two ways, and one rests.
+fn played<R: Threads + Wait + Sync, S: Source, K: Sink>(
+    rt: &R,
+    alloc: Global,
+    words: &[Label],
+    source: &mut S,
+    sink: &mut K,
+) -> Result<u8, NoMemory> {
+    let replayer = Box::new(alloc, Replayer)?;
+    let equivocator = Box::new(alloc, Equivocator::make(alloc)?)?;
+    let idle = Box::new(alloc, Idle::make())?;
+    let mut cast = Vec::new(alloc);
+    cast.push(unseeing(alloc, 101, replayer))?;
+    cast.push(unseeing(alloc, 102, equivocator))?;
+    cast.push(unseeing(alloc, 103, idle))?;
+    let ended = run_words(rt, alloc, words, source, sink, cast);
+    Ok(ended.status.code())
+}
+
 fn main(rt: HostRuntime) -> ExitCode {
     let Ok(words) = words(&rt) else {
         return ExitCode::from(1);
@@ -36,6 +77,8 @@ fn main(rt: HostRuntime) -> ExitCode {
         writer: rt.stdout(),
         faults: 0,
     };
-    let ended = run_words(rt.alloc(), &words, &mut source, &mut sink);
-    ExitCode::from(ended.status.code())
+    match played(&rt, rt.alloc(), &words, &mut source, &mut sink) {
+        Ok(code) => ExitCode::from(code),
+        Err(NoMemory) => ExitCode::from(1),
+    }
 }

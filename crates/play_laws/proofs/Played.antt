@@ -20,7 +20,7 @@ use Rattle.world_laws.specs.Commanded.{FollowCommands, AllFollow}
 use Rattle.world_laws.specs.Standing.{AreKept, Follows, IsWorld}
 use Rattle.world_laws.proofs.Commanded.{go_on}
 use Rattle.world_laws.proofs.Standing.{stays, honest}
-use Rattle.play_laws.proofs.Walked.{play_keeps}
+use Rattle.play_laws.proofs.Walked.{IsKept, play_keeps}
 use Rattle.play_laws.specs.Plays.{PlaysAreKept, PlaysFollowCommands}
 
 -- an element of a list with one more, or of one that repeats
@@ -76,18 +76,22 @@ module _ {P : Type 0} (ways : Ways P) (stands : List Entry → P → Type 0) (ke
           play_keeps ways World steps
           (record { new = record { legal = tt; nodes = λ m i. absurd i; watchers = λ m i. absurd i }; happens = λ w event of. stays ways stands kept w event; joins = joined_kept }) fit
 
--- and each node follows the commands of the steps
+-- whatever happens, each node follows the commands
+pub commands_kept : {P : Type 0} (ways : Ways P) (commands : ℕ → Option Command) (follows : P → Type 0) → FollowCommands ways commands follows
+    → IsKept ways commands (AllFollow follows)
+commands_kept {P} ways commands follows kept = record {
+  new = λ m i. absurd i;
+  happens = go_on ways commands follows kept;
+  joins = λ number signer watchers w fresh all m i. of number signer watchers m w.members (all m) (in_more w.members _ m i);
+}
+  where
+    of : (number : ℕ) (signer : Signing) (watchers : ℕ) (m : MemberOf P) (members : List (MemberOf P)) → (In m members → follows m.node)
+        → (m ≡ record { node = ways.fresh number signer; watchers = replicate watchers unlooking }) ⊎ In m members → follows m.node
+    of number signer watchers m members all (inl same) = subst (λ (y : MemberOf P). follows y.node) (sym same) (kept.fresh number signer)
+    of number signer watchers m members all (inr i) = all i
+
+-- and so in a play
 pub plays_follow_commands : {P : Type 0} (ways : Ways P) (follows : (ℕ → Option Command) → P → Type 0)
     → ((commands : ℕ → Option Command) → FollowCommands ways commands (follows commands)) → PlaysFollowCommands ways follows
-plays_follow_commands {P} ways follows kept steps fit =
-    play_keeps ways (AllFollow (follows (command_of steps))) steps
-    (record {
-      new = λ m i. absurd i;
-      happens = go_on ways (command_of steps) (follows (command_of steps)) (kept (command_of steps));
-      joins = λ number signer watchers w fresh all m i. of number signer watchers m w.members (all m) (in_more w.members _ m i);
-    }) fit
-  where
-    of : (number : ℕ) (signer : Signing) (watchers : ℕ) (m : MemberOf P) (members : List (MemberOf P)) → (In m members → follows (command_of steps) m.node)
-        → (m ≡ record { node = ways.fresh number signer; watchers = replicate watchers unlooking }) ⊎ In m members → follows (command_of steps) m.node
-    of number signer watchers m members all (inl same) = subst (λ (y : MemberOf P). follows (command_of steps) y.node) (sym same) ((kept (command_of steps)).fresh number signer)
-    of number signer watchers m members all (inr i) = all i
+plays_follow_commands ways follows kept steps fit =
+    play_keeps ways (AllFollow (follows (command_of steps))) steps (commands_kept ways (command_of steps) (follows (command_of steps)) (kept (command_of steps))) fit

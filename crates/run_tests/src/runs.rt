@@ -6,17 +6,20 @@ use byte_source::ListSource;
 use nitro_bytes::Label;
 use script_reader::Rule;
 use script_run::{Status, run_words};
-use std::alloc::{AllocError, Global};
+use std::alloc::AllocError;
+use std::sync::Wait;
 use std::test::Fail;
+use std::thread::Threads;
 
 /// The status of a run of the script that the source has, and whether there is a report.
-fn ended(
-    alloc: Global,
+fn ended<R: Threads + Wait + Sync + AllocGlobal>(
+    rt: &R,
     source: &mut ListSource<'_>,
     sink: &mut ListSink<'_>,
 ) -> Result<(Status, bool), AllocError> {
+    let alloc = rt.alloc();
     let words = vec![in alloc; Label::make(String::from_str(alloc, "run")?)]?;
-    let ended = run_words(alloc, &words, source, sink);
+    let ended = run_words(rt, alloc, &words, source, sink, Vec::new(alloc));
     Ok((ended.status, ended.report.is_some()))
 }
 
@@ -33,18 +36,28 @@ fn front_of(text: &[u8], bytes: &[u8]) -> Option<usize> {
 }
 
 /// A run over a source that fails at some calls.
-fn read(alloc: Global, script: &[u8], failing: &[u64], text: &[u8]) -> Result<End, Fail> {
+fn read<R: Threads + Wait + Sync + AllocGlobal>(
+    rt: &R,
+    script: &[u8],
+    failing: &[u64],
+    text: &[u8],
+) -> Result<End, Fail> {
     let mut source = ListSource::make(script, failing);
-    let mut sink = ListSink::make(alloc, 64, 64, &[])?;
-    let (status, is_played) = ended(alloc, &mut source, &mut sink)?;
+    let mut sink = ListSink::make(rt.alloc(), 64, 64, &[])?;
+    let (status, is_played) = ended(rt, &mut source, &mut sink)?;
     Ok((status, is_played, front_of(text, sink.bytes.as_slice())))
 }
 
 /// A run over a sink that takes a byte at a time and fails at some calls.
-fn put(alloc: Global, script: &[u8], failing: &[u64], text: &[u8]) -> Result<End, Fail> {
+fn put<R: Threads + Wait + Sync + AllocGlobal>(
+    rt: &R,
+    script: &[u8],
+    failing: &[u64],
+    text: &[u8],
+) -> Result<End, Fail> {
     let mut source = ListSource::make(script, &[]);
-    let mut sink = ListSink::make(alloc, 64, 1, failing)?;
-    let (status, is_played) = ended(alloc, &mut source, &mut sink)?;
+    let mut sink = ListSink::make(rt.alloc(), 64, 1, failing)?;
+    let (status, is_played) = ended(rt, &mut source, &mut sink)?;
     Ok((status, is_played, front_of(text, sink.bytes.as_slice())))
 }
 
@@ -54,7 +67,7 @@ const NO_STEPS: &[u8] = br#"{"steps":[]}"#;
 fn a_source_that_fails_is_a_read_fault(rt: HostRuntime) -> Result<(), Fail> {
     let wanted = (Status::ReadFault, false, Some(11));
     for call in 0..2 {
-        let end = read(rt.alloc(), NO_STEPS, &[call], b"read fault\n")?;
+        let end = read(&rt, NO_STEPS, &[call], b"read fault\n")?;
         assert_eq!(rt; end, wanted, "{call}");
     }
     Ok(())
@@ -63,12 +76,7 @@ fn a_source_that_fails_is_a_read_fault(rt: HostRuntime) -> Result<(), Fail> {
 #[test]
 fn a_sink_that_fails_leaves_a_prefix(rt: HostRuntime) -> Result<(), Fail> {
     for call in 0..20u8 {
-        let end = put(
-            rt.alloc(),
-            NO_STEPS,
-            &[call as u64],
-            b"end entries 0 now 0\n",
-        )?;
+        let end = put(&rt, NO_STEPS, &[call as u64], b"end entries 0 now 0\n")?;
         assert_eq!(rt;
             end,
             (Status::WriteFault, true, Some(call as usize)),
@@ -79,9 +87,13 @@ fn a_sink_that_fails_leaves_a_prefix(rt: HostRuntime) -> Result<(), Fail> {
 }
 
 /// A run over so many spaces.
-fn spaces(alloc: Global, count: usize, text: &[u8]) -> Result<End, Fail> {
-    let script = vec![in alloc; b' '; count]?;
-    read(alloc, &script, &[], text)
+fn spaces<R: Threads + Wait + Sync + AllocGlobal>(
+    rt: &R,
+    count: usize,
+    text: &[u8],
+) -> Result<End, Fail> {
+    let script = vec![in rt.alloc(); b' '; count]?;
+    read(rt, &script, &[], text)
 }
 
 #[test]
@@ -95,7 +107,7 @@ fn the_limit_of_bytes_is_exact(rt: HostRuntime) -> Result<(), Fail> {
         (4_194_305, Status::TooLong, "too long\n"),
     ];
     for (count, status, text) in cases {
-        let end = spaces(rt.alloc(), count, text.as_bytes())?;
+        let end = spaces(&rt, count, text.as_bytes())?;
         assert_eq!(rt; end, (status, false, Some(text.len())), "{count}");
     }
     Ok(())

@@ -57,7 +57,7 @@ use Rattle.script_people.specs.declared.people.Person.{Person}
 use Rattle.script_play.proofs.Kept.{told_keeps, rounds_keep}
 use Rattle.script_laws.proofs.Finding.{first, second, mapped_some, named_some, any_mapped, some_after, both_push}
 use Rattle.script_laws.proofs.People.{IsHand, SamePeople, same_keys, known_key, people_more, people_push, tested_is_known, found, after_sign, signs, signed_people, apart_push}
-use Rattle.script_laws.proofs.Signatures.{short_signature}
+use Rattle.sign_index.proofs.Lengths.{short_signature}
 use Rattle.script_laws.proofs.States.{AreNamed, named_later, named_push, named_missed, named_caught, message_there}
 
 -- ---- what names stand for

@@ -7,7 +7,7 @@ use Rattle.load_script.specs.Load.{are_two}
 use Rattle.script_run.specs.Run.{playable, wanted}
 use Rattle.word_reader.specs.Words.{number_of, load_of, parts_of, is_end, load_in, asked}
 use Rattle.word_reader.specs.declared.asking.Asked.{Asked}
-use Rattle.word_reader.specs.declared.asking.Asked.TheVariants.{Run, Load}
+use Rattle.word_reader.specs.declared.asking.Asked.TheVariants.{Run, Race, Load}
 
 abbrev IsWithin : ℕ → Type 0
 IsWithin count = (1 ≤ count) × (count ≤ 1000)
@@ -54,14 +54,24 @@ in_options (first ∷ v ∷ second ∷ w ∷ rest) seed count e =
 no_run : (seed count : ℕ) → Some Run ≡ Some (Load seed count) → IsWithin count
 no_run seed count e = absurd (cc)
 
+no_race : (seed count : ℕ) → Some Race ≡ Some (Load seed count) → IsWithin count
+no_race seed count e = absurd (cc)
+
 -- what words ask for has 1 to 1,000 payments
 asked_within : (words : List (List ℕ)) (seed count : ℕ) → asked words ≡ Some (Load seed count) → IsWithin count
 asked_within [] seed count e = not_none (Load seed count) e
-asked_within (word ∷ []) seed count e = by (either (bytes_eq word (codes "run")) (Some Run) None (Load seed count) e)
+asked_within (word ∷ []) seed count e = by (either (bytes_eq word (codes "run")) (Some Run) race (Load seed count) e)
   where
-    by : (Some Run ≡ Some (Load seed count)) ⊎ (None ≡ Some (Load seed count)) → IsWithin count
+    race : Option Asked
+    race = cond (bytes_eq word (codes "race")) (Some Race) None
+
+    again : (Some Race ≡ Some (Load seed count)) ⊎ (None ≡ Some (Load seed count)) → IsWithin count
+    again (inl h) = no_race seed count h
+    again (inr h) = not_none (Load seed count) h
+
+    by : (Some Run ≡ Some (Load seed count)) ⊎ (race ≡ Some (Load seed count)) → IsWithin count
     by (inl h) = no_run seed count h
-    by (inr h) = not_none (Load seed count) h
+    by (inr h) = again (either (bytes_eq word (codes "race")) (Some Race) None (Load seed count) h)
 asked_within (word ∷ next ∷ rest) seed count e =
     by (either (bytes_eq word (codes "load")) (load_in (flat_map parts_of (next ∷ rest))) None (Load seed count) e)
   where
@@ -82,6 +92,9 @@ wanted_none words e = ap playable e
 
 pub wanted_run : (words : List (List ℕ)) → asked words ≡ Some Run → wanted words ≡ Some Run
 wanted_run words e = ap playable e
+
+pub wanted_race : (words : List (List ℕ)) → asked words ≡ Some Race → wanted words ≡ Some Race
+wanted_race words e = ap playable e
 
 load_if : (seed count : ℕ) (t : Bool) → are_two seed ≡ t → playable (Some (Load seed count)) ≡ cond t (Some (Load seed count)) None
 load_if seed count t e = ap (λ (b : Bool). cond b (Some (Load seed count)) None) e

@@ -1,5 +1,5 @@
 -- The report of a load tells that it paid what it says.
-use Rattle.std.proofs.Common.{◌≡◌, ℕ, Bool, true, false, cond, Option, Some, None, refl, sym, ap, subst}
+use Rattle.std.proofs.Common.{◌≡◌, ℕ, Bool, true, false, cond, List, Option, Some, None, refl, sym, ap, subst}
 use Rattle.std.specs.Prelude.{IfSome}
 use Rattle.load_laws.proofs.Reports.{loads_pay}
 use Rattle.load_laws.specs.Paying.{Pays}
@@ -7,13 +7,14 @@ use Rattle.load_script.specs.Load.{are_two}
 use Rattle.node_ways.specs.Ways.{ways}
 use Rattle.report_text.specs.declared.report.Load.{Load as Note}
 use Rattle.report_text.specs.declared.report.Report.{Report}
+use Rattle.round_model.specs.Players.{Player}
 use Rattle.script_run.proofs.Completes.{is_told}
 use Rattle.script_run.proofs.Counts.{few_payments}
 use Rattle.script_run.specs.Run.{Given, IsToldOf, EndsAs, playable, made_from}
 use Rattle.script_run.specs.declared.run.Status.{Status}
 use Rattle.word_reader.specs.Words.{asked}
 use Rattle.word_reader.specs.declared.asking.Asked.{Asked}
-use Rattle.word_reader.specs.declared.asking.Asked.TheVariants.{Run, Load}
+use Rattle.word_reader.specs.declared.asking.Asked.TheVariants.{Run, Race, Load}
 
 -- what was asked for, of what can be played
 record AskedSo (o : Option Asked) (seed count : ℕ) : Type 0 where
@@ -23,11 +24,13 @@ record AskedSo (o : Option Asked) (seed count : ℕ) : Type 0 where
 abbrev seed-in : Option Asked → ℕ
 seed-in (Some (Load seed count)) = seed
 seed-in (Some Run) = 0
+seed-in (Some Race) = 0
 seed-in None = 0
 
 asked-so : (o : Option Asked) (seed count : ℕ) → playable o ≡ Some (Load seed count) → AskedSo o seed count
 asked-so None seed count e = absurd cc
 asked-so (Some Run) seed count e = absurd cc
+asked-so (Some Race) seed count e = absurd cc
 asked-so (Some (Load s c)) seed count e = go (are_two s) refl e
   where
     go : (t : Bool) → are_two s ≡ t → cond t (Some (Load s c)) None ≡ Some (Load seed count) → AskedSo (Some (Load s c)) seed count
@@ -40,16 +43,17 @@ PaysIf r = IfSome r.load (λ (load : Note). Pays load r)
 if-noted : (r : Report) (o : Option Note) → r.load ≡ o → IfSome o (λ (load : Note). Pays load r) → PaysIf r
 if-noted r o is pays = subst (λ (x : Option Note). IfSome x (λ (load : Note). Pays load r)) (sym is) pays
 
-told-pays : (g : Given) (r : Report) → IsToldOf ways g r → PaysIf r
-told-pays g r (Run, asks, reads) = if-noted r None (reads.4.2.tells.noted) tt
-told-pays g r (Load seed count, asks, played) =
+told-pays : (cast : List Player) (g : Given) (r : Report) → IsToldOf ways cast g r → PaysIf r
+told-pays cast g r (Run, asks, reads) = if-noted r None (reads.4.2.tells.noted) tt
+told-pays cast g r (Race, asks, reads) = if-noted r None (reads.4.2.tells.noted) tt
+told-pays cast g r (Load seed count, asks, played) =
     let so : AskedSo (asked g.words) seed count = asked-so (asked g.words) seed count asks in
     if-noted r (Some (made_from seed count)) played.1.tells.noted (loads_pay (made_from seed count) r so.two (few_payments g.words seed count so.is) played.1)
 
-pub pays_if_told : (report : Option Report) (g : Given) → IfSome report (IsToldOf ways g) → IfSome report PaysIf
-pays_if_told None g told = tt
-pays_if_told (Some r) g told = told-pays g r told
+pub pays_if_told : (report : Option Report) (cast : List Player) (g : Given) → IfSome report (IsToldOf ways cast g) → IfSome report PaysIf
+pays_if_told None cast g told = tt
+pays_if_told (Some r) cast g told = told-pays cast g r told
 
 -- whatever a run came to
-pub pays : (g : Given) (status : Status) (report : Option Report) → EndsAs ways g status report → IfSome report PaysIf
-pays g status report ends = pays_if_told report g (is_told ways g status report ends)
+pub pays : (cast : List Player) (g : Given) (status : Status) (report : Option Report) → EndsAs ways cast g status report → IfSome report PaysIf
+pays cast g status report ends = pays_if_told report cast g (is_told ways cast g status report ends)

@@ -1,5 +1,5 @@
 -- What a run of the program comes to.
-use Rattle.std.specs.Prelude.{◌≡◌, ◌≤◌, ◌<◌, ℕ, List, [], ◌∷◌, length, false, ⊤, Option, Some, None, codes, if◌then◌else◌}
+use Rattle.std.specs.Prelude.{◌≡◌, ◌≤◌, ◌<◌, ℕ, List, [], ◌∷◌, length, Bool, true, false, ⊤, Option, Some, None, codes, if◌then◌else◌}
 use Rattle.std.specs.Fmt.{decimal}
 use Rattle.std.specs.Io.KnownBytes.{Keeps, Consumes, IsAtEnd}
 use Rattle.byte_source.specs.Outside.{Rose}
@@ -9,15 +9,17 @@ use Rattle.script_reader.specs.step.Rule.TheVariants as rules
 use Rattle.script_reader.specs.step.Step.{Step}
 use Rattle.net_party.specs.Ways.{Ways}
 use Rattle.play_report.specs.Reported.{IsPlayed}
+use Rattle.race_report.specs.Raced.{IsOfRace}
 use Rattle.report_text.specs.Report.{text_of}
 use Rattle.report_text.specs.Text.{◌&◌, ended}
 use Rattle.report_text.specs.declared.report.Load.{Load as Note}
 use Rattle.report_text.specs.declared.report.Report.{Report}
+use Rattle.round_model.specs.Players.{Player}
 use Rattle.script_run.specs.declared.run.Status.{Status}
 use Rattle.script_run.specs.declared.run.Status.TheVariants.{Done, NoMemory, Usage, Script, ReadFault, WriteFault, TooLong}
 use Rattle.word_reader.specs.Words.{asked}
 use Rattle.word_reader.specs.declared.asking.Asked.{Asked}
-use Rattle.word_reader.specs.declared.asking.Asked.TheVariants.{Run, Load}
+use Rattle.word_reader.specs.declared.asking.Asked.TheVariants.{Run, Race, Load}
 use Rattle.load_script.specs.Load.{are_two, load_steps}
 
 -- the words and the source that a run was handed: what was left of it and its count of faults, before and after
@@ -46,6 +48,7 @@ code_of TooLong = 6
 abbrev pub playable : Option Asked → Option Asked
 playable None = None
 playable (Some Run) = Some Run
+playable (Some Race) = Some Race
 playable (Some (Load seed count)) = if are_two seed then Some (Load seed count) else None
 
 -- what the words ask for that can be played, if anything
@@ -56,9 +59,14 @@ wanted words = playable (asked words)
 abbrev pub Asks : Given → (Asked → Type 0) → Type 0
 Asks g P = (a : Asked) × (wanted g.words ≡ Some a) × P a
 
--- the words are `run`, and this holds
-abbrev pub Runs : Given → Type 0 → Type 0
-Runs g P = (wanted g.words ≡ Some Run) × P
+-- how a script is played: by rounds in threads, or one thing after another
+abbrev pub play : Bool → Asked
+play true = Race
+play false = Run
+
+-- the words are `run` or `race`, and this holds of it
+abbrev pub Plays : Given → (Bool → Type 0) → Type 0
+Plays g P = (race : Bool) × (wanted g.words ≡ Some (play race)) × P race
 
 -- some bytes were taken
 abbrev pub Takes : Given → (List ℕ → Type 0) → Type 0
@@ -76,11 +84,13 @@ IsUnread g = Keeps g.before g.after × (g.faults_after ≡ g.faults_before)
 abbrev pub made_from : (seed count : ℕ) → Note
 made_from seed count = record { seed = seed; count = count }
 
-module _ {P : Type 0} (ways : Ways P) where
-  -- What was asked for comes to this report: of the script that was read, or of the load's, it tells the play and keeps the
-  -- promises.
+-- Of these nodes, and of the actors that a race has beside them.
+module _ {P : Type 0} (ways : Ways P) (cast : List Player) where
+  -- What was asked for comes to this report: of the script that was read, or of the load's, it tells the play or the race and
+  -- keeps the promises.
   abbrev pub Comes : Asked → Given → Report → Type 0
   Comes Run g report = Reads g (λ bytes. (steps : List Step) × IsScript false bytes steps × IsPlayed ways None report steps)
+  Comes Race g report = Reads g (λ bytes. (steps : List Step) × IsScript true bytes steps × IsOfRace ways cast report steps)
   Comes (Load seed count) g report = IsUnread g × IsPlayed ways (Some (made_from seed count)) report (load_steps seed count)
 
   -- the words ask for what comes to this report
@@ -91,9 +101,9 @@ module _ {P : Type 0} (ways : Ways P) where
   abbrev pub EndsAs : Given → Status → Option Report → Type 0
   EndsAs g Done (Some report) = IsToldOf g report
   EndsAs g Usage None = (wanted g.words ≡ None) × IsUnread g
-  EndsAs g (Script step rule) None = Runs g (Reads g (Breaks false step rule))
-  EndsAs g ReadFault None = Runs g (Takes g (λ bytes. length bytes ≤ 4194304) × Rose g.faults_before g.faults_after)
-  EndsAs g TooLong None = Runs g (Takes g (λ bytes. 4194304 < length bytes))
+  EndsAs g (Script step rule) None = Plays g (λ race. Reads g (Breaks race step rule))
+  EndsAs g ReadFault None = Plays g (λ race. Takes g (λ bytes. length bytes ≤ 4194304) × Rose g.faults_before g.faults_after)
+  EndsAs g TooLong None = Plays g (λ race. Takes g (λ bytes. 4194304 < length bytes))
   -- no other end, and no other report
   EndsAs g Done None = ⊥
   EndsAs g NoMemory report = ⊥
@@ -103,7 +113,7 @@ module _ {P : Type 0} (ways : Ways P) where
   EndsAs g WriteFault report = ⊥
   EndsAs g TooLong (Some report) = ⊥
 
-  -- calm runs over the same words and bytes come to the same end, with the same report
+  -- they come to the same end, with the same report
   abbrev pub EndsAlike : Given → Given → Type 0
   EndsAlike g h = (s t : Status) (p q : Option Report) → EndsAs g s p → EndsAs h t q → (s ≡ t) × (p ≡ q)
 
@@ -130,18 +140,19 @@ owed ReadFault report = ended (codes "read fault")
 owed WriteFault report = []
 owed TooLong report = ended (codes "too long")
 
--- the source tells a script that is short enough, and doesn't fail
-pub record TellsScript (g : Given) : Type 0 where
+-- the source tells a script for a run or a race that is short enough, and doesn't fail
+pub record TellsScript (race : Bool) (g : Given) : Type 0 where
   pub bytes : List ℕ
   pub told : g.before ≡ Some bytes
   pub short : length bytes ≤ 4194304
   pub steps : List Step
-  pub script : IsScript false bytes steps
+  pub script : IsScript race bytes steps
   pub faultless : ¬ (Rose g.faults_before g.faults_after)
 
--- a run has a script; a load needs none
+-- a run and a race have a script; a load needs none
 abbrev pub HasScript : Asked → Given → Type 0
-HasScript Run g = TellsScript g
+HasScript Run g = TellsScript false g
+HasScript Race g = TellsScript true g
 HasScript (Load seed count) g = ⊤
 
 -- the words ask for something, and its script is there

@@ -1,10 +1,14 @@
 //! The top call: from words and a source to a status and the text that was put.
 
-ghost use Rattle.std.specs.Prelude.{◌≡◌, ◌≢◌, ◌≤◌, ◌⊎◌, ℕ, List, Some, None, length, IfOk, IfSome, IsNone, string_bytes};
+ghost use Rattle.std.specs.Prelude.{◌≡◌, ◌≢◌, ◌≤◌, ◌⊎◌, ℕ, List, [], Some, None, length, map, All, IfOk, IfSome, IsNone, string_bytes};
 ghost use Rattle.std.specs.Io.KnownBytes.{Keeps, Consumes, Appends, IsAtEnd};
 ghost use Rattle.channel_calls.specs.Flows.{AreConserved};
 ghost use Rattle.channel_calls.specs.History.{Legal, newest_first, flows_of};
 ghost use Rattle.support_chain.specs.Real.{real};
+ghost use Rattle.net_actors.specs.Views.{player_of};
+ghost use Rattle.round_laws.specs.Journals.{WritesJournals};
+ghost use Rattle.round_model.specs.Players.{Player};
+ghost use Rattle.race_report.specs.Raced.{RacersAreInTime};
 ghost use Rattle.byte_source.specs.Outside.{Rose};
 ghost use Rattle.byte_sink.specs.Outside.{AppendsPart};
 ghost use Rattle.word_reader.specs.Words.{asked};
@@ -18,12 +22,16 @@ use crate::records::Records;
 use byte_sink::{Sink, put_all};
 use byte_source::{ReadEnd, Source, read_all};
 use load_script::{LoadFault, load_script};
+use net_actors::Cast;
 use net_node::Node;
 use nitro_bytes::{Label, NoMemory};
 use play_report::report_play;
+use race_report::report_race;
 use report_text::{Load, Report, text_of};
 use script_reader::{Rule, ScriptFault, read_script_with_signers};
 use std::alloc::{AllocError, Global};
+use std::sync::Wait;
+use std::thread::Threads;
 use told_party::ToldParty;
 use word_reader::{Asked, asked};
 
@@ -74,10 +82,11 @@ fn without_report(status: Status) -> Ended
 }
 
 /// What a script comes to that was read whole.
+#[tactic(auto, using(crate::proofs::Ends::breaks_in_run, crate::proofs::Ends::plays_in_run))]
 fn run_script<P: ToldParty>(alloc: Global, bytes: &[u8]) -> Result<Ended, NoMemory>
-    ensures ends { (given : Given) → wanted given.words ≡ Some Asked.Run → Consumes given.before given.after bytes.now
-        → IsAtEnd given.after → length bytes.now ≤ 4194304
-        → IfOk result (λ ended. EndsAs P.ways given ended.status ended.report) }
+    ensures ends { (cast : List Player) (given : Given) → wanted given.words ≡ Some Asked.Run
+        → Consumes given.before given.after bytes.now → IsAtEnd given.after → length bytes.now ≤ 4194304
+        → IfOk result (λ ended. EndsAs P.ways cast given ended.status ended.report) }
     ensures legal { IfOk result (λ ended. IfSome ended.report (λ report. Legal real (newest_first report.history))) }
 {
     match read_script_with_signers(alloc, bytes, false) {
@@ -94,14 +103,70 @@ fn run_script<P: ToldParty>(alloc: Global, bytes: &[u8]) -> Result<Ended, NoMemo
     }
 }
 
+/// What a script comes to in a race with this cast. A history that is full has no room in any memory.
+#[tactic(auto, using(script_reader::proofs::Bounds::all_may_race, crate::proofs::Ends::breaks_in_race, crate::proofs::Ends::plays_in_race))]
+fn race_script<R: Threads + Wait + Sync, P: ToldParty + Send>(
+    rt: &R,
+    alloc: Global,
+    bytes: &[u8],
+    cast: Vec<Cast>,
+) -> Result<Ended, NoMemory>
+    requires unseen { All (λ c. c.notes.entries.items ≡ []) cast.items }
+    requires writes { WritesJournals P.ways P.lost }
+    requires timely { RacersAreInTime P.ways P.stands }
+    ensures ends { (given : Given) → wanted given.words ≡ Some Asked.Race
+        → Consumes given.before given.after bytes.now → IsAtEnd given.after → length bytes.now ≤ 4194304
+        → IfOk result (λ ended. EndsAs P.ways (map (player_of (λ c. tells (c.actor.vtable, c.actor.value)) (λ c. told (c.actor.vtable, c.actor.value))) cast.items) given ended.status ended.report) }
+    ensures legal { IfOk result (λ ended. IfSome ended.report (λ report. Legal real (newest_first report.history))) }
+{
+    match read_script_with_signers(alloc, bytes, true) {
+        Err(ScriptFault::NoMemory) => Err(NoMemory),
+        Err(ScriptFault::Broken { step, rule }) => Ok(without_report(Status::Script(step, rule))),
+        Ok((script, signers)) => {
+            let steps = script.steps.as_slice();
+            let Ok(report) = report_race::<R, P>(rt, alloc, steps, signers, cast) else {
+                return Err(NoMemory);
+            };
+            Ok(Ended {
+                status: Status::Done,
+                report: Some(report),
+            })
+        }
+    }
+}
+
 /// What comes of a script that the source has.
+#[tactic(auto, using(crate::proofs::Ends::fails_in_run, crate::proofs::Ends::long_in_run))]
 fn run_source<P: ToldParty, S: Source>(alloc: Global, source: &mut S) -> Result<Ended, NoMemory>
-    ensures ends { (words : List (List ℕ)) → wanted words ≡ Some Asked.Run
-        → IfOk result (λ ended. EndsAs P.ways (given S.remaining S.faults words source.old source.new) ended.status ended.report) }
+    ensures ends { (words : List (List ℕ)) (cast : List Player) → wanted words ≡ Some Asked.Run
+        → IfOk result (λ ended. EndsAs P.ways cast (given S.remaining S.faults words source.old source.new) ended.status ended.report) }
     ensures legal { IfOk result (λ ended. IfSome ended.report (λ report. Legal real (newest_first report.history))) }
 {
     match read_all(alloc, source) {
         Ok(bytes) => run_script::<P>(alloc, &bytes),
+        Err(ReadEnd::NoMemory) => Err(NoMemory),
+        Err(ReadEnd::Failed) => Ok(without_report(Status::ReadFault)),
+        Err(ReadEnd::TooLong) => Ok(without_report(Status::TooLong)),
+    }
+}
+
+/// What comes of a script that the source has, in a race.
+#[tactic(auto, using(crate::proofs::Ends::fails_in_race, crate::proofs::Ends::long_in_race))]
+fn race_source<R: Threads + Wait + Sync, P: ToldParty + Send, S: Source>(
+    rt: &R,
+    alloc: Global,
+    source: &mut S,
+    cast: Vec<Cast>,
+) -> Result<Ended, NoMemory>
+    requires unseen { All (λ c. c.notes.entries.items ≡ []) cast.items }
+    requires writes { WritesJournals P.ways P.lost }
+    requires timely { RacersAreInTime P.ways P.stands }
+    ensures ends { (words : List (List ℕ)) → wanted words ≡ Some Asked.Race
+        → IfOk result (λ ended. EndsAs P.ways (map (player_of (λ c. tells (c.actor.vtable, c.actor.value)) (λ c. told (c.actor.vtable, c.actor.value))) cast.items) (given S.remaining S.faults words source.old source.new) ended.status ended.report) }
+    ensures legal { IfOk result (λ ended. IfSome ended.report (λ report. Legal real (newest_first report.history))) }
+{
+    match read_all(alloc, source) {
+        Ok(bytes) => race_script::<R, P>(rt, alloc, &bytes, cast),
         Err(ReadEnd::NoMemory) => Err(NoMemory),
         Err(ReadEnd::Failed) => Ok(without_report(Status::ReadFault)),
         Err(ReadEnd::TooLong) => Ok(without_report(Status::TooLong)),
@@ -113,8 +178,8 @@ fn run_source<P: ToldParty, S: Source>(alloc: Global, source: &mut S) -> Result<
 fn run_load<P: ToldParty>(alloc: Global, seed: u64, count: u32) -> Result<Ended, NoMemory>
     requires some { 1 ≤ count }
     requires few { count ≤ 1000 }
-    ensures ends { (given : Given) → asked given.words ≡ Some (Asked.Load seed count) → IsUnread given
-        → IfOk result (λ ended. EndsAs P.ways given ended.status ended.report) }
+    ensures ends { (cast : List Player) (given : Given) → asked given.words ≡ Some (Asked.Load seed count) → IsUnread given
+        → IfOk result (λ ended. EndsAs P.ways cast given ended.status ended.report) }
     ensures legal { IfOk result (λ ended. IfSome ended.report (λ report. Legal real (newest_first report.history))) }
 {
     match load_script(alloc, seed, count) {
@@ -132,18 +197,24 @@ fn run_load<P: ToldParty>(alloc: Global, seed: u64, count: u32) -> Result<Ended,
 }
 
 /// What the words and the source come to, with nodes of this type.
-#[tactic(auto, using(byte_source::proofs::Known::keeps_all, crate::proofs::Counts::some_payments, crate::proofs::Counts::few_payments, crate::proofs::Counts::wanted_none, crate::proofs::Counts::wanted_run))]
-fn work<P: ToldParty, S: Source>(
+#[tactic(auto, using(byte_source::proofs::Known::keeps_all, crate::proofs::Counts::some_payments, crate::proofs::Counts::few_payments, crate::proofs::Counts::wanted_none, crate::proofs::Counts::wanted_run, crate::proofs::Counts::wanted_race))]
+fn work<R: Threads + Wait + Sync, P: ToldParty + Send, S: Source>(
+    rt: &R,
     alloc: Global,
     words: &[Label],
     source: &mut S,
+    cast: Vec<Cast>,
 ) -> Result<Ended, NoMemory>
-    ensures ends { IfOk result (λ ended. EndsAs P.ways (given S.remaining S.faults words.now source.old source.new) ended.status ended.report) }
+    requires unseen { All (λ c. c.notes.entries.items ≡ []) cast.items }
+    requires writes { WritesJournals P.ways P.lost }
+    requires timely { RacersAreInTime P.ways P.stands }
+    ensures ends { IfOk result (λ ended. EndsAs P.ways (map (player_of (λ c. tells (c.actor.vtable, c.actor.value)) (λ c. told (c.actor.vtable, c.actor.value))) cast.items) (given S.remaining S.faults words.now source.old source.new) ended.status ended.report) }
     ensures legal { IfOk result (λ ended. IfSome ended.report (λ report. Legal real (newest_first report.history))) }
 {
     match asked(alloc, words)? {
         None => Ok(without_report(Status::Usage)),
         Some(Asked::Run) => run_source::<P, S>(alloc, source),
+        Some(Asked::Race) => race_source::<R, P, S>(rt, alloc, source, cast),
         Some(Asked::Load { seed, count }) => run_load::<P>(alloc, seed, count),
     }
 }
@@ -190,22 +261,28 @@ fn owed(alloc: Global, ended: &Ended) -> Result<Vec<u8>, NoMemory>
     }
 }
 
-/// Does all that the program does: reads the script or makes that of a load, plays it and puts the text of its report.
+/// Does all that the program does: reads the script or makes that of a load, plays it and puts the text of its report. In a
+/// race the cast, of at most 16 actors that have seen nothing, acts beside the nodes.
 #[tactic(auto, using(report_text::proofs::Numbers::conserved_in_time, crate::proofs::Completes::completes, crate::proofs::Completes::is_told, crate::proofs::Pays::pays))]
-pub fn run_words<S: Source, K: Sink>(
+pub fn run_words<R: Threads + Wait + Sync, S: Source, K: Sink>(
+    rt: &R,
     alloc: Global,
     words: &[Label],
     source: &mut S,
     sink: &mut K,
+    cast: Vec<Cast>,
 ) -> Ended
+    requires few { length cast.items ≤ 16 }
+    requires unseen { All (λ c. c.notes.entries.items ≡ []) cast.items }
+
     // Every status but want of memory and a fault of the sink has its cause, and its text was put whole.
     ensures ended { result.status ≢ Status.NoMemory → result.status ≢ Status.WriteFault
-        → EndsAs ways (given S.remaining S.faults words.now source.old source.new) result.status result.report
+        → EndsAs ways (map (player_of (λ c. tells (c.actor.vtable, c.actor.value)) (λ c. told (c.actor.vtable, c.actor.value))) cast.items) (given S.remaining S.faults words.now source.old source.new) result.status result.report
         × Appends (K.held sink.old) (K.held sink.new) (owed result.status result.report) }
 
     // At a fault of the sink a part was put of what another end owes, and the report is that end's.
     ensures write_fault { result.status ≡ Status.WriteFault → Rose (K.faults sink.old) (K.faults sink.new)
-        × ((other : Status) × EndsAs ways (given S.remaining S.faults words.now source.old source.new) other result.report
+        × ((other : Status) × EndsAs ways (map (player_of (λ c. tells (c.actor.vtable, c.actor.value)) (λ c. told (c.actor.vtable, c.actor.value))) cast.items) (given S.remaining S.faults words.now source.old source.new) other result.report
         × AppendsPart (K.held sink.old) (K.held sink.new) (owed other result.report)) }
 
     // For want of memory nothing was put.
@@ -226,7 +303,7 @@ pub fn run_words<S: Source, K: Sink>(
     // that was commanded right before, or, where none was and its plan is funded, not at all (for these its watchers needn't be
     // in time); it can leave with its share; and once its channels are final and the calls of its exit stand after that, what
     // was printed of its exit is paid to it, whatever others enter between.
-    ensures told { IfSome result.report (IsToldOf ways (given S.remaining S.faults words.now source.old source.new)) }
+    ensures told { IfSome result.report (IsToldOf ways (map (player_of (λ c. tells (c.actor.vtable, c.actor.value)) (λ c. told (c.actor.vtable, c.actor.value))) cast.items) (given S.remaining S.faults words.now source.old source.new)) }
 
     // A load pays what it says: its history is two deposits, a conclusion and two transfers; both people were paid what they
     // have after its payments, and no channel holds anything; no command was refused, and the shares that are told are what
@@ -238,7 +315,7 @@ pub fn run_words<S: Source, K: Sink>(
         → ¬ (Rose (K.faults sink.old) (K.faults sink.new))
         → (result.status ≡ Status.Done) ⊎ (result.status ≡ Status.NoMemory) }
 {
-    let Ok(ended) = work::<Node, S>(alloc, words, source) else {
+    let Ok(ended) = work::<R, Node, S>(rt, alloc, words, source, cast) else {
         return without_report(Status::NoMemory);
     };
     let Ok(text) = owed(alloc, &ended) else {

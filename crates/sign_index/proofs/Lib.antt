@@ -6,3 +6,4 @@ pub mod Reading
 pub mod Signatures
 pub mod Signers
 pub mod Runs
+pub mod Lengths

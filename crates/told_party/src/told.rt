@@ -19,7 +19,7 @@ pub trait ToldParty: Party {
     ghost exits: { Self → Option (List (ℕ × ℕ)) };
 
     // The events of its journal with their commands, the newest first.
-    ghost told: { Self → List Told };
+    ghost reported: { Self → List Told };
 
     /// What its person can get of an asset.
     fn share(&self, asset: u32) -> Result<u128, NoMemory>
@@ -37,22 +37,22 @@ pub trait ToldParty: Party {
     ghost keeps: { AreKept Self.ways Self.stands };
 
     // Its lines are the events of its journal, the newest first.
-    ghost tells: { (p : Self) → AreTold (Self.ways.lines p) (reverse (Self.ways.journal p)) };
+    ghost reports: { (p : Self) → AreTold (Self.ways.lines p) (reverse (Self.ways.journal p)) };
 
     // And what they open is what the commands open, which are those of the steps.
-    ghost opens: { LinesAreTold Self.ways told };
+    ghost opens: { LinesAreTold Self.ways reported };
 
-    ghost commands: { TellsCommands Self.ways told };
+    ghost commands: { TellsCommands Self.ways reported };
 
     // Where it followed the whole history, its shares are those of the definition.
-    ghost gets: { SharesAreReal Self.ways Self.stands Self.lost shares told };
+    ghost gets: { SharesAreReal Self.ways Self.stands Self.lost shares reported };
 
     // What it tells of its exit are those of the definition just after the command.
-    ghost got: { ExitsAreReal Self.ways Self.stands Self.lost exits told };
+    ghost got: { ExitsAreReal Self.ways Self.stands Self.lost exits reported };
 
     // Each event is what the rules and tables of the network's node give.
-    ghost plays: { JournalsAreByRules Self.ways Self.stands told };
+    ghost plays: { JournalsAreByRules Self.ways Self.stands reported };
 
     // Its own signatures are fair, nobody lowers the share of its person, and it can leave with it, where its premises hold.
-    ghost holds: { KeepsShares Self.ways Self.stands told };
+    ghost holds: { KeepsShares Self.ways Self.stands reported };
 }

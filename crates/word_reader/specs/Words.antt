@@ -1,11 +1,11 @@
--- What words ask for: `run`, or `load` with a seed and a count.
+-- What words ask for: `run`, `race`, or `load` with a seed and a count.
 use Rattle.std.specs.Prelude.{◌==◌, ◌&&◌, ℕ, ◌^◌, Bool, true, false, List, [], ◌∷◌, length, Option, Some, None}
 use Rattle.std.specs.Prelude.{if◌then◌else◌, nat_eq, nat_le, nat_lt, codes, flat_map}
 use Rattle.std.specs.List.{starts_with, list_any, before_first, after_first}
 use Rattle.std.specs.Str.{bytes_eq, all_ascii_digits}
 use Rattle.std.specs.Str.Parse.{digits_value}
 use Rattle.word_reader.specs.declared.asking.Asked.{Asked}
-use Rattle.word_reader.specs.declared.asking.Asked.TheVariants.{Run, Load}
+use Rattle.word_reader.specs.declared.asking.Asked.TheVariants.{Run, Race, Load}
 
 -- the number of 64 bits that 1 to 20 decimal digits write
 abbrev pub number_of : List ℕ → Option ℕ
@@ -42,8 +42,12 @@ load_in (first ∷ v ∷ second ∷ w ∷ rest) =
     else None)
 load_in _ = None
 
+-- what a word that stands alone asks for, if anything
+abbrev pub play_of : List ℕ → Option Asked
+play_of word = if bytes_eq word (codes "run") then Some Run else (if bytes_eq word (codes "race") then Some Race else None)
+
 -- what the words after the program's name ask for, if anything
 abbrev pub asked : List (List ℕ) → Option Asked
 asked [] = None
-asked (word ∷ []) = if bytes_eq word (codes "run") then Some Run else None
+asked (word ∷ []) = play_of word
 asked (word ∷ rest) = if bytes_eq word (codes "load") then load_in (flat_map parts_of rest) else None

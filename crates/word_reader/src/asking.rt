@@ -5,6 +5,8 @@
 pub enum Asked {
     /// `run`: a script is read and played.
     Run,
+    /// `race`: a script is read and played by rounds in threads.
+    Race,
     /// `load`: a script of so many payments, 1 to 1,000, is made from a seed and played.
     Load { seed: u64, count: u32 },
 }

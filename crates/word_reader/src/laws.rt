@@ -2,11 +2,12 @@
 
 ghost use Rattle.std.specs.Prelude.{◌≡◌, Some, None, [], ◌∷◌, codes, map};
 ghost use Rattle.word_reader.specs.Words.{asked};
-ghost use Rattle.word_reader.specs.declared.asking.Asked.TheVariants.{Run, Load};
+ghost use Rattle.word_reader.specs.declared.asking.Asked.TheVariants.{Run, Race, Load};
 
 /// Words that ask for something.
 pub fn words_that_ask()
     ensures run { asked (map codes ("run" ∷ [])) ≡ Some Run }
+    ensures race { asked (map codes ("race" ∷ [])) ≡ Some Race }
     ensures load { asked (map codes ("load" ∷ "--seed" ∷ "1" ∷ "--count" ∷ "1" ∷ [])) ≡ Some (Load 1 1) }
     ensures turned { asked (map codes ("load" ∷ "--count" ∷ "1000" ∷ "--seed=007" ∷ [])) ≡ Some (Load 7 1000) }
     ensures ended { asked (map codes ("load" ∷ "--seed=0" ∷ "--count=2" ∷ "--" ∷ [])) ≡ Some (Load 0 2) }
@@ -21,6 +22,7 @@ pub fn words_that_are_no_request()
     ensures none { asked [] ≡ None }
     ensures capital { asked (map codes ("Run" ∷ [])) ≡ None }
     ensures run_twice { asked (map codes ("run" ∷ "run" ∷ [])) ≡ None }
+    ensures race_twice { asked (map codes ("race" ∷ "race" ∷ [])) ≡ None }
     ensures load { asked (map codes ("load" ∷ [])) ≡ None }
     ensures load_run { asked (map codes ("load" ∷ "run" ∷ [])) ≡ None }
     ensures help { asked (map codes ("--help" ∷ [])) ≡ None }

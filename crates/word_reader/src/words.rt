@@ -3,7 +3,7 @@
 ghost use Rattle.std.specs.Prelude.{◌≡◌, IfOk, map, flat_map, option_and_then};
 ghost use Rattle.clap.specs.Simple.{app_of};
 ghost use Rattle.clap.specs.Matches.{first_value, found_of};
-ghost use Rattle.word_reader.specs.Words.{asked, load_in, load_of, number_of, parts_of};
+ghost use Rattle.word_reader.specs.Words.{asked, load_in, load_of, number_of, parts_of, play_of};
 ghost use Rattle.word_reader.specs.Command.{load_app};
 
 use crate::asking::Asked;
@@ -69,12 +69,23 @@ fn texts_of<'a>(alloc: Global, words: &'a [Label]) -> Result<Vec<&'a str>, Alloc
     Ok(texts)
 }
 
+/// What a word that stands alone asks for.
+fn play_of(word: &str) -> Option<Asked>
+    ensures { result ≡ play_of word.now }
+{
+    match word {
+        "run" => Some(Asked::Run),
+        "race" => Some(Asked::Race),
+        _ => None,
+    }
+}
+
 /// What the words after the program's name ask for, if anything. A call for help or for the version asks for nothing.
 pub fn asked(alloc: Global, words: &[Label]) -> Result<Option<Asked>, NoMemory>
     ensures { IfOk result (λ a. a ≡ asked words.now) }
 {
     match words {
-        [word] if word.as_str() == "run" => Ok(Some(Asked::Run)),
+        [word] => Ok(play_of(word.as_str())),
         [word, rest @ ..] if word.as_str() == "load" => {
             let texts = texts_of(alloc, rest)?;
             read_load(alloc, &texts)

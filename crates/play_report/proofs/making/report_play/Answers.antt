@@ -14,8 +14,8 @@ returns-clause-played g c =
     go : {E : Type 0} (result : Result Report E) → IfOk result (λ r. IsMade g.P.Party.ways g.P.Party.lost g.P.ToldParty.shares g.P.ToldParty.exits c.args.load r c.in_ok-scene.scene)
         → IfOk result (λ r. IsPlayed g.P.Party.ways c.args.load r c.args.steps.now)
     go (Ok r) made =
-        is_played g.P.Party.ways g.P.Party.stands g.P.Party.lost g.P.ToldParty.shares g.P.ToldParty.exits g.P.ToldParty.told
-        g.met.P.ToldParty.keeps g.met.P.ToldParty.tells g.met.P.ToldParty.opens g.met.P.ToldParty.commands g.met.P.ToldParty.gets g.met.P.ToldParty.got g.met.P.ToldParty.plays g.met.P.ToldParty.holds
+        is_played g.P.Party.ways g.P.Party.stands g.P.Party.lost g.P.ToldParty.shares g.P.ToldParty.exits g.P.ToldParty.reported
+        g.met.P.ToldParty.keeps g.met.P.ToldParty.reports g.met.P.ToldParty.opens g.met.P.ToldParty.commands g.met.P.ToldParty.gets g.met.P.ToldParty.got g.met.P.ToldParty.plays g.met.P.ToldParty.holds
         c.args.steps.now c.requires.fit c.args.load r
         (subst (λ s. IsMade g.P.Party.ways g.P.Party.lost g.P.ToldParty.shares g.P.ToldParty.exits c.args.load r s) c.in_ok-scene.ensures made)
     go (Err e) made = tt

@@ -1,4 +1,4 @@
--- What hands sign is short enough for a message.
+-- What is signed is short enough for a message.
 use Rattle.std.proofs.Common.{◌≡◌, ℕ, ◌+◌, ◌*◌, ◌≤◌, ◌==◌, List, ◌++◌, length, Bool, true, false, cond, arith, length-append}
 use Rattle.sha2.proofs.Facts256.{length-sha256}
 use Rattle.lms_verify.specs.Types.{u32str, ots_code, lms_code, chain_count, height}

@@ -1,0 +1,4 @@
+pub mod Walked
+pub mod Followed
+pub mod Lasting
+pub mod Raced

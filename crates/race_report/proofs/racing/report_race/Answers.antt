@@ -1,0 +1,28 @@
+use Rattle.std.proofs.Common.{◌∙◌, refl, ap}
+use Rattle.channel_calls.specs.History.{newest_first}
+use Rattle.race_report.proofs.Raced.{race_is_legal, is_of_race}
+use Rattle.race_report.proofs.racing.report_race.Goals as goal
+
+pub race-requires-clause-keep : goal.race-requires-clause-keep
+race-requires-clause-keep g c κs within =
+    let told = g.met.P.ToldParty g.world.𝓛 g.world.𝓜 g.world.𝓡 ((λ s x. x), (λ x. x), (λ x. x), λ x. x) in
+    record { kept = told.keeps; writes = c.requires.writes }
+
+pub returns-clause-raced : goal.returns-clause-raced
+returns-clause-raced g c =
+    let told = g.met.P.ToldParty g.world.𝓛 g.world.𝓜 g.world.𝓡 ((λ s x. x), (λ x. x), (λ x. x), λ x. x) in
+    is_of_race g.P.Party.ways g.P.Party.stands g.P.Party.lost g.P.ToldParty.shares g.P.ToldParty.exits g.P.ToldParty.reported
+    told.keeps told.reports told.opens told.commands told.gets told.got told.plays told.holds
+    c.requires.timely c.args.steps.now c.requires.fit c.requires.may_race _ _ c.in_ok-report.report
+    c.in_ok-race.ensures.raced c.in_ok-race.ensures.racing
+    (c.in_ok-report.ensures.made _ (record {
+      names_are = c.into_parts-names.ensures.names;
+      rounds_are = c.into_parts-names.ensures.rounds;
+      history_is = c.into_parts-names.ensures.history;
+      members_are = c.deref.ensures.value ∙ c.into_parts-names.ensures.members;
+    }))
+
+pub returns-clause-legal : goal.returns-clause-legal
+returns-clause-legal g c =
+    race_is_legal g.P.Party.ways g.P.Party.stands g.P.Party.lost _ c.in_ok-report.report.history _ c.in_ok-race.ensures.racing refl
+    (ap newest_first c.in_ok-report.ensures.history ∙ c.into_parts-names.ensures.history)

@@ -1,0 +1,34 @@
+-- What a report tells of a race, and what it promises of each person with a node.
+use Rattle.std.specs.Prelude.{ℕ, List, None}
+use Rattle.channel_name.specs.Collisions.{NoneCollide}
+use Rattle.channel_calls.specs.History.{Legal}
+use Rattle.channel_calls.specs.declared.entry.Entry.{Entry}
+use Rattle.net_model.specs.Hashed.{hashed}
+use Rattle.net_model.specs.Occurring.{AreValid}
+use Rattle.net_model.specs.Premises.{InTime}
+use Rattle.net_party.specs.Ways.{Ways}
+use Rattle.play_report.specs.Reported.{Tells, IsInTimeIf, Promises}
+use Rattle.race_laws.specs.Races.{IsRaced}
+use Rattle.race_nodes.specs.Races.{OpensLasting}
+use Rattle.race_plays.specs.Races.{RaceOf, IsRaceOf}
+use Rattle.report_text.specs.declared.report.Report.{Report}
+use Rattle.round_model.specs.Players.{Player}
+use Rattle.script_names.specs.Commands.{command_of}
+use Rattle.script_rules.specs.declared.step.Step.{Step}
+use Rattle.support_chain.specs.Real.{real}
+use Rattle.told_party.specs.Promised.{Pairwise}
+
+-- in a race the watchers of a node whose channels last are in time, where no strings collide that they tell apart
+abbrev pub RacersAreInTime : {P : Type 0} → Ways P → (stands : List Entry → P → Type 0) → Type 0
+RacersAreInTime {P} ways stands =
+    (h : List Entry) (p : P) (ends : List ℕ) → Legal real h → stands h p → IsRaced h (ways.lines p) ends → OpensLasting (ways.lines p)
+    → AreValid h (ways.lines p) → NoneCollide (hashed h (ways.lines p)) → InTime real h (ways.lines p)
+
+-- The report is that of a race of these steps with this cast: it tells what the race came to and keeps its promises, and the
+-- watchers of each person with a node were in time.
+pub record IsOfRace {P : Type 0} (ways : Ways P) (cast : List Player) (r : Report) (steps : List Step) : Type 0 where
+  pub race : RaceOf P
+  pub races : IsRaceOf ways steps cast race
+  pub tells : Tells (command_of steps) ways None r race.scene
+  pub keeps : Promises (command_of steps) r
+  pub in_time : Pairwise (IsInTimeIf (command_of steps) r) r.journals r.premises

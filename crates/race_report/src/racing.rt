@@ -1,0 +1,51 @@
+//! The report of a race.
+
+ghost use Rattle.std.specs.Prelude.{◌≡◌, ◌≤◌, [], true, All, IfOk, length, map};
+ghost use Rattle.channel_calls.specs.History.{Legal, newest_first};
+ghost use Rattle.net_actors.specs.Views.{player_of};
+ghost use Rattle.round_laws.specs.Journals.{WritesJournals};
+ghost use Rattle.script_rules.specs.Bounds.{Fits, persons_of, signers_of};
+ghost use Rattle.script_rules.specs.Conditions.{runs_in_race};
+ghost use Rattle.support_chain.specs.Real.{real};
+ghost use Rattle.race_report.specs.Raced.{RacersAreInTime, IsOfRace};
+
+use net_actors::{Cast, RoundFault};
+use play_report::report_of;
+use report_text::Report;
+use script_race::race;
+use script_rules::{STEP_LIMIT, Step};
+use sign_index::Signer;
+use std::alloc::Global;
+use std::sync::Wait;
+use std::thread::Threads;
+use told_party::ToldParty;
+
+/// Plays the steps in a race with this cast, whose notes are empty, and tells what came of them. The signers are those of the
+/// people that the steps declare.
+pub fn report_race<R: Threads + Wait + Sync, P: ToldParty + Send>(
+    rt: &R,
+    alloc: Global,
+    steps: &[Step],
+    signers: Vec<Signer>,
+    cast: Vec<Cast>,
+) -> Result<Report, RoundFault>
+    requires fit { All Fits steps.now }
+    requires may_race { All (λ step. runs_in_race step ≡ true) steps.now }
+    requires few { persons_of steps.now ≤ 16 }
+    requires short { length steps.now ≤ STEP_LIMIT }
+    requires fresh { signers.items ≡ signers_of steps.now }
+    requires unseen { All (λ c. c.notes.entries.items ≡ []) cast.items }
+    // Nodes write what they do into their journals, and where they race their watchers are in time.
+    requires writes { WritesJournals P.ways P.lost }
+    requires timely { RacersAreInTime P.ways P.stands }
+    // The report is that of a race, and it keeps its promises to each person with a node.
+    ensures raced { IfOk result (λ report. IsOfRace P.ways (map (player_of (λ c. tells (c.actor.vtable, c.actor.value)) (λ c. told (c.actor.vtable, c.actor.value))) cast.items) report steps.now) }
+
+    // Each reply of the history is the sequential adjudicator's at its place.
+    ensures legal { IfOk result (λ report. Legal real (newest_first report.history)) }
+{
+    let race = race::<R, P>(rt, alloc, steps, signers, cast)?;
+    let (names, rounds, history, members) = race.into_parts();
+    let report = report_of(alloc, names, rounds, history, &members, None)?;
+    Ok(report)
+}
