@@ -4,7 +4,7 @@ use Rattle.std.proofs.lemmas.Bool.{eqb-true}
 use Rattle.std.proofs.lemmas.Slice.Eq.{bytes_eq-Decides}
 use Rattle.std.specs.Prelude.{◌==◌, ◌&&◌}
 use Rattle.std.specs.Str.{bytes_eq}
-use Rattle.running_amounts.specs.Amounts.{Respects}
+use Rattle.asset_holdings.specs.Amounts.{Respects}
 use Rattle.asset_holdings.specs.Balances.{same_pair, is_of}
 
 abbrev Key : Type 0

@@ -4,9 +4,9 @@ use Rattle.std.proofs.lemmas.Bool.{eqb-true}
 use Rattle.std.specs.Prelude.{◌-◌, ◌==◌, nat_eq}
 use Rattle.std.specs.Str.{bytes_eq}
 use Rattle.nitro_bytes.specs.declared.value.Dest.TheVariants.{Person, Channel}
-use Rattle.running_amounts.specs.Amounts.{amount_in, total, Respects}
-use Rattle.running_amounts.proofs.Totals.{amount_within}
-use Rattle.running_amounts.proofs.Changes.{raised, lowered, counts_within, total_raised, total_lowered}
+use Rattle.asset_holdings.specs.Amounts.{amount_in, total, Respects}
+use Rattle.asset_holdings.proofs.Totals.{amount_within}
+use Rattle.asset_holdings.proofs.Changes.{raised, lowered, counts_within, total_raised, total_lowered}
 use Rattle.asset_holdings.specs.Balances.{Balances, same_pair, is_of, amount_held, amount_paid, amount_deposited, HasMoved}
 use Rattle.asset_holdings.specs.Tables.{AreBalanced}
 use Rattle.asset_holdings.proofs.Keys.{pair_is, respects_asset, cond_and}

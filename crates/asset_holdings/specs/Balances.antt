@@ -6,7 +6,7 @@ use Rattle.std.specs.Str.{bytes_eq}
 use Rattle.nitro_bytes.specs.declared.value.Dest.TheVariants.{Person, Channel}
 use Rattle.channel_calls.specs.Flows.{brings, takes, enters}
 use Rattle.channel_calls.specs.declared.funds.Flow.{Flow}
-use Rattle.running_amounts.specs.Amounts.{amount_in, counted}
+use Rattle.asset_holdings.specs.Amounts.{amount_in, counted}
 
 -- Clauses name of the tables only the amounts, and that they add up.
 pub record Balances : Type 0 where

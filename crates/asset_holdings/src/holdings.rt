@@ -5,13 +5,13 @@ ghost use Rattle.nitro_bytes.specs.declared.value.Dest.TheVariants.{Channel};
 ghost use Rattle.channel_calls.specs.Replies.{deposit};
 ghost use Rattle.std.specs.Prelude.{◌+◌, ◌<◌, ◌^◌, ◌==◌, ℕ, List, if◌then◌else◌};
 ghost use Rattle.indexmap.specs.IndexMap.{spare};
-ghost use Rattle.running_amounts.specs.Amounts.{amount_in, total};
+ghost use Rattle.asset_holdings.specs.Amounts.{amount_in, total};
 ghost use Rattle.asset_holdings.specs.Balances.{amount_held, amount_paid, amount_deposited, same_pair, is_of, AreEmpty, AreSame, HasMoved, AreConserved};
 
+use crate::amounts::{amount, set_amount};
 use channel_calls::Refusal;
 use indexmap::IndexMap;
 use nitro_bytes::{Dest, Name, NoMemory};
-use running_amounts::{amount, set_amount};
 use std::alloc::Global;
 use std::marker::Model;
 

@@ -13,7 +13,7 @@ ghost use Rattle.cast_actors.specs.Equivocates as equivocates;
 use channel_calls::{Call, Entry, Op, Reply, newest};
 use channel_name::{channel_name, state_digest, state_message};
 use nitro_bytes::{AssetOutcome, Dest, Fixed, Key, Listed, NoMemory, Shape, Signed, State};
-use node_wishes::{Payment, state_of};
+use node_signing::{Payment, state_of};
 use outcome_targets::{amt, has};
 use round_model::{Act, Actor, Notes};
 use script_rules::id_of;

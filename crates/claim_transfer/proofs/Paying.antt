@@ -5,8 +5,8 @@ use Rattle.std.proofs.lemmas.Slice.Eq.{bytes_eq-Decides}
 use Rattle.std.specs.Prelude.{◌==◌, ◌&&◌}
 use Rattle.std.specs.Str.{bytes_eq}
 use Rattle.channel_calls.specs.Flows.{pays}
-use Rattle.running_amounts.specs.Amounts.{amount_in}
-use Rattle.running_amounts.proofs.Changes.{raised}
+use Rattle.asset_holdings.specs.Amounts.{amount_in}
+use Rattle.asset_holdings.proofs.Changes.{raised}
 use Rattle.claim_transfer.specs.Payments.{same_item}
 
 and_left : (b d : Bool) → (b && d) ≡ true → b ≡ true

@@ -9,7 +9,7 @@ use Rattle.nitro_bytes.specs.declared.value.Dest.{Dest}
 use Rattle.nitro_bytes.specs.declared.value.Dest.TheVariants.{Person, Channel}
 use Rattle.channel_calls.specs.Flows.{is_person, is_outside, comes_from, carries, brings, takes, enters}
 use Rattle.channel_calls.specs.declared.funds.Flow.{Flow}
-use Rattle.running_amounts.specs.Amounts.{amount_in}
+use Rattle.asset_holdings.specs.Amounts.{amount_in}
 use Rattle.flow_balances.specs.Receipts.{Pair, is_pair, is_there, add_new, receivers_of}
 use Rattle.flow_balances.specs.Tables.{Key, same_key, has, AddsTo, pays_person, AreReceipts, AreSources}
 use Rattle.flow_balances.proofs.Pairs.{both_true, equal_nats, there_new}

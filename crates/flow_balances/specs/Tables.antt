@@ -5,7 +5,7 @@ use Rattle.std.specs.Str.{bytes_eq}
 use Rattle.nitro_bytes.specs.declared.value.Dest.TheVariants.{Person, Channel}
 use Rattle.channel_calls.specs.Flows.{is_person, carries, enters, into, out_of}
 use Rattle.channel_calls.specs.declared.funds.Flow.{Flow}
-use Rattle.running_amounts.specs.Amounts.{amount_in}
+use Rattle.asset_holdings.specs.Amounts.{amount_in}
 use Rattle.flow_balances.specs.Receipts.{Pair, is_there, receivers_of, assets_of}
 
 -- a name and an asset

@@ -1,7 +1,7 @@
 //! Sums by key.
 
 ghost use Rattle.std.specs.Prelude.{◌≡◌, ◌+◌, ◌<◌, ◌^◌, OnOk};
-ghost use Rattle.running_amounts.specs.Amounts.{amount_in};
+ghost use Rattle.asset_holdings.specs.Amounts.{amount_in};
 ghost use Rattle.flow_balances.specs.Tables.{AddsTo};
 
 use channel_calls::Flow;

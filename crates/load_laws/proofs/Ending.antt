@@ -13,11 +13,11 @@ use Rattle.net_world.specs.declared.happening.Happening.TheVariants as happening
 use Rattle.node_model.specs.Minds.{Mind, fresh}
 use Rattle.node_model.specs.Nodes.{NodeOf, new_node, saw_all}
 use Rattle.node_model.specs.Playing.{SignerOf}
-use Rattle.node_ways.specs.Ways.{Numbered, ways}
+use Rattle.node_way_laws.specs.Ways.{Numbered, ways}
 use Rattle.pair_laws.specs.Pair.{Past, Becomes, node}
-use Rattle.pair_play.specs.Finish.{AreTwo, At, Finishes, both}
-use Rattle.pair_play.specs.Rounds.{world}
-use Rattle.pair_play.proofs.Whole.{two_finish_whole}
+use Rattle.pair_play_laws.specs.Finish.{AreTwo, At, Finishes, both}
+use Rattle.pair_play_laws.specs.Rounds.{world}
+use Rattle.pair_play_laws.proofs.Whole.{two_finish_whole}
 use Rattle.script_names.specs.declared.names.Names.{Names}
 use Rattle.script_play.specs.Play.{play, play_steps}
 use Rattle.support_chain.specs.Real.{real}

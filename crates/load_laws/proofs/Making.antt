@@ -13,15 +13,15 @@ use Rattle.chain_laws.proofs.Tests.{lt-true}
 use Rattle.channel_name.specs.Digests.{name_of_person}
 use Rattle.load_script.specs.Load.{key_seed, digest_of, are_two}
 use Rattle.load_script.proofs.Kept.{two_keys, is_fixed}
-use Rattle.node_fairness.proofs.NamesAreNames.{names_are_names, sums}
-use Rattle.node_keys.specs.Keys.{FitsSigner}
-use Rattle.node_keys.proofs.Made.{made_keys_sign_well}
+use Rattle.fairness_laws.proofs.NamesAreNames.{names_are_names, sums}
+use Rattle.node_laws.specs.Keys.{FitsSigner}
+use Rattle.node_laws.proofs.Keys.{made_keys_sign_well}
 use Rattle.node_model.specs.Playing.{SignerOf, signing_of}
-use Rattle.node_ways.specs.Ways.{made_of}
-use Rattle.node_ways.specs.Ways.{key_of as ways_key}
+use Rattle.node_way_laws.specs.Ways.{made_of}
+use Rattle.node_way_laws.specs.Ways.{key_of as ways_key}
 use Rattle.nitro_bytes.specs.Outcomes.{IsName}
 use Rattle.pair_laws.specs.TwoPeople.{fixed}
-use Rattle.pair_play.specs.Finish.{AreMade}
+use Rattle.pair_play_laws.specs.Finish.{AreMade}
 use Rattle.script_names.specs.Meanings.{valid_fixed}
 use Rattle.script_play.proofs.Meant.{id_long}
 use Rattle.script_rules.specs.Digests.{fresh, key_of}

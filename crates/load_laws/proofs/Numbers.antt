@@ -4,8 +4,8 @@ use Rattle.std.specs.Prelude.{◌==◌, ◌^◌, if◌then◌else◌}
 use Rattle.std.specs.Str.{bytes_eq}
 use Rattle.load_script.specs.Load.{amount, drawn}
 use Rattle.node_model.specs.Playing.{signing_of}
-use Rattle.pair_play.specs.Finish.{all_covered, first_has, second_has, signs_first, signs_second, Enough}
-use Rattle.pair_play.proofs.Paying.{turns}
+use Rattle.pair_play_laws.specs.Finish.{all_covered, first_has, second_has, signs_first, signs_second, Enough}
+use Rattle.pair_play_laws.proofs.Paying.{turns}
 use Rattle.load_laws.specs.Paying.{pays}
 use Rattle.load_laws.specs.Paying as told
 use Rattle.load_laws.proofs.Making.{signer_of, limit_is}

@@ -15,18 +15,18 @@ use Rattle.load_script.proofs.Kept.{load_is_kept}
 use Rattle.net_world.specs.Worlds.{WorldOf}
 use Rattle.node_model.specs.Places.{Told, AreFew, told_by}
 use Rattle.node_model.specs.Playing.{signing_of}
-use Rattle.node_shares.proofs.Telling.{nodes_tell_shares}
+use Rattle.node_share_laws.proofs.Telling.{nodes_tell_shares}
 use Rattle.node_tables.specs.Stages.{stages}
-use Rattle.node_ways.proofs.Commanding.{nodes_follow_commands}
-use Rattle.node_ways.proofs.Kept.{nodes_are_kept}
-use Rattle.node_ways.specs.Commanded.{IsToldBy, told}
-use Rattle.node_ways.specs.Gains.{share_known}
-use Rattle.node_ways.specs.Placed.{IsPlaced}
-use Rattle.node_ways.specs.Ways.{Numbered, ways}
+use Rattle.node_way_laws.proofs.Commanding.{nodes_follow_commands}
+use Rattle.node_way_laws.proofs.Kept.{nodes_are_kept}
+use Rattle.node_way_laws.specs.Commanded.{IsToldBy, told}
+use Rattle.node_way_laws.specs.Gains.{share_known}
+use Rattle.node_way_laws.specs.Placed.{IsPlaced}
+use Rattle.node_way_laws.specs.Ways.{Numbered, ways}
 use Rattle.pair_laws.specs.Pair.{is_taken, are_taken}
-use Rattle.pair_play.specs.Finish.{Finishes}
-use Rattle.pair_play.specs.Whole.{IsWhole}
-use Rattle.pair_play.specs.Rounds.{member, world}
+use Rattle.pair_play_laws.specs.Finish.{Finishes}
+use Rattle.pair_play_laws.specs.Whole.{IsWhole}
+use Rattle.pair_play_laws.specs.Rounds.{member, world}
 use Rattle.play_laws.proofs.Played.{plays_are_kept, plays_follow_commands}
 use Rattle.play_report.specs.Reported.{IsPlayed, journal_of, shares_of, events}
 use Rattle.premises.specs.declared.journal.Journal.{Journal}
@@ -40,7 +40,7 @@ use Rattle.script_play.specs.Play.{play, play_steps}
 use Rattle.script_rules.specs.Bounds.{Fits}
 use Rattle.script_rules.specs.declared.step.Step.{Step}
 use Rattle.support_chain.specs.Real.{real}
-use Rattle.told_party.specs.Promised.{share_at_end}
+use Rattle.reported_node.specs.Promised.{share_at_end}
 use Rattle.world_laws.specs.Commanded.{AllFollow}
 use Rattle.world_laws.specs.Standing.{IsWorld}
 use Rattle.net_model.specs.Journals.{In}

@@ -9,12 +9,12 @@ use Rattle.load_script.specs.Load.{key_seed, digest_of, are_two, person, people,
 use Rattle.net_party.specs.Ways.{unlooking}
 use Rattle.net_party.specs.declared.command.Command.TheVariants.{Pay, Close}
 use Rattle.node_model.specs.Nodes.{new_node}
-use Rattle.node_ways.specs.Ways.{Numbered, ways}
+use Rattle.node_way_laws.specs.Ways.{Numbered, ways}
 use Rattle.pair_laws.proofs.Numbers.{no-more}
 use Rattle.pair_laws.specs.TwoPeople.{fixed, name}
-use Rattle.pair_play.specs.Finish.{paying, told_both, asked_both}
-use Rattle.pair_play.specs.Rounds.{world}
-use Rattle.pair_play.proofs.Paying.{turns}
+use Rattle.pair_play_laws.specs.Finish.{paying, told_both, asked_both}
+use Rattle.pair_play_laws.specs.Rounds.{world}
+use Rattle.pair_play_laws.proofs.Paying.{turns}
 use Rattle.script_names.specs.Meanings.{meaning, with_channel, learning}
 use Rattle.script_names.specs.Names.{name_of}
 use Rattle.script_names.specs.declared.names.Names.{Names}

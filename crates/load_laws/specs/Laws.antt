@@ -2,7 +2,7 @@
 use Rattle.std.specs.Prelude.{◌≡◌, ◌≤◌, true, Some}
 use Rattle.load_laws.specs.Paying.{Pays}
 use Rattle.load_script.specs.Load.{are_two, load_steps}
-use Rattle.node_ways.specs.Ways.{ways}
+use Rattle.node_way_laws.specs.Ways.{ways}
 use Rattle.play_report.specs.Reported.{IsPlayed}
 use Rattle.report_text.specs.declared.report.Load.{Load}
 use Rattle.report_text.specs.declared.report.Report.{Report}

@@ -4,7 +4,7 @@ use Rattle.std.specs.Str.{bytes_eq}
 use Rattle.channel_calls.specs.History.{newest_first, paid_to, held_of}
 use Rattle.load_script.specs.Load.{key_seed, digest_of, payer, amount}
 use Rattle.pair_laws.specs.TwoPeople.{Pair}
-use Rattle.pair_play.specs.Whole.{IsWhole}
+use Rattle.pair_play_laws.specs.Whole.{IsWhole}
 use Rattle.report_text.specs.People.{all_refused}
 use Rattle.report_text.specs.declared.report.Load.{Load}
 use Rattle.report_text.specs.declared.report.Report.{Report}

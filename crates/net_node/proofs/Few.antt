@@ -43,7 +43,7 @@ use Rattle.node_refusals.proofs.Taken.{has_room}
 use Rattle.node_tables.specs.Stages.{stages}
 use Rattle.support_chain.specs.Real.{real}
 use Rattle.history_view.specs.Views.{view_of}
-use Rattle.node_ways.specs.Ways.{key_of}
+use Rattle.node_way_laws.specs.Ways.{key_of}
 use Rattle.net_node.specs.Few.{KeepsFew, IsSmall, IsNode}
 
 -- ---- what is known

@@ -23,12 +23,12 @@ use Rattle.node_model.specs.Standing.{Stands}
 use Rattle.node_model.specs.Playing.{Signing, signing_of}
 use Rattle.node_objective.specs.Answers.{SameJournal, HandleAnswers, CommandAnswers}
 use Rattle.node_tables.specs.Stages.{stages}
-use Rattle.node_ways.proofs.Answering.{answers-so}
-use Rattle.node_ways.proofs.Kept.{nodes_are_kept, lost-placed, told-placed}
+use Rattle.node_way_laws.proofs.Answering.{answers-so}
+use Rattle.node_way_laws.proofs.Kept.{nodes_are_kept, lost-placed, told-placed}
 use Rattle.node_model.specs.Exiting.{leaves}
-use Rattle.node_ways.specs.Gains.{shares_known}
-use Rattle.node_ways.specs.Ways.{Numbered, unless_lost, noting_if, ways, seen_of}
-use Rattle.node_ways.specs.Placed.{IsPlaced}
+use Rattle.node_way_laws.specs.Gains.{shares_known}
+use Rattle.node_way_laws.specs.Ways.{Numbered, unless_lost, noting_if, ways, seen_of}
+use Rattle.node_way_laws.specs.Placed.{IsPlaced}
 use Rattle.support_chain.specs.Real.{real}
 use Rattle.net_node.specs.Notes.{note_if}
 

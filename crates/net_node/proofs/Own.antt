@@ -17,7 +17,7 @@ use Rattle.channel_store.specs.Storing.{is_of, place_of, kept_of}
 use Rattle.channel_store.specs.Noting.{refusal_at, refusal_of}
 use Rattle.channel_store.specs.declared.fault.NoteFault.TheVariants as faults
 use Rattle.channel_store.specs.declared.kept.Kept.{Kept}
-use Rattle.node_mind.specs.Owned.{IsOwned, AreOwned}
+use Rattle.node_knowledge.specs.Owned.{IsOwned, AreOwned}
 use Rattle.node_model.specs.Minds.{Mind, facts_of}
 use Rattle.node_model.specs.Refusing.{is_open, stands_in, follows, can_sign, if_signable, signs_of, wish}
 use Rattle.node_objective.specs.Answers.{IsWanted}

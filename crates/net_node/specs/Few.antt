@@ -3,7 +3,7 @@ use Rattle.std.specs.Prelude.{◌≡◌, ◌≤◌, ℕ, List, false, length}
 use Rattle.funding_value.specs.Parts.{channels}
 use Rattle.node_model.specs.Minds.{Mind}
 use Rattle.node_model.specs.Nodes.{NodeOf}
-use Rattle.node_ways.specs.Ways.{key_of}
+use Rattle.node_way_laws.specs.Ways.{key_of}
 
 -- no more than its plan has, which are at most 64
 pub record KeepsFew (m : Mind) : Type 0 where

@@ -1,14 +1,14 @@
 -- The shares of a node that lost nothing and followed the whole history are those of the definition.
 use Rattle.std.proofs.Common.{Bool, cond, sym, ◌∙◌, ap}
 use Rattle.node_model.specs.Playing.{signing_of}
-use Rattle.node_shares.proofs.Telling.{nodes_tell_shares}
+use Rattle.node_share_laws.proofs.Telling.{nodes_tell_shares}
 use Rattle.node_tables.specs.Stages.{stages}
-use Rattle.node_ways.proofs.Kept.{few-values}
-use Rattle.node_ways.specs.Commanded.{told}
-use Rattle.node_ways.specs.Ways.{ways}
-use Rattle.node_ways.specs.Placed.{IsPlaced}
+use Rattle.node_way_laws.proofs.Kept.{few-values}
+use Rattle.node_way_laws.specs.Commanded.{told}
+use Rattle.node_way_laws.specs.Ways.{ways}
+use Rattle.node_way_laws.specs.Placed.{IsPlaced}
 use Rattle.support_chain.specs.Real.{real}
-use Rattle.told_party.specs.Telling.{SharesAreReal}
+use Rattle.reported_node.specs.Telling.{SharesAreReal}
 use Rattle.net_node.specs.Shares.{is_lost, shares}
 
 pub nodes_get : SharesAreReal ways IsPlaced is_lost shares told

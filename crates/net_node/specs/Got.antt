@@ -16,21 +16,21 @@ use Rattle.node_model.specs.Minds.{Mind}
 use Rattle.node_model.specs.Nodes.{told_of}
 use Rattle.node_model.specs.Places.{Told, AreFew, lines_of, mind_at}
 use Rattle.node_model.specs.Playing.{signing_of, Plays, PlaysEvent}
-use Rattle.node_shares.proofs.Telling.{places_tell_shares}
-use Rattle.node_shares.proofs.Unheld.{unheld_is_nothing}
-use Rattle.node_shares.specs.Orders.{orders_of}
-use Rattle.node_shares.specs.Laws.{IsFront, LacksAsset, IsUnheld}
+use Rattle.node_share_laws.proofs.Telling.{places_tell_shares}
+use Rattle.node_share_laws.proofs.Unheld.{unheld_is_nothing}
+use Rattle.node_share_laws.specs.Orders.{orders_of}
+use Rattle.node_share_laws.specs.Laws.{IsFront, LacksAsset, IsUnheld}
 use Rattle.node_tables.specs.Stages.{stages}
-use Rattle.node_ways.proofs.Kept.{few-values}
+use Rattle.node_way_laws.proofs.Kept.{few-values}
 use Rattle.node_model.specs.Exiting.{until_exit}
-use Rattle.node_ways.specs.Gains.{share_known, shares_in, shares_known}
-use Rattle.node_ways.specs.Commanded.{told}
-use Rattle.node_ways.specs.Ways.{Numbered, key_of, ways}
-use Rattle.node_ways.specs.Placed.{seen_at, IsKnownAt, IsNoted, IsPlaced}
+use Rattle.node_way_laws.specs.Gains.{share_known, shares_in, shares_known}
+use Rattle.node_way_laws.specs.Commanded.{told}
+use Rattle.node_way_laws.specs.Ways.{Numbered, key_of, ways}
+use Rattle.node_way_laws.specs.Placed.{seen_at, IsKnownAt, IsNoted, IsPlaced}
 use Rattle.share_model.specs.Places.{share}
 use Rattle.support_chain.specs.Real.{real}
-use Rattle.told_party.specs.Promised.{past_at, share_after}
-use Rattle.told_party.specs.Telling.{amount_then, AreThose, ExitsAreReal}
+use Rattle.reported_node.specs.Promised.{past_at, share_after}
+use Rattle.reported_node.specs.Telling.{amount_then, AreThose, ExitsAreReal}
 use Rattle.net_node.specs.Leaving.{EndsWith, ends-with}
 use Rattle.net_node.specs.Shares.{is_lost, exits}
 

@@ -3,17 +3,17 @@ use Rattle.std.proofs.Common.{inl}
 use Rattle.std.specs.Prelude.{List}
 use Rattle.channel_calls.specs.declared.entry.Entry.{Entry}
 use Rattle.net_model.specs.Occurring.{AreValid}
-use Rattle.node_fairness.proofs.Kept.{plans_keep_shares, nodes_sign_fairly}
-use Rattle.node_fairness.proofs.Plans.{valid-few}
-use Rattle.node_keys.proofs.Made.{made_keys_sign_well}
+use Rattle.fairness_laws.proofs.Kept.{plans_keep_shares, nodes_sign_fairly}
+use Rattle.fairness_laws.proofs.Plans.{valid-few}
+use Rattle.node_laws.proofs.Keys.{made_keys_sign_well}
 use Rattle.node_model.specs.Nodes.{told_of}
 use Rattle.node_model.specs.Playing.{signing_of, Plays}
 use Rattle.node_tables.specs.Stages.{stages}
-use Rattle.node_ways.specs.Commanded.{told}
-use Rattle.node_ways.specs.Ways.{Numbered, ways}
-use Rattle.node_ways.specs.Placed.{IsPlaced}
+use Rattle.node_way_laws.specs.Commanded.{told}
+use Rattle.node_way_laws.specs.Ways.{Numbered, ways}
+use Rattle.node_way_laws.specs.Placed.{IsPlaced}
 use Rattle.support_chain.specs.Real.{real}
-use Rattle.told_party.specs.Telling.{KeepsShares}
+use Rattle.reported_node.specs.Telling.{KeepsShares}
 use Rattle.net_node.specs.Leaving.{paid_on_exit}
 
 plays-so : (h : List Entry) (p : Numbered) → IsPlaced h p → AreValid h (ways.lines p) → Plays stages real (signing_of p.node.signer) h (told_of p.node)

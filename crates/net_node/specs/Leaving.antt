@@ -16,20 +16,20 @@ use Rattle.net_model.proofs.Members.{In-append_right}
 use Rattle.net_model.specs.Journals.{In, Line, is_followed, is_watched}
 use Rattle.net_party.specs.declared.command.Command.{Command}
 use Rattle.net_party.specs.declared.command.Command.TheVariants.{Open, OpenOn, OpenVirtual, Pay, Close, Exit}
-use Rattle.network_exits.specs.Keeping.{LeaversArePaid}
+use Rattle.net_share_laws.specs.Keeping.{LeaversArePaid}
 use Rattle.node_laws.proofs.Bridging.{In-lines, plays-at, plays-rises}
 use Rattle.node_laws.proofs.Exits.{played_journals_leave_for_good}
 use Rattle.node_laws.specs.Exits.{LeavesForGood, is_exit as is_exit_deed}
 use Rattle.node_model.specs.Places.{Told, lines_of}
 use Rattle.node_model.specs.Playing.{Signing, Plays, PlaysEvent}
-use Rattle.node_shares.specs.Orders.{orders_of}
+use Rattle.node_share_laws.specs.Orders.{orders_of}
 use Rattle.node_tables.specs.Stages.{stages}
 use Rattle.node_model.specs.Exiting.{leaves_by, is_exit, until_exit}
 use Rattle.share_laws.specs.Lines.{SignNothing}
 use Rattle.share_model.specs.Kept.{is_signing}
 use Rattle.share_model.specs.Places.{IsPlace}
 use Rattle.support_chain.specs.Real.{real}
-use Rattle.told_party.specs.Promised.{past_at, IsPaidOnExit}
+use Rattle.reported_node.specs.Promised.{past_at, IsPaidOnExit}
 
 -- the events up to an exit are the last of the journal
 pub record EndsWith (journal front : List Told) : Type 0 where

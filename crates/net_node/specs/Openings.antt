@@ -7,9 +7,9 @@ use Rattle.channel_calls.specs.declared.event.Event.{Event}
 use Rattle.net_party.specs.declared.command.Command.{Command}
 use Rattle.node_model.specs.Openings.{opened_by, takes_part}
 use Rattle.node_model.specs.Places.{tell, told, is_commanded, lines_of}
-use Rattle.node_ways.specs.Commanded.{told as told_events}
-use Rattle.node_ways.specs.Ways.{Numbered, ways}
-use Rattle.told_party.specs.Telling.{AreTold, HaveFixed, LinesAreTold}
+use Rattle.node_way_laws.specs.Commanded.{told as told_events}
+use Rattle.node_way_laws.specs.Ways.{Numbered, ways}
+use Rattle.reported_node.specs.Telling.{AreTold, HaveFixed, LinesAreTold}
 
 -- ---- the events
 

@@ -10,7 +10,7 @@ use Rattle.channel_model.specs.Rules.{Rules}
 use Rattle.channel_store.specs.Storing.{kept_of}
 use Rattle.channel_store.specs.declared.kept.Kept.{Kept}
 use Rattle.net_party.specs.declared.command.Command.{Command}
-use Rattle.node_keys.proofs.Made.{made_keys_sign_well}
+use Rattle.node_laws.proofs.Keys.{made_keys_sign_well}
 use Rattle.node_laws.proofs.Bridging.{plays-at}
 use Rattle.node_laws.proofs.Exits.{played_journals_leave_for_good}
 use Rattle.node_model.specs.Minds.{Mind, facts_of}
@@ -20,13 +20,13 @@ use Rattle.node_model.specs.Playing.{Signing, signing_of, signings, pending, All
 use Rattle.node_model.specs.Refusing.{not_open, wish_staying, if_signable, signs_of, signs_in}
 use Rattle.node_model.specs.Tables.{Tables}
 use Rattle.node_tables.specs.Stages.{stages}
-use Rattle.node_ways.proofs.Kept.{few-values}
-use Rattle.node_ways.specs.Commanded.{told}
-use Rattle.node_ways.specs.Ways.{ways}
-use Rattle.node_ways.specs.Placed.{IsPlaced}
+use Rattle.node_way_laws.proofs.Kept.{few-values}
+use Rattle.node_way_laws.specs.Commanded.{told}
+use Rattle.node_way_laws.specs.Ways.{ways}
+use Rattle.node_way_laws.specs.Placed.{IsPlaced}
 use Rattle.share_model.specs.Kept.{is_signing}
 use Rattle.support_chain.specs.Real.{real}
-use Rattle.told_party.specs.Telling.{JournalsAreByRules}
+use Rattle.reported_node.specs.Telling.{JournalsAreByRules}
 
 -- what no payment made is signed only while all is open
 signs-open : (t : Tables) (r : Rules) (m : Mind) (channel : List ℕ) (state : StateParts) → signs_in t r None m channel ≡ Some state → not_open t (facts_of m) ≡ None

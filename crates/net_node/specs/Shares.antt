@@ -1,7 +1,7 @@
 -- What is told of a node: what its person can get, and its events with their commands.
 use Rattle.std.specs.Prelude.{ℕ, Bool, List, Option}
-use Rattle.node_ways.specs.Gains.{share_known}
-use Rattle.node_ways.specs.Ways.{Numbered}
+use Rattle.node_way_laws.specs.Gains.{share_known}
+use Rattle.node_way_laws.specs.Ways.{Numbered}
 
 abbrev pub shares : Numbered → ℕ → ℕ
 shares p asset = share_known p.node.mind asset

@@ -4,10 +4,10 @@ ghost use Rattle.std.specs.Prelude.{◌≡◌, ◌+◌, ◌<◌, ◌^◌, true, 
 ghost use Rattle.std.specs.List.{flat_map};
 ghost use Rattle.channel_store.specs.Keeping.{held_chain};
 ghost use Rattle.channel_store.specs.Noting.{refusal_of};
-ghost use Rattle.node_mind.specs.Owned.{AreOwned};
+ghost use Rattle.node_knowledge.specs.Owned.{AreOwned};
 ghost use Rattle.node_model.specs.Minds.{fresh, noted};
 ghost use Rattle.node_tables.specs.Stages.{stages};
-ghost use Rattle.node_ways.specs.Ways.{made_of, key_of};
+ghost use Rattle.node_way_laws.specs.Ways.{made_of, key_of};
 ghost use Rattle.sign_index.specs.Made.{made_bytes};
 ghost use Rattle.sign_index.specs.Signing.{IsHeight};
 ghost use Rattle.support_chain.specs.Real.{real};
@@ -17,10 +17,10 @@ use channel_calls::{Call, Entry, HeldChain, NodeRefusal};
 use channel_name::{challenge_message, state_digest, state_message};
 use net_party::Command;
 use nitro_bytes::{Listed, Name, NoMemory, Signed, State};
-use node_mind::Known;
+use node_knowledge::Known;
 use node_objective::{Knowing, OwnChallenge};
 use node_refusals::command_refusal;
-use node_wishes::{handle, paying, signable};
+use node_signing::{handle, paying, signable};
 use sign_index::{SignFault, Signer};
 use std::alloc::Global;
 use std::marker::Model;
@@ -36,7 +36,7 @@ pub struct Mind {
 impl Model for Mind {
     ghost use Rattle.std.specs.Prelude.{◌≡◌, ◌^◌};
     ghost use Rattle.net_node.specs.Minds.{MindOf};
-    ghost use Rattle.node_ways.specs.Ways.{made_of, key_of};
+    ghost use Rattle.node_way_laws.specs.Ways.{made_of, key_of};
 
     ghost Value = { MindOf };
 

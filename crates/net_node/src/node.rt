@@ -6,11 +6,11 @@ ghost use Rattle.net_party.specs.Ways.{followed, looked};
 ghost use Rattle.node_model.specs.Minds.{facts_of};
 ghost use Rattle.node_model.specs.Nodes.{NodeOf, new_node, saw_all};
 ghost use Rattle.node_objective.specs.Answers.{SameJournal};
-ghost use Rattle.node_ways.proofs.Kept.{nodes_are_kept};
+ghost use Rattle.node_way_laws.proofs.Kept.{nodes_are_kept};
 ghost use Rattle.node_model.specs.Exiting.{leaves};
-ghost use Rattle.node_ways.specs.Gains.{shares_known};
-ghost use Rattle.node_ways.specs.Ways.{ways};
-ghost use Rattle.node_ways.specs.Placed.{IsPlaced};
+ghost use Rattle.node_way_laws.specs.Gains.{shares_known};
+ghost use Rattle.node_way_laws.specs.Ways.{ways};
+ghost use Rattle.node_way_laws.specs.Placed.{IsPlaced};
 ghost use Rattle.net_node.specs.Notes.{note_if};
 ghost use Rattle.net_node.specs.Shares.{is_lost};
 ghost use Rattle.std.specs.Option.{option_map};
@@ -37,7 +37,7 @@ pub struct Node {
 }
 
 impl Model for Node {
-    ghost use Rattle.node_ways.specs.Ways.{Numbered};
+    ghost use Rattle.node_way_laws.specs.Ways.{Numbered};
     ghost use Rattle.net_node.specs.Few.{IsNode};
 
     ghost Value = { Numbered };
@@ -145,7 +145,7 @@ impl Node {
     }
 
     /// All that it knows.
-    pub(crate) fn mind(&self) -> &node_mind::Known
+    pub(crate) fn mind(&self) -> &node_knowledge::Known
         ensures { result.now ≡ self.now.node.mind }
     {
         self.node.mind().known()

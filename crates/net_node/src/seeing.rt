@@ -6,7 +6,7 @@ ghost use Rattle.channel_calls.specs.Naming.{name_of};
 ghost use Rattle.channel_calls.specs.Rows.{fixed_of};
 ghost use Rattle.history_view.specs.Views.{view_of};
 ghost use Rattle.history_view.specs.Room.{CanFollow};
-ghost use Rattle.node_mind.specs.Shown.{HasFew, FewIn, CanSee};
+ghost use Rattle.node_knowledge.specs.Shown.{HasFew, FewIn, CanSee};
 
 use channel_calls::{Call, Entry, Op, WorldView};
 use channel_name::channel_name;

@@ -2,11 +2,11 @@
 
 ghost use Rattle.std.specs.Prelude.{◌≡◌, ◌++◌, IfOk, OnOk};
 ghost use Rattle.std.specs.List.{flat_map};
-ghost use Rattle.node_ways.specs.Gains.{share_known, shares_in, shares_known};
+ghost use Rattle.node_way_laws.specs.Gains.{share_known, shares_in, shares_known};
 
 use channel_calls::ChannelView;
 use nitro_bytes::{Listed, NoMemory};
-use node_mind::Known;
+use node_knowledge::Known;
 use std::alloc::Global;
 
 /// What it can get of an asset.

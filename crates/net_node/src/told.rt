@@ -3,9 +3,9 @@
 ghost use Rattle.std.specs.List.{AllByRecursion};
 ghost use Rattle.nitro_bytes.specs.Parts.{IsFixed};
 ghost use Rattle.node_model.specs.Openings.{opened_by};
-ghost use Rattle.node_ways.proofs.Commanding.{nodes_follow_commands};
-ghost use Rattle.node_ways.proofs.Kept.{nodes_are_kept};
-ghost use Rattle.node_ways.specs.Commanded.{told};
+ghost use Rattle.node_way_laws.proofs.Commanding.{nodes_follow_commands};
+ghost use Rattle.node_way_laws.proofs.Kept.{nodes_are_kept};
+ghost use Rattle.node_way_laws.specs.Commanded.{told};
 ghost use Rattle.net_node.specs.Gets.{nodes_get};
 ghost use Rattle.net_node.specs.Got.{nodes_got};
 ghost use Rattle.net_node.specs.Holds.{nodes_hold};
@@ -17,7 +17,7 @@ use crate::node::Node;
 use crate::sharing::share_known;
 use net_party::Command;
 use nitro_bytes::{Fixed, NoMemory};
-use told_party::ToldParty;
+use reported_node::ReportedNode;
 
 fn fixed_is_valid(fixed: &Fixed)
     ensures { IsFixed fixed.now }
@@ -55,7 +55,7 @@ fn all_openings_are_valid(commands: &[Command])
     }
 }
 
-impl ToldParty for Node {
+impl ReportedNode for Node {
     ghost shares = { shares };
 
     ghost exits = { exits };

@@ -14,3 +14,4 @@ pub mod Exits
 pub mod Ticking
 pub mod Calling
 pub mod Stored
+pub mod Keys

@@ -1,3 +1,4 @@
 pub mod Laws
 pub mod Stored
 pub mod Exits
+pub mod Keys

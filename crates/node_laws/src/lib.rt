@@ -1,9 +1,10 @@
-//! Laws alone: what a node's mind keeps is what is held, and its journal is honest, whatever its stages are. Each function
-//! is empty: its contract is the law.
+//! Laws alone: what a node's mind keeps is what is held, and its journal is honest, whatever its stages are; keys that are made
+//! of a seed sign well. Each function is empty: its contract is the law.
 #![tactic(auto)]
 
 ghost use Rattle.node_laws.specs.Stored.{RefusedAsNoted};
 ghost use Rattle.node_laws.specs.Laws.{CallsKeepStanding, FollowsWithin, FreshNodesStand, KeptIsHeld, LostNodesStand, PlayedJournalsAreHonest, PlayedJournalsLeaveForGood, StandingGrows, StandingNodesAreHonest};
+ghost use Rattle.node_laws.specs.Keys.{MadeKeysSignWell, MadeNodesAreHonest};
 
 /// What a node's rules keep of a channel at a place of a legal history and a journal is what is held of it there.
 pub fn kept_is_held()
@@ -54,4 +55,14 @@ pub fn follows_within()
 /// The lines of a message's table that are about its state are the faults of a note, in their order.
 pub fn refused_as_noted()
     ensures { RefusedAsNoted }
+{}
+
+/// Each signature of a key that is made of a seed verifies, as often as it signs.
+pub fn made_keys_sign_well()
+    ensures { MadeKeysSignWell }
+{}
+
+/// The journal of a node with such a key is honest over every legal history that it stands for, with no premise besides.
+pub fn made_nodes_are_honest()
+    ensures { MadeNodesAreHonest }
 {}

@@ -16,7 +16,7 @@ use Rattle.funding_value.specs.declared.plan.Part.TheVariants.{Root, OnLedger, E
 use Rattle.node_model.specs.Minds.{Mind}
 use Rattle.node_model.specs.Openings.{takes_part, opened, are_apart}
 use Rattle.node_model.specs.Refusing.{is_planned, are_new}
-use Rattle.node_mind.specs.Taking.{joined, CanJoin, CanOpen}
+use Rattle.node_knowledge.specs.Taking.{joined, CanJoin, CanOpen}
 use Rattle.support_chain.specs.Real.{real}
 use Rattle.node_refusals.proofs.Tests.{left_true, right_true, left_false, right_false, not_true}
 

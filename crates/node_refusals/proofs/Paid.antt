@@ -14,7 +14,7 @@ use Rattle.net_party.specs.declared.command.Command.TheVariants.{Pay}
 use Rattle.node_model.specs.Minds.{Mind, facts_of}
 use Rattle.node_model.specs.Refusing.{has_left, not_open, not_running, part_joined, latest_outcome, is_payable, pay_refusal, command_refusal}
 use Rattle.node_tables.specs.Stages.{stages}
-use Rattle.node_wishes.specs.Paying.{IsPayable}
+use Rattle.node_signing.specs.Paying.{IsPayable}
 use Rattle.support_chain.specs.Real.{real}
 use Rattle.node_refusals.proofs.Tests.{not_false, first_none, others_none, not_broken}
 

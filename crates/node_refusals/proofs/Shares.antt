@@ -7,7 +7,7 @@ use Rattle.nitro_bytes.specs.Parts.{FixedParts}
 use Rattle.channel_calls.specs.Flows.{is_among}
 use Rattle.channel_calls.proofs.Names.{same_bytes}
 use Rattle.funding_value.specs.Known.{FactsOf}
-use Rattle.node_mind.specs.Taking.{CanShare}
+use Rattle.node_knowledge.specs.Taking.{CanShare}
 use Rattle.node_tables.specs.Fitting.{stake, can_share, fits_between, fits_on_ledger, is_channel_of, are_channels_of, is_double_small, both_lend, fits_among, fits_virtual}
 use Rattle.node_tables.specs.Ledgers.{are_same, lends}
 use Rattle.support_chain.specs.Steps.{persons}

@@ -11,7 +11,7 @@ use Rattle.node_model.specs.Minds.{Mind, facts_of}
 use Rattle.node_model.specs.Openings.{opened_by, ledgers_for}
 use Rattle.node_model.specs.Refusing.{has_left, not_open, unfinished, are_new, can_open, are_planned, open_refusal, command_refusal}
 use Rattle.node_model.specs.Tables.{Tables}
-use Rattle.node_mind.specs.Taking.{CanTake, CanOpen}
+use Rattle.node_knowledge.specs.Taking.{CanTake, CanOpen}
 use Rattle.node_tables.specs.Fitting.{fits}
 use Rattle.node_tables.specs.Stages.{stages}
 use Rattle.support_chain.specs.Real.{real}

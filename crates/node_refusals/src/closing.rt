@@ -8,8 +8,8 @@ use crate::unfinished::unfinished;
 use channel_calls::NodeRefusal;
 use funding_value::{Facts, Part};
 use nitro_bytes::Name;
-use node_mind::Known;
-use node_wishes::{has_left, not_open, not_running, part_with};
+use node_knowledge::Known;
+use node_signing::{has_left, not_open, not_running, part_with};
 use plan_stages::stage;
 
 /// The part stands on the channel and isn't closed.

@@ -2,7 +2,7 @@
 
 ghost use Rattle.std.specs.Prelude.{◌≡◌, None, IfOk};
 ghost use Rattle.node_model.specs.Refusing.{command_refusal};
-ghost use Rattle.node_mind.specs.Taking.{CanTake};
+ghost use Rattle.node_knowledge.specs.Taking.{CanTake};
 ghost use Rattle.node_tables.specs.Stages.{stages};
 ghost use Rattle.support_chain.specs.Real.{real};
 
@@ -11,8 +11,8 @@ use crate::opening::open_refusal;
 use channel_calls::NodeRefusal;
 use net_party::Command;
 use nitro_bytes::NoMemory;
-use node_mind::Known;
-use node_wishes::pay_refusal;
+use node_knowledge::Known;
+use node_signing::pay_refusal;
 
 fn refusal_of(
     known: &Known,

@@ -13,9 +13,9 @@ use channel_calls::NodeRefusal;
 use funding_value::Facts;
 use net_party::Command;
 use nitro_bytes::{Fixed, Key, Name};
-use node_mind::{Known, name_of, place_among, takes_part};
+use node_knowledge::{Known, name_of, place_among, takes_part};
+use node_signing::{has_left, not_open};
 use node_tables::fits;
-use node_wishes::{has_left, not_open};
 
 /// The names of the channels that a command opens are new.
 fn opens_new(known: &Known, command: &Command) -> bool

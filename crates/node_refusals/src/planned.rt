@@ -9,7 +9,7 @@ ghost use Rattle.node_model.specs.Refusing.{is_planned, are_new, are_planned};
 
 use funding_value::Part;
 use nitro_bytes::Name;
-use node_mind::Known;
+use node_knowledge::Known;
 use node_tables::is_among;
 
 fn channels_in(part: &Part) -> u32

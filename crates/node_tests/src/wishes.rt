@@ -4,8 +4,8 @@ use crate::messages::{amounts, key_of, state_of};
 use channel_calls::NodeRefusal;
 use channel_name::person_name;
 use nitro_bytes::{ByteFault, Dest, NoMemory};
-use node_mind::Known;
-use node_wishes::{Payment, handle, pay_refusal, signable, state_of as paid_state};
+use node_knowledge::Known;
+use node_signing::{Payment, handle, pay_refusal, signable, state_of as paid_state};
 use std::alloc::Global;
 use std::test::Fail;
 

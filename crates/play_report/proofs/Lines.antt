@@ -5,8 +5,8 @@ use Rattle.std.specs.List.{AllByRecursion}
 use Rattle.nitro_bytes.specs.Parts.{FixedParts, IsFixed}
 use Rattle.channel_calls.specs.declared.event.Event.{Event}
 use Rattle.net_model.specs.Journals.{Line, lines}
-use Rattle.network_laws.specs.Valid.{AddsFixed}
-use Rattle.told_party.specs.Telling.{AreTold, HaveFixed}
+use Rattle.net_laws.specs.Valid.{AddsFixed}
+use Rattle.reported_node.specs.Telling.{AreTold, HaveFixed}
 
 -- what the line adds that has so many before it
 pub adds_in : List Line → ℕ → List FixedParts

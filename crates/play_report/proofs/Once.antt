@@ -15,7 +15,7 @@ use Rattle.report_text.specs.declared.report.Share.{Share}
 use Rattle.script_play.specs.Play.{SceneOf}
 use Rattle.net_party.specs.Ways.{Ways}
 use Rattle.net_party.specs.declared.command.Command.{Command}
-use Rattle.told_party.specs.Promised.{Pairwise, share_at_end, share_after}
+use Rattle.reported_node.specs.Promised.{Pairwise, share_at_end, share_after}
 use Rattle.play_report.specs.Reported.{IsJudged, AreJudged, shares_of, exits_after, events, Tells}
 
 same-word : (a b : Bool) (Q : Type 0) → IsTrue a ↔ Q → IsTrue b ↔ Q → a ≡ b

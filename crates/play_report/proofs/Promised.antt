@@ -19,8 +19,8 @@ use Rattle.net_model.specs.Valid.{IsValidEntry, IsValidEvent}
 use Rattle.net_party.specs.Ways.{Ways}
 use Rattle.net_party.specs.declared.command.Command.{Command}
 use Rattle.net_world.specs.Members.{MemberOf}
-use Rattle.network_laws.proofs.Real.{network-safe}
-use Rattle.network_laws.proofs.Valid.{events-valid}
+use Rattle.net_laws.proofs.Real.{network-safe}
+use Rattle.net_laws.proofs.Valid.{events-valid}
 use Rattle.node_model.specs.Named.{named_by, named_in}
 use Rattle.node_laws.proofs.Bridging.{In-lines}
 use Rattle.node_model.specs.Openings.{adds, opened_by, takes_part}
@@ -40,8 +40,8 @@ use Rattle.script_play.specs.Play.{SceneOf, play}
 use Rattle.script_rules.specs.Bounds.{Fits}
 use Rattle.script_rules.specs.declared.step.Step.{Step}
 use Rattle.support_chain.specs.Real.{real}
-use Rattle.told_party.specs.Promised.{Pairwise, share_at_end, share_after, IsByRules, IsHonest, StaysSafe, SignsFairly, KeepsShare, IsPaidOnExit}
-use Rattle.told_party.specs.Telling.{AreTold, HaveFixed, LinesAreTold, IsToldBy, TellsCommands, amount_then, AreThose, SharesAreReal, ExitsAreReal, JournalsAreByRules, KeepsIf, KeepsShares}
+use Rattle.reported_node.specs.Promised.{Pairwise, share_at_end, share_after, IsByRules, IsHonest, StaysSafe, SignsFairly, KeepsShare, IsPaidOnExit}
+use Rattle.reported_node.specs.Telling.{AreTold, HaveFixed, LinesAreTold, IsToldBy, TellsCommands, amount_then, AreThose, SharesAreReal, ExitsAreReal, JournalsAreByRules, KeepsIf, KeepsShares}
 use Rattle.world_laws.specs.Standing.{AreKept, IsWorld}
 use Rattle.play_report.proofs.Lines.{adds_in, lines_told, adds_fixed}
 use Rattle.play_report.proofs.Pairs.{all_reverse, in_all}

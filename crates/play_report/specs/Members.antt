@@ -13,7 +13,7 @@ use Rattle.report_text.specs.declared.report.Load.{Load}
 use Rattle.report_text.specs.declared.report.Report.{Report}
 use Rattle.script_names.specs.declared.names.Names.{Names}
 use Rattle.script_play.specs.Play.{SceneOf}
-use Rattle.told_party.specs.Telling.{HaveFixed}
+use Rattle.reported_node.specs.Telling.{HaveFixed}
 
 -- what the commands of the nodes add to their plans are fixed parts
 abbrev pub AllFixed : {P : Type 0} → Ways P → List (MemberOf P) → Type 0

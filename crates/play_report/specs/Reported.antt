@@ -24,7 +24,7 @@ use Rattle.report_text.specs.declared.report.Share.{Share}
 use Rattle.script_names.specs.Commands.{command_of}
 use Rattle.script_play.specs.Play.{SceneOf, play}
 use Rattle.script_rules.specs.declared.step.Step.{Step}
-use Rattle.told_party.specs.Promised.{Pairwise, share_at_end, share_after, IsHonest, StaysSafe, SignsFairly, KeepsShare, IsPaidOnExit}
+use Rattle.reported_node.specs.Promised.{Pairwise, share_at_end, share_after, IsHonest, StaysSafe, SignsFairly, KeepsShare, IsPaidOnExit}
 
 -- ---- premises
 

@@ -4,7 +4,7 @@ use Rattle.channel_name.specs.Digests.{name_of_person}
 use Rattle.net_party.specs.Ways.{Ways}
 use Rattle.play_report.specs.Reported.{shares_of}
 use Rattle.report_text.specs.declared.report.Share.{Share}
-use Rattle.told_party.specs.Telling.{amount_then}
+use Rattle.reported_node.specs.Telling.{amount_then}
 
 -- the amount of each of these assets, 0 where there is none
 abbrev pub exits_for : (person : List ℕ) → (assets : List ℕ) → List (ℕ × ℕ) → List Share

@@ -21,12 +21,12 @@ use net_world::{Docket, Member};
 use nitro_bytes::{Listed, NoMemory};
 use premises::Journal;
 use report_text::{Load, Report, Share, assets_of};
+use reported_node::ReportedNode;
 use script_names::Names;
 use script_play::{Scene, play};
 use script_rules::{STEP_LIMIT, Step};
 use sign_index::Signer;
 use std::alloc::Global;
-use told_party::ToldParty;
 
 /// What is told of the people with nodes, in their order: their journals, what each can get of each asset, and what it
 /// could when it was commanded to exit.
@@ -38,7 +38,7 @@ struct Tales {
 }
 
 /// What is told of people whose nodes have followed the whole history.
-fn tales_of<P: ToldParty>(
+fn tales_of<P: ReportedNode>(
     alloc: Global,
     history: &[Entry],
     members: &[Member<P>],
@@ -68,7 +68,7 @@ fn tales_of<P: ToldParty>(
 
 /// The report of these parts of a scene: what names stand for, how long the history was after each round, the entries in the
 /// order of time, and the nodes; with a note of the load that its script was made of, if it was.
-pub fn report_of<P: ToldParty>(
+pub fn report_of<P: ReportedNode>(
     alloc: Global,
     names: Names,
     rounds: Listed<u32>,
@@ -97,7 +97,7 @@ pub fn report_of<P: ToldParty>(
 
 /// Plays the steps, and tells what came of them. The signers are those of the people that the steps declare. Of a load the
 /// report notes what it was made from.
-pub fn report_play<P: ToldParty, D: Docket>(
+pub fn report_play<P: ReportedNode, D: Docket>(
     alloc: Global,
     steps: &[Step],
     signers: Vec<Signer>,

@@ -3,24 +3,24 @@
 ghost use Rattle.std.specs.Prelude.{◌≡◌, ◌++◌, flat_map, IfOk, OnOk, IsTrue};
 ghost use Rattle.play_report.specs.Members.{AllFollowed};
 ghost use Rattle.play_report.specs.Shares.{HasFollowed, known_shares, exits_for, known_exits};
-ghost use Rattle.told_party.specs.Telling.{amount_then};
+ghost use Rattle.reported_node.specs.Telling.{amount_then};
 
 use channel_name::person_name;
 use net_party::Party;
 use net_world::Member;
 use nitro_bytes::{Name, NoMemory};
 use report_text::Share;
+use reported_node::ReportedNode;
 use std::alloc::Global;
-use told_party::ToldParty;
 
-fn has_followed<P: ToldParty>(node: &P, count: usize) -> bool
+fn has_followed<P: ReportedNode>(node: &P, count: usize) -> bool
     ensures { IsTrue result → HasFollowed P.ways P.lost count node.now }
 {
     !node.is_lost() && node.seen() as usize == count
 }
 
 /// Each node has followed so many entries; else memory ran out.
-pub(crate) fn have_followed<P: ToldParty>(
+pub(crate) fn have_followed<P: ReportedNode>(
     members: &[Member<P>],
     count: usize,
 ) -> Result<(), NoMemory>
@@ -36,7 +36,11 @@ pub(crate) fn have_followed<P: ToldParty>(
 
 /// Adds what a person can get of each of these assets.
 #[tactic(auto, using(premises::proofs::Adding::map_step))]
-fn add_shares<P: ToldParty>(all: &mut Vec<Share>, assets: &[u32], node: &P) -> Result<(), NoMemory>
+fn add_shares<P: ReportedNode>(
+    all: &mut Vec<Share>,
+    assets: &[u32],
+    node: &P,
+) -> Result<(), NoMemory>
     ensures { OnOk result (all.new.items ≡ all.old.items ++ known_shares P.ways P.shares assets.now node.now) }
 {
     let person = person_name(node.key());
@@ -53,7 +57,7 @@ fn add_shares<P: ToldParty>(all: &mut Vec<Share>, assets: &[u32], node: &P) -> R
 
 /// What each person with a node can get of each of these assets.
 #[tactic(auto, using(premises::proofs::Adding::joined_step))]
-pub(crate) fn shares_of<P: ToldParty>(
+pub(crate) fn shares_of<P: ReportedNode>(
     alloc: Global,
     assets: &[u32],
     members: &[Member<P>],
@@ -101,7 +105,11 @@ fn add_amounts(
 
 /// Adds what a person could get when it was commanded to exit, if it was.
 #[tactic(auto, using(premises::proofs::Adding::nothing_more))]
-fn add_exits<P: ToldParty>(all: &mut Vec<Share>, assets: &[u32], node: &P) -> Result<(), NoMemory>
+fn add_exits<P: ReportedNode>(
+    all: &mut Vec<Share>,
+    assets: &[u32],
+    node: &P,
+) -> Result<(), NoMemory>
     ensures { OnOk result (all.new.items ≡ all.old.items ++ known_exits P.ways P.exits assets.now node.now) }
 {
     match node.exit_shares() {
@@ -112,7 +120,7 @@ fn add_exits<P: ToldParty>(all: &mut Vec<Share>, assets: &[u32], node: &P) -> Re
 
 /// What each person with a node could get when it was commanded to exit.
 #[tactic(auto, using(premises::proofs::Adding::joined_step))]
-pub(crate) fn exits_of<P: ToldParty>(
+pub(crate) fn exits_of<P: ReportedNode>(
     alloc: Global,
     assets: &[u32],
     members: &[Member<P>],

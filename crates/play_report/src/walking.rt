@@ -12,8 +12,8 @@ use net_party::Party;
 use net_world::Member;
 use nitro_bytes::{Listed, NoMemory};
 use premises::Journal;
+use reported_node::ReportedNode;
 use std::alloc::Global;
-use told_party::ToldParty;
 
 fn copy_events(alloc: Global, events: &[Event]) -> Result<Vec<Event>, NoMemory>
     ensures { IfOk result (λ copies. copies.items ≡ events.now) }
@@ -64,7 +64,7 @@ pub(crate) fn journals_are_valid(journals: &[Journal])
 }
 
 /// The fixed parts that the commands of the nodes add are such as their type promises.
-pub(crate) fn openings_are_fixed<P: ToldParty>(members: &[Member<P>])
+pub(crate) fn openings_are_fixed<P: ReportedNode>(members: &[Member<P>])
     ensures { AllFixed P.ways members.now }
 {
     for person in members {

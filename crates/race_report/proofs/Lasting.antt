@@ -15,9 +15,9 @@ use Rattle.node_model.specs.Openings.{adds, opened_by}
 use Rattle.node_model.specs.Places.{Told, tell, command_for, told_by, line_of, lines_of}
 use Rattle.play_report.proofs.Pairs.{in_all}
 use Rattle.play_report.proofs.Promised.{by_command}
-use Rattle.race_commands.specs.Laws.{Lasts}
-use Rattle.race_nodes.specs.Races.{OpensLasting}
-use Rattle.told_party.specs.Telling.{HaveFixed}
+use Rattle.race_command_laws.specs.Laws.{Lasts}
+use Rattle.race_node_laws.specs.Races.{OpensLasting}
+use Rattle.reported_node.specs.Telling.{HaveFixed}
 
 abbrev LastsAll : (ℕ → Option Command) → Type 0
 LastsAll commands = (step : ℕ) (command : Command) → commands step ≡ Some command → (f : FixedParts) → In f (opened_by command) → Lasts f

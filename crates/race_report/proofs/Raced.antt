@@ -18,7 +18,7 @@ use Rattle.play_report.proofs.Pairs.{in_all}
 use Rattle.play_report.proofs.Promised.{tells_scene, promises, all_in_time}
 use Rattle.play_report.specs.Members.{IsMade}
 use Rattle.play_report.specs.Reported.{journal_of, events}
-use Rattle.race_commands.proofs.Opening.{commands_last}
+use Rattle.race_command_laws.proofs.Opening.{commands_last}
 use Rattle.race_laws.specs.Races.{IsRaced}
 use Rattle.race_plays.specs.Races.{RaceOf, stage_of, IsRaceOf}
 use Rattle.report_text.specs.declared.report.Report.{Report}
@@ -29,7 +29,7 @@ use Rattle.script_rules.specs.Bounds.{Fits}
 use Rattle.script_rules.specs.Conditions.{runs_in_race}
 use Rattle.script_rules.specs.declared.step.Step.{Step}
 use Rattle.support_chain.specs.Real.{real}
-use Rattle.told_party.specs.Telling.{AreTold, HaveFixed, LinesAreTold, IsToldBy, TellsCommands, SharesAreReal, ExitsAreReal, JournalsAreByRules, KeepsShares}
+use Rattle.reported_node.specs.Telling.{AreTold, HaveFixed, LinesAreTold, IsToldBy, TellsCommands, SharesAreReal, ExitsAreReal, JournalsAreByRules, KeepsShares}
 use Rattle.world_laws.specs.Standing.{AreKept, Follows, IsWorld}
 use Rattle.race_report.proofs.Followed.{races_follow_commands}
 use Rattle.race_report.proofs.Lasting.{opens_lasting}

@@ -9,14 +9,14 @@ use Rattle.net_model.specs.Premises.{InTime}
 use Rattle.net_party.specs.Ways.{Ways}
 use Rattle.play_report.specs.Reported.{Tells, IsInTimeIf, Promises}
 use Rattle.race_laws.specs.Races.{IsRaced}
-use Rattle.race_nodes.specs.Races.{OpensLasting}
+use Rattle.race_node_laws.specs.Races.{OpensLasting}
 use Rattle.race_plays.specs.Races.{RaceOf, IsRaceOf}
 use Rattle.report_text.specs.declared.report.Report.{Report}
 use Rattle.round_model.specs.Players.{Player}
 use Rattle.script_names.specs.Commands.{command_of}
 use Rattle.script_rules.specs.declared.step.Step.{Step}
 use Rattle.support_chain.specs.Real.{real}
-use Rattle.told_party.specs.Promised.{Pairwise}
+use Rattle.reported_node.specs.Promised.{Pairwise}
 
 -- in a race the watchers of a node whose channels last are in time, where no strings collide that they tell apart
 abbrev pub RacersAreInTime : {P : Type 0} → Ways P → (stands : List Entry → P → Type 0) → Type 0

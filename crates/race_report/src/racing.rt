@@ -12,17 +12,17 @@ ghost use Rattle.race_report.specs.Raced.{RacersAreInTime, IsOfRace};
 use net_actors::{Cast, RoundFault};
 use play_report::report_of;
 use report_text::Report;
+use reported_node::ReportedNode;
 use script_race::race;
 use script_rules::{STEP_LIMIT, Step};
 use sign_index::Signer;
 use std::alloc::Global;
 use std::sync::Wait;
 use std::thread::Threads;
-use told_party::ToldParty;
 
 /// Plays the steps in a race with this cast, whose notes are empty, and tells what came of them. The signers are those of the
 /// people that the steps declare.
-pub fn report_race<R: Threads + Wait + Sync, P: ToldParty + Send>(
+pub fn report_race<R: Threads + Wait + Sync, P: ReportedNode + Send>(
     rt: &R,
     alloc: Global,
     steps: &[Step],

@@ -4,7 +4,7 @@ use Rattle.std.specs.Prelude.{IfSome}
 use Rattle.load_laws.proofs.Reports.{loads_pay}
 use Rattle.load_laws.specs.Paying.{Pays}
 use Rattle.load_script.specs.Load.{are_two}
-use Rattle.node_ways.specs.Ways.{ways}
+use Rattle.node_way_laws.specs.Ways.{ways}
 use Rattle.report_text.specs.declared.report.Load.{Load as Note}
 use Rattle.report_text.specs.declared.report.Report.{Report}
 use Rattle.round_model.specs.Players.{Player}

@@ -1,9 +1,9 @@
 -- The network's node writes its journal as a race asks, and its watchers are in time in one.
-use Rattle.node_journals.proofs.Writing.{nodes_write_journals}
-use Rattle.node_journals.specs.Laws.{is_lost}
-use Rattle.node_ways.specs.Placed.{IsPlaced}
-use Rattle.node_ways.specs.Ways.{ways}
-use Rattle.race_fairness.proofs.Racing.{nodes-in_time}
+use Rattle.journal_laws.proofs.Writing.{nodes_write_journals}
+use Rattle.journal_laws.specs.Laws.{is_lost}
+use Rattle.node_way_laws.specs.Placed.{IsPlaced}
+use Rattle.node_way_laws.specs.Ways.{ways}
+use Rattle.race_fairness_laws.proofs.Racing.{nodes-in_time}
 use Rattle.race_report.specs.Raced.{RacersAreInTime}
 use Rattle.round_laws.specs.Journals.{WritesJournals}
 

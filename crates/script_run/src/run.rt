@@ -15,7 +15,7 @@ ghost use Rattle.word_reader.specs.Words.{asked};
 ghost use Rattle.word_reader.specs.declared.asking.Asked.{Asked};
 ghost use Rattle.script_run.specs.declared.run.Status.{Status};
 ghost use Rattle.load_laws.specs.Paying.{Pays};
-ghost use Rattle.node_ways.specs.Ways.{ways};
+ghost use Rattle.node_way_laws.specs.Ways.{ways};
 ghost use Rattle.script_run.specs.Run.{Given, IsRunnable, IsUnread, given, code_of, wanted, EndsAs, IsToldOf, rule_text, owed};
 
 use crate::records::Records;
@@ -28,11 +28,11 @@ use nitro_bytes::{Label, NoMemory};
 use play_report::report_play;
 use race_report::report_race;
 use report_text::{Load, Report, text_of};
+use reported_node::ReportedNode;
 use script_reader::{Rule, ScriptFault, read_script_with_signers};
 use std::alloc::{AllocError, Global};
 use std::sync::Wait;
 use std::thread::Threads;
-use told_party::ToldParty;
 use word_reader::{Asked, asked};
 
 /// How a run ended. A script that is refused has the step, counted from 1, and the rule that it breaks
@@ -83,7 +83,7 @@ fn without_report(status: Status) -> Ended
 
 /// What a script comes to that was read whole.
 #[tactic(auto, using(crate::proofs::Ends::breaks_in_run, crate::proofs::Ends::plays_in_run))]
-fn run_script<P: ToldParty>(alloc: Global, bytes: &[u8]) -> Result<Ended, NoMemory>
+fn run_script<P: ReportedNode>(alloc: Global, bytes: &[u8]) -> Result<Ended, NoMemory>
     ensures ends { (cast : List Player) (given : Given) → wanted given.words ≡ Some Asked.Run
         → Consumes given.before given.after bytes.now → IsAtEnd given.after → length bytes.now ≤ 4194304
         → IfOk result (λ ended. EndsAs P.ways cast given ended.status ended.report) }
@@ -105,7 +105,7 @@ fn run_script<P: ToldParty>(alloc: Global, bytes: &[u8]) -> Result<Ended, NoMemo
 
 /// What a script comes to in a race with this cast. A history that is full has no room in any memory.
 #[tactic(auto, using(script_reader::proofs::Bounds::all_may_race, crate::proofs::Ends::breaks_in_race, crate::proofs::Ends::plays_in_race))]
-fn race_script<R: Threads + Wait + Sync, P: ToldParty + Send>(
+fn race_script<R: Threads + Wait + Sync, P: ReportedNode + Send>(
     rt: &R,
     alloc: Global,
     bytes: &[u8],
@@ -137,7 +137,7 @@ fn race_script<R: Threads + Wait + Sync, P: ToldParty + Send>(
 
 /// What comes of a script that the source has.
 #[tactic(auto, using(crate::proofs::Ends::fails_in_run, crate::proofs::Ends::long_in_run))]
-fn run_source<P: ToldParty, S: Source>(alloc: Global, source: &mut S) -> Result<Ended, NoMemory>
+fn run_source<P: ReportedNode, S: Source>(alloc: Global, source: &mut S) -> Result<Ended, NoMemory>
     ensures ends { (words : List (List ℕ)) (cast : List Player) → wanted words ≡ Some Asked.Run
         → IfOk result (λ ended. EndsAs P.ways cast (given S.remaining S.faults words source.old source.new) ended.status ended.report) }
     ensures legal { IfOk result (λ ended. IfSome ended.report (λ report. Legal real (newest_first report.history))) }
@@ -152,7 +152,7 @@ fn run_source<P: ToldParty, S: Source>(alloc: Global, source: &mut S) -> Result<
 
 /// What comes of a script that the source has, in a race.
 #[tactic(auto, using(crate::proofs::Ends::fails_in_race, crate::proofs::Ends::long_in_race))]
-fn race_source<R: Threads + Wait + Sync, P: ToldParty + Send, S: Source>(
+fn race_source<R: Threads + Wait + Sync, P: ReportedNode + Send, S: Source>(
     rt: &R,
     alloc: Global,
     source: &mut S,
@@ -175,7 +175,7 @@ fn race_source<R: Threads + Wait + Sync, P: ToldParty + Send, S: Source>(
 
 /// What a load comes to. Nothing is read for it.
 #[tactic(auto, using(crate::proofs::Counts::wanted_load, crate::proofs::Counts::wanted_no_load))]
-fn run_load<P: ToldParty>(alloc: Global, seed: u64, count: u32) -> Result<Ended, NoMemory>
+fn run_load<P: ReportedNode>(alloc: Global, seed: u64, count: u32) -> Result<Ended, NoMemory>
     requires some { 1 ≤ count }
     requires few { count ≤ 1000 }
     ensures ends { (cast : List Player) (given : Given) → asked given.words ≡ Some (Asked.Load seed count) → IsUnread given
@@ -198,7 +198,7 @@ fn run_load<P: ToldParty>(alloc: Global, seed: u64, count: u32) -> Result<Ended,
 
 /// What the words and the source come to, with nodes of this type.
 #[tactic(auto, using(byte_source::proofs::Known::keeps_all, crate::proofs::Counts::some_payments, crate::proofs::Counts::few_payments, crate::proofs::Counts::wanted_none, crate::proofs::Counts::wanted_run, crate::proofs::Counts::wanted_race))]
-fn work<R: Threads + Wait + Sync, P: ToldParty + Send, S: Source>(
+fn work<R: Threads + Wait + Sync, P: ReportedNode + Send, S: Source>(
     rt: &R,
     alloc: Global,
     words: &[Label],

@@ -1,4 +1,5 @@
-//! Laws alone: whatever happens in a world, its history stays legal and its journals honest.
+//! Laws alone: whatever happens in a world, its history stays legal and its journals honest, and nothing old becomes final for
+//! its people with nodes.
 #![tactic(auto)]
 
 ghost use Rattle.std.specs.Prelude.{List};
@@ -7,6 +8,7 @@ ghost use Rattle.net_party.specs.Ways.{Ways};
 ghost use Rattle.net_world.specs.Worlds.{WorldOf, happened};
 ghost use Rattle.net_world.specs.declared.happening.Happening.{Happening};
 ghost use Rattle.world_laws.specs.Standing.{AreKept, IsWorld, AreHonest};
+ghost use Rattle.world_laws.specs.Safe.{NothingOldBecomesFinal};
 
 use net_party::Party;
 
@@ -15,4 +17,9 @@ pub fn every_happening_keeps_the_world<P: Party>()
     ensures stays { AreKept P.ways P.stands
         → (w : WorldOf P) (event : Happening) → IsWorld P.stands w → IsWorld P.stands (happened P.ways event w) }
     ensures honest { AreKept P.ways P.stands → (w : WorldOf P) → IsWorld P.stands w → AreHonest P.ways w }
+{}
+
+/// After any happenings, in any order, each person with a node is safe under the three premises.
+pub fn nothing_old_becomes_final<P: Party>()
+    ensures { NothingOldBecomesFinal P.ways P.stands }
 {}

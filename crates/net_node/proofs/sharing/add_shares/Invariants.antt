@@ -1,5 +1,5 @@
 use Rattle.std.proofs.Common.{◌≡◌, ◌++◌, ℕ, map, take}
-use Rattle.node_ways.specs.Gains.{share_known}
+use Rattle.node_way_laws.specs.Gains.{share_known}
 use Rattle.net_node.proofs.sharing.add_shares.Given as goal
 
 abbrev pub invariant-loop-balance : goal.invariant-loop-balance

@@ -1,6 +1,6 @@
 use Rattle.std.proofs.Common.{◌≡◌, take}
 use Rattle.std.specs.List.{flat_map}
-use Rattle.node_ways.specs.Gains.{shares_in}
+use Rattle.node_way_laws.specs.Gains.{shares_in}
 use Rattle.net_node.proofs.sharing.shares_of.Given as goal
 
 abbrev pub invariant-loop-view : goal.invariant-loop-view

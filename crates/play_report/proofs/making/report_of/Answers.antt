@@ -9,7 +9,7 @@ use Rattle.play_report.proofs.making.report_of.Goals as goal
 
 pub returns-clause-made : goal.returns-clause-made
 returns-clause-made g c s parts =
-    made_so g.P.Party.ways g.P.Party.lost g.P.ToldParty.shares g.P.ToldParty.exits c.args.load
+    made_so g.P.Party.ways g.P.Party.lost g.P.ReportedNode.shares g.P.ReportedNode.exits c.args.load
     (record {
       history = c.make.result;
       journals = c.make-2.result;
@@ -23,7 +23,7 @@ returns-clause-made g c s parts =
     c.args.names c.args.members.now s
     (record { names_are = parts.names_are; rounds_are = parts.rounds_are; history_is = ap newest_first c.make.ensures ∙ parts.history_is; members_are = parts.members_are })
     (search rules) (search rules) (search rules)
-    (c.make-4.ensures ∙ (c.in_ok-tales.ensures.shares ∙ ap (λ (h : List Entry). flat_map (λ m. known_shares g.P.Party.ways g.P.ToldParty.shares (assets_of (flows_of h)) m.node) c.args.members.now) (c.deref.ensures.value ∙ sym c.make.ensures)))
-    (c.make-5.ensures ∙ (c.in_ok-tales.ensures.exits ∙ ap (λ (h : List Entry). flat_map (λ m. known_exits g.P.Party.ways g.P.ToldParty.exits (assets_of (flows_of h)) m.node) c.args.members.now) (c.deref.ensures.value ∙ sym c.make.ensures)))
+    (c.make-4.ensures ∙ (c.in_ok-tales.ensures.shares ∙ ap (λ (h : List Entry). flat_map (λ m. known_shares g.P.Party.ways g.P.ReportedNode.shares (assets_of (flows_of h)) m.node) c.args.members.now) (c.deref.ensures.value ∙ sym c.make.ensures)))
+    (c.make-5.ensures ∙ (c.in_ok-tales.ensures.exits ∙ ap (λ (h : List Entry). flat_map (λ m. known_exits g.P.Party.ways g.P.ReportedNode.exits (assets_of (flows_of h)) m.node) c.args.members.now) (c.deref.ensures.value ∙ sym c.make.ensures)))
     (search rules) (search rules) (search rules)
     c.in_ok-tales.ensures.fixed (subst (λ (h : List Entry). AllFollowed g.P.Party.ways g.P.Party.lost (length h) c.args.members.now) (c.deref.ensures.value ∙ sym c.make.ensures) c.in_ok-tales.ensures.followed)

@@ -5,4 +5,4 @@ use Rattle.play_report.specs.Shares.{known_exits}
 use Rattle.play_report.proofs.sharing.exits_of.Given as goal
 
 abbrev pub invariant-loop-member : goal.invariant-loop-member
-invariant-loop-member g l = l.all.items ≡ flat_map (λ (m : MemberOf _). known_exits g.P.Party.ways g.P.ToldParty.exits l.assets m.node) (take l.member-index l.members)
+invariant-loop-member g l = l.all.items ≡ flat_map (λ (m : MemberOf _). known_exits g.P.Party.ways g.P.ReportedNode.exits l.assets m.node) (take l.member-index l.members)

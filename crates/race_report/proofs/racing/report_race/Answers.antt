@@ -5,13 +5,13 @@ use Rattle.race_report.proofs.racing.report_race.Goals as goal
 
 pub race-requires-clause-keep : goal.race-requires-clause-keep
 race-requires-clause-keep g c κs within =
-    let told = g.met.P.ToldParty g.world.𝓛 g.world.𝓜 g.world.𝓡 ((λ s x. x), (λ x. x), (λ x. x), λ x. x) in
+    let told = g.met.P.ReportedNode g.world.𝓛 g.world.𝓜 g.world.𝓡 ((λ s x. x), (λ x. x), (λ x. x), λ x. x) in
     record { kept = told.keeps; writes = c.requires.writes }
 
 pub returns-clause-raced : goal.returns-clause-raced
 returns-clause-raced g c =
-    let told = g.met.P.ToldParty g.world.𝓛 g.world.𝓜 g.world.𝓡 ((λ s x. x), (λ x. x), (λ x. x), λ x. x) in
-    is_of_race g.P.Party.ways g.P.Party.stands g.P.Party.lost g.P.ToldParty.shares g.P.ToldParty.exits g.P.ToldParty.reported
+    let told = g.met.P.ReportedNode g.world.𝓛 g.world.𝓜 g.world.𝓡 ((λ s x. x), (λ x. x), (λ x. x), λ x. x) in
+    is_of_race g.P.Party.ways g.P.Party.stands g.P.Party.lost g.P.ReportedNode.shares g.P.ReportedNode.exits g.P.ReportedNode.reported
     told.keeps told.reports told.opens told.commands told.gets told.got told.plays told.holds
     c.requires.timely c.args.steps.now c.requires.fit c.requires.may_race _ _ c.in_ok-report.report
     c.in_ok-race.ensures.raced c.in_ok-race.ensures.racing

@@ -1,8 +1,8 @@
 -- What a command makes of a node is placed, whatever it answered.
 use Rattle.std.proofs.Common.{◌≡◌, rules, sym, subst}
-use Rattle.node_ways.proofs.Kept.{nodes_are_kept}
-use Rattle.node_ways.specs.Ways.{ways}
-use Rattle.node_ways.specs.Placed.{IsPlaced}
+use Rattle.node_way_laws.proofs.Kept.{nodes_are_kept}
+use Rattle.node_way_laws.specs.Ways.{ways}
+use Rattle.node_way_laws.specs.Placed.{IsPlaced}
 use Rattle.net_node.proofs.Few.{is_node, commanded_small}
 use Rattle.net_node.proofs.Kept.{failed_keeps, lose_keeps}
 use Rattle.node_model.specs.Playing.{signing_of}

@@ -1,0 +1,42 @@
+-- With which outcomes a state can end.
+use Rattle.std.proofs.Common.{◌≡◌, ℕ, Bool, true, false, cond, ◌&&◌, List, [], ◌∷◌, inl, inr, refl, ◌∙◌, ap, subst, arith}
+use Rattle.std.proofs.lemmas.Bool.Decides.{nat_tests}
+use Rattle.std.specs.Prelude.{◌==◌, nat_le, nat_lt, is_ok, Some, None}
+use Rattle.nitro_bytes.specs.Parts.{StateParts}
+use Rattle.nitro_bytes.specs.Reading.{outcome_of}
+use Rattle.nitro_bytes.specs.declared.value.AssetOutcome.{AssetOutcome}
+use Rattle.app_rules.specs.Ballots.{ballot_of}
+use Rattle.app_rules.specs.Toward.{has_no_votes}
+use Rattle.chain_laws.proofs.Tests.{clash, and-left}
+use Rattle.net_model.specs.Journals.{In}
+use Rattle.share_model.specs.Places.{listed, proposed, outcomes_of}
+use Rattle.fairness_laws.specs.OpeningChannels.{IsExactly}
+
+-- without data with its own alone
+pub alone : (s : StateParts) → s.app_bytes ≡ [] → outcomes_of s ≡ s.outcome ∷ []
+alone s e = ap (λ (bytes : List ℕ). s.outcome ∷ listed (proposed bytes)) e
+
+-- a state is this outcome alone
+pub exactly-alone : (promise : List AssetOutcome) (s : StateParts) → IsExactly promise s → outcomes_of s ≡ promise ∷ []
+exactly-alone promise s e =
+    ap (λ (o : List AssetOutcome). o ∷ listed (proposed s.app_bytes)) e.1 ∙ ap (λ (bytes : List ℕ). promise ∷ listed (proposed bytes)) e.2
+
+-- and where that is alone with no other
+pub only : (s : StateParts) (o : List AssetOutcome) → outcomes_of s ≡ o ∷ [] → (x : List AssetOutcome) → In x (outcomes_of s) → x ≡ o
+only s o e x i = by (subst (In x) e i)
+  where
+    by : In x (o ∷ []) → x ≡ o
+    by (inl same) = same
+    by (inr j) = absurd j
+
+-- no votes, no data
+pub bare-data : (n : ℕ) (bytes : List ℕ) → has_no_votes (ballot_of n bytes) ≡ true → bytes ≡ []
+bare-data n [] e = refl
+bare-data n (k ∷ bytes) e = absurd (go (nat_le 1 k && nat_lt k n && is_ok (outcome_of bytes)) refl e)
+  where
+    zero-one : (k : ℕ) → nat_le 1 k ≡ true → (k == 0) ≡ true → ⊥
+    zero-one k p q = grind (arith, nat_tests)
+
+    go : (b : Bool) → (nat_le 1 k && nat_lt k n && is_ok (outcome_of bytes)) ≡ b → has_no_votes (cond b (Some (record { votes = k; proposal = bytes })) None) ≡ true → ⊥
+    go true t e = zero-one k (and-left (nat_le 1 k) (nat_lt k n) (and-left (nat_le 1 k && nat_lt k n) (is_ok (outcome_of bytes)) t)) e
+    go false t e = clash false e refl

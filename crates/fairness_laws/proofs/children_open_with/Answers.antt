@@ -1,0 +1,5 @@
+use Rattle.fairness_laws.proofs.OpeningChildren.{children_open}
+use Rattle.fairness_laws.proofs.children_open_with.Goals as goal
+
+pub returns : goal.returns
+returns c = children_open

@@ -1,0 +1,5 @@
+use Rattle.fairness_laws.proofs.PaymentShares.{children_share as shares}
+use Rattle.fairness_laws.proofs.children_share.Goals as goal
+
+pub returns : goal.returns
+returns c = shares

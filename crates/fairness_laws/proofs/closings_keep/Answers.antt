@@ -1,0 +1,5 @@
+use Rattle.fairness_laws.proofs.LedgerWhole.{closings_keep}
+use Rattle.fairness_laws.proofs.closings_keep.Goals as goal
+
+pub returns : goal.returns
+returns c = closings_keep

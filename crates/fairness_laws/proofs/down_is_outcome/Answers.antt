@@ -1,0 +1,5 @@
+use Rattle.fairness_laws.proofs.LedgerMoving.{down_is_outcome}
+use Rattle.fairness_laws.proofs.down_is_outcome.Goals as goal
+
+pub returns : goal.returns
+returns c = down_is_outcome

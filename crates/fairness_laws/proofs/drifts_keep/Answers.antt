@@ -1,0 +1,5 @@
+use Rattle.fairness_laws.proofs.LedgerWhole.{drifts_keep}
+use Rattle.fairness_laws.proofs.drifts_keep.Goals as goal
+
+pub returns : goal.returns
+returns c = drifts_keep

@@ -1,0 +1,5 @@
+use Rattle.fairness_laws.proofs.OpeningEnds.{ends_open}
+use Rattle.fairness_laws.proofs.ends_open_with.Goals as goal
+
+pub returns : goal.returns
+returns c = ends_open

@@ -1,0 +1,5 @@
+use Rattle.fairness_laws.proofs.PaymentShares.{ends_share as shares}
+use Rattle.fairness_laws.proofs.ends_share.Goals as goal
+
+pub returns : goal.returns
+returns c = shares

@@ -1,0 +1,5 @@
+use Rattle.fairness_laws.proofs.OpeningGuarantors.{ends_sign}
+use Rattle.fairness_laws.proofs.ends_sign_guarantees.Goals as goal
+
+pub returns : goal.returns
+returns c = ends_sign

@@ -1,0 +1,5 @@
+use Rattle.fairness_laws.proofs.JointSplits.{ends_split}
+use Rattle.fairness_laws.proofs.ends_split.Goals as goal
+
+pub returns : goal.returns
+returns c = ends_split

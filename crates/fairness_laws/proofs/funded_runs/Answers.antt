@@ -1,0 +1,5 @@
+use Rattle.fairness_laws.proofs.LedgerWanting.{funded_runs}
+use Rattle.fairness_laws.proofs.funded_runs.Goals as goal
+
+pub returns : goal.returns
+returns c = funded_runs

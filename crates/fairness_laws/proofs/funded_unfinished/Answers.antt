@@ -1,0 +1,5 @@
+use Rattle.fairness_laws.proofs.LedgerWanting.{funded_unfinished}
+use Rattle.fairness_laws.proofs.funded_unfinished.Goals as goal
+
+pub returns : goal.returns
+returns c = funded_unfinished

@@ -1,0 +1,5 @@
+use Rattle.fairness_laws.proofs.LedgerStanding.{ledgers_back}
+use Rattle.fairness_laws.proofs.ledgers_back.Goals as goal
+
+pub returns : goal.returns
+returns c = ledgers_back

@@ -1,0 +1,5 @@
+use Rattle.fairness_laws.proofs.OpeningMiddles.{middles_open}
+use Rattle.fairness_laws.proofs.middles_open_with.Goals as goal
+
+pub returns : goal.returns
+returns c = middles_open

@@ -1,0 +1,5 @@
+use Rattle.fairness_laws.proofs.LedgerWhole.{moves_keep}
+use Rattle.fairness_laws.proofs.moves_keep.Goals as goal
+
+pub returns : goal.returns
+returns c = moves_keep

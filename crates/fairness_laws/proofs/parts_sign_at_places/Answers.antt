@@ -1,0 +1,5 @@
+use Rattle.fairness_laws.proofs.GuardParts.{parts_sign_at_places}
+use Rattle.fairness_laws.proofs.parts_sign_at_places.Goals as goal
+
+pub returns : goal.returns
+returns c = parts_sign_at_places

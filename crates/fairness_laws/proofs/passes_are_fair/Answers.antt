@@ -1,0 +1,5 @@
+use Rattle.fairness_laws.proofs.SeatSitting.{passes_are_fair}
+use Rattle.fairness_laws.proofs.passes_are_fair.Goals as goal
+
+pub returns : goal.returns
+returns c = passes_are_fair

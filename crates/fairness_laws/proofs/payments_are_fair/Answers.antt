@@ -1,0 +1,5 @@
+use Rattle.fairness_laws.proofs.SeatPaying.{payments_are_fair}
+use Rattle.fairness_laws.proofs.payments_are_fair.Goals as goal
+
+pub returns : goal.returns
+returns c = payments_are_fair

@@ -1,0 +1,5 @@
+use Rattle.fairness_laws.proofs.SeatSitting.{repeats_are_fair}
+use Rattle.fairness_laws.proofs.repeats_are_fair.Goals as goal
+
+pub returns : goal.returns
+returns c = repeats_are_fair

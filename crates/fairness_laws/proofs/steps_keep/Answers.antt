@@ -1,0 +1,5 @@
+use Rattle.fairness_laws.proofs.LedgerAtPlaces.{steps_keep}
+use Rattle.fairness_laws.proofs.steps_keep.Goals as goal
+
+pub returns : goal.returns
+returns c = steps_keep

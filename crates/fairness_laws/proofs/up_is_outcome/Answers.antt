@@ -1,0 +1,5 @@
+use Rattle.fairness_laws.proofs.LedgerMoving.{up_is_outcome}
+use Rattle.fairness_laws.proofs.up_is_outcome.Goals as goal
+
+pub returns : goal.returns
+returns c = up_is_outcome

@@ -1,0 +1,5 @@
+use Rattle.fairness_laws.proofs.LedgerMoving.{up_is_up}
+use Rattle.fairness_laws.proofs.up_is_up.Goals as goal
+
+pub returns : goal.returns
+returns c = up_is_up

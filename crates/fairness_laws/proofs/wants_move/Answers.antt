@@ -1,0 +1,5 @@
+use Rattle.fairness_laws.proofs.LedgerAiming.{wants_move}
+use Rattle.fairness_laws.proofs.wants_move.Goals as goal
+
+pub returns : goal.returns
+returns c = wants_move

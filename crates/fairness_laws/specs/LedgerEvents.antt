@@ -1,0 +1,48 @@
+-- What is known of a node's payments, of the set-ups of its ledgers, and of what goes back from them, where it acts.
+use Rattle.std.specs.Prelude.{◌≡◌, ◌≤◌, ◌*◌, ℕ, true, false, List, length, Some, None, ◌⊎◌}
+use Rattle.nitro_bytes.specs.Outcomes.{IsName}
+use Rattle.nitro_bytes.specs.Parts.{FixedParts, StateParts, IsState}
+use Rattle.channel_calls.specs.declared.entry.Entry.{Entry}
+use Rattle.funding_value.specs.declared.plan.Goal.{Goal}
+use Rattle.funding_value.specs.declared.plan.Part.{Part}
+use Rattle.funding_value.specs.declared.plan.Part.TheVariants as kinds
+use Rattle.net_model.specs.Journals.{In}
+use Rattle.net_party.specs.declared.command.Command.TheVariants as commands
+use Rattle.node_model.specs.Minds.{facts_of}
+use Rattle.node_model.specs.Places.{Told, lines_of, mind_at}
+use Rattle.node_model.specs.Playing.{Signing, pending}
+use Rattle.node_share_laws.specs.Laws.{IsFront}
+use Rattle.fairness_laws.specs.PaymentLaws.{ActsNext}
+use Rattle.fairness_laws.specs.PlanParts.{RootIs}
+use Rattle.share_model.specs.Places.{channels, outcomes_of}
+use Rattle.stage_rules.specs.Seats.{repeats}
+use Rattle.support_chain.specs.Real.{real}
+use Rattle.fairness_laws.specs.LedgerLaws.{GivesBack}
+use Rattle.fairness_laws.specs.LedgerLending.{Lent}
+use Rattle.fairness_laws.specs.LedgerPlaces.{is_ledger, own_at, parts_at, lends_at}
+
+-- a payment that waits is of no ledger but of a payment channel, whose ledger, if it stands on one, has gone up
+abbrev pub PaymentsRun : Signing → (h : List Entry) → (journal : List Told) → Type 0
+PaymentsRun s h journal =
+    (past : List Entry) (front : List Told) → IsFront h journal past front → (paid : List ℕ) (asset amount : ℕ) → pending front ≡ Some (commands.Pay paid asset amount)
+    → (is_ledger s.key journal paid ≡ false)
+    × ((f : FixedParts) → In f (channels (lines_of s.key front)) → real.named f ≡ paid → f.app ≡ 1)
+    × ((l : List ℕ) (k : Lent) → In (kinds.OnLedger l paid) (parts_at s past front) → lends_at s past front l (kinds.OnLedger l paid) ≡ Some k → k.is_up ≡ true)
+
+-- what the set-up of a ledger wants repeats an outcome with which it could end, or is the first state, while nothing stands on it
+abbrev pub SetUpsStart : Signing → (h : List Entry) → (journal : List Told) → Type 0
+SetUpsStart s h journal =
+    (past : List Entry) (x : Told) (front : List Told) → ActsNext s h journal past x front → (r : List ℕ) (g : Goal) → In (kinds.Root r) (parts_at s past front) → is_ledger s.key journal r ≡ true
+    → (root : RootIs s.key past (lines_of s.key front) (facts_of (mind_at real s.key past front)) r g) (from until : ℕ) (state : StateParts) → IsState state
+    → until ≤ 2 * length root.direct.channel.people → repeats from until root.direct.channel ≡ Some state
+    → ((last : StateParts) × (own_at s.key journal front r ≡ Some last) × In state.outcome (outcomes_of last))
+    ⊎ ((own_at s.key journal front r ≡ None) × ((p : Part) (k : Lent) → In p (parts_at s past front) → lends_at s past front r p ≡ Some k → ⊥))
+
+-- what a part wants on a ledger once it closes gives back what was set aside
+abbrev pub GivesBackAt : Signing → (h : List Entry) → (journal : List Told) → Type 0
+GivesBackAt s h journal =
+    (past : List Entry) (x : Told) (front : List Told) → ActsNext s h journal past x front → GivesBack (facts_of (mind_at real s.key past front))
+
+-- names of channels are names
+abbrev pub NamesAreNames : Type 0
+NamesAreNames = (f : FixedParts) → IsName (real.named f)

@@ -1,0 +1,15 @@
+pub mod ChildRuns
+pub mod EndRuns
+pub mod MiddleRuns
+pub mod Example
+pub mod Race
+pub mod Computing
+pub mod Digests
+pub mod Fairly
+pub mod Honesty
+pub mod KeyA
+pub mod KeyB
+pub mod Lms
+pub mod Premised
+pub mod Premises
+pub mod Story

@@ -1,0 +1,5 @@
+use Rattle.net_share_laws.proofs.Held.{states_end}
+use Rattle.net_share_laws.proofs.held.held_states_can_end.Goals as goal
+
+pub returns : goal.returns
+returns c = states_end

@@ -1,0 +1,5 @@
+use Rattle.net_share_laws.proofs.Shares.{steps_possible}
+use Rattle.net_share_laws.proofs.shares.network_steps_keep_possible.Goals as goal
+
+pub returns : goal.returns
+returns c = steps_possible

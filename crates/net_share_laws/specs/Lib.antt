@@ -1,0 +1,4 @@
+pub mod Keeping
+pub mod Shares
+pub mod Held
+pub mod Exits

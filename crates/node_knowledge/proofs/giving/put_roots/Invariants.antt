@@ -1,0 +1,7 @@
+use Rattle.std.proofs.Common.{◌≡◌, ◌++◌, take}
+use Rattle.std.specs.List.{flat_map}
+use Rattle.node_model.specs.Giving.{of_root}
+use Rattle.node_knowledge.proofs.giving.put_roots.Given as goal
+
+abbrev pub invariant-loop-part : goal.invariant-loop-part
+invariant-loop-part l = l.names.items ≡ l.initial.names.items ++ flat_map of_root (take l.part-index l.parts)

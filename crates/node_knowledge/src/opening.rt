@@ -1,0 +1,203 @@
+//! What a command that opens adds: channels to a store, and a part with its opening outcome.
+
+ghost use Rattle.std.specs.Prelude.{◌≡◌, ◌==◌, ◌&&◌, ◌<◌, ◌^◌, ◌+◌, ◌++◌, ◌∷◌, [], true, None, OnOk, OnErr, IfOk, slice_index_or};
+ghost use Rattle.std.specs.Str.{bytes_eq};
+ghost use Rattle.nitro_bytes.specs.Outcomes.{IsItem, IsOutcome};
+ghost use Rattle.nitro_bytes.specs.declared.value.Dest.TheVariants.{Person};
+ghost use Rattle.channel_calls.specs.Naming.{name_of};
+ghost use Rattle.channel_store.specs.Storing.{kept_of};
+ghost use Rattle.net_party.specs.declared.command.Command.TheVariants.{OpenVirtual};
+ghost use Rattle.node_model.specs.Openings as openings;
+ghost use Rattle.node_knowledge.specs.Owned.{AreOwned};
+ghost use Rattle.node_knowledge.specs.Taking.{joined, CanJoin, CanShare};
+ghost use Rattle.support_chain.specs.Real.{real};
+ghost use Rattle.support_chain.specs.Steps.{persons};
+
+use channel_name::{channel_name, person_name};
+use channel_store::Store;
+use funding_value::{Part, Virtual};
+use nitro_bytes::{
+    AssetOutcome, ByteFault, Dest, Fixed, Item, Key, Listed, Name, NoMemory, Outcome, Shape,
+};
+use std::alloc::Global;
+
+fn same_key(a: &Key, b: &Key) -> bool
+    ensures { result ≡ bytes_eq a.now b.now }
+{
+    a == b
+}
+
+/// The position of a key among a channel's, or how many keys it has.
+pub fn place_among(key: &Key, fixed: &Fixed) -> usize
+    ensures { result ≡ openings.place_among key.now fixed.now }
+{
+    let keys = fixed.keys();
+    for (place, k) in keys.iter().enumerate() {
+        if same_key(key, k) {
+            return place;
+        }
+    }
+    keys.len()
+}
+
+/// Whether the key is one of the channel's.
+pub fn takes_part(key: &Key, fixed: &Fixed) -> bool
+    ensures { result ≡ openings.takes_part key.now fixed.now }
+{
+    place_among(key, fixed) < fixed.keys().len()
+}
+
+/// The channel's name.
+pub fn name_of(fixed: &Fixed) -> Name
+    ensures { result ≡ name_of fixed.now }
+{
+    channel_name(fixed.bytes())
+}
+
+fn join_store(store: &mut Store, key: &Key, fixed: &Fixed) -> Result<(), NoMemory>
+    requires { openings.takes_part key.now fixed.now ≡ true → kept_of (name_of fixed.now) store.old ≡ None }
+    ensures ok { OnOk result (store.new ≡ store.old ++ joined key.now (fixed.now ∷ [])) }
+    ensures err { OnErr result (store.new ≡ store.old) }
+{
+    let place = place_among(key, fixed);
+    if place >= fixed.keys().len() {
+        return Ok(());
+    }
+    let fixed = fixed.copy()?;
+    store.add_channel(fixed, place as u8)
+}
+
+/// Adds the channel, if the key is one of its; each channel stays the participant's own.
+pub(crate) fn join(store: &mut Store, key: &Key, fixed: &Fixed) -> Result<(), NoMemory>
+    requires { openings.takes_part key.now fixed.now ≡ true → kept_of (name_of fixed.now) store.old ≡ None }
+    ensures joined { OnOk result (store.new ≡ store.old ++ joined key.now (fixed.now ∷ [])) }
+    ensures owned { AreOwned key.now store.old → AreOwned key.now store.new }
+{
+    join_store(store, key, fixed)
+}
+
+/// Adds those of the four channels of which the key is one.
+pub(crate) fn join_virtual(
+    store: &mut Store,
+    key: &Key,
+    guarantors: &(Fixed, Fixed),
+    joint: &Fixed,
+    channel: &Fixed,
+) -> Result<(), NoMemory>
+    requires { CanJoin key.now (guarantors.now.0 ∷ guarantors.now.1 ∷ joint.now ∷ channel.now ∷ []) store.old }
+    ensures joined { OnOk result (store.new ≡ store.old ++ joined key.now (guarantors.now.0 ∷ guarantors.now.1 ∷ joint.now ∷ channel.now ∷ [])) }
+    ensures owned { AreOwned key.now store.old → AreOwned key.now store.new }
+{
+    let (first, second) = guarantors;
+    join(store, key, first)?;
+    join(store, key, second)?;
+    join(store, key, joint)?;
+    join(store, key, channel)
+}
+
+fn person_at(fixed: &Fixed, place: usize) -> Name
+    requires { place < 2 }
+    ensures { result ≡ slice_index_or (persons fixed.now) place [] }
+{
+    let keys = fixed.keys();
+    person_name(&keys[place])
+}
+
+/// The outcome of these assets, which are one's.
+fn outcome_of(alloc: Global, assets: Vec<AssetOutcome>) -> Result<Outcome, NoMemory>
+    requires { IsOutcome assets.items }
+    ensures { IfOk result (λ outcome. outcome ≡ assets.items) }
+{
+    match Outcome::make(alloc, assets) {
+        Ok(outcome) => Ok(outcome),
+        Err(ByteFault::NoMemory) => Err(NoMemory),
+        Err(_) => unreachable!(),
+    }
+}
+
+/// An amount for one of the channel's first two people.
+fn share_of(fixed: &Fixed, place: usize, amount: u64) -> Item
+    requires { place < 2 }
+    ensures value { result ≡ record { to = Person (slice_index_or (persons fixed.now) place []); amount = amount } }
+    ensures valid { IsItem result }
+{
+    Item {
+        to: Dest::Person(person_at(fixed, place)),
+        amount,
+    }
+}
+
+/// The outcome with which a payment channel opens.
+pub(crate) fn shared(
+    alloc: Global,
+    fixed: &Fixed,
+    asset: u32,
+    amounts: &(u64, u64),
+) -> Result<Outcome, NoMemory>
+    requires { CanShare fixed.now amounts.now }
+    ensures { IfOk result (λ outcome. outcome ≡ openings.shared fixed.now asset amounts.now) }
+{
+    let first = share_of(fixed, 0, amounts.0);
+    let second = share_of(fixed, 1, amounts.1);
+    let items = vec![in alloc; first, second]?;
+    let assets = vec![in alloc;
+        AssetOutcome {
+            asset,
+            shape: Shape::Allocation(Listed::make(items)),
+        },
+    ]?;
+    outcome_of(alloc, assets)
+}
+
+/// Whether the key is the second of the payment channel's people.
+fn is_side_b(key: &Key, channel: &Fixed) -> bool
+    ensures { result ≡ openings.takes_part key.now channel.now && (openings.place_among key.now channel.now == 1) }
+{
+    takes_part(key, channel) && place_among(key, channel) == 1
+}
+
+fn virtual_of(
+    key: &Key,
+    ledgers: &(Name, Name),
+    guarantors: &(Fixed, Fixed),
+    joint: &Fixed,
+    channel: &Fixed,
+    asset: u32,
+    amounts: &(u64, u64),
+) -> Virtual
+    requires { amounts.now.0 + amounts.now.1 < 2 ^ 64 }
+    ensures { result ≡ openings.virtual real key.now ledgers.now guarantors.now joint.now channel.now asset amounts.now }
+{
+    Virtual {
+        ledger_a: ledgers.0,
+        ledger_b: ledgers.1,
+        guarantor_a: name_of(&guarantors.0),
+        guarantor_b: name_of(&guarantors.1),
+        joint: name_of(joint),
+        channel: name_of(channel),
+        asset,
+        total: amounts.0 + amounts.1,
+        side_b: is_side_b(key, channel),
+    }
+}
+
+/// The part of a virtual channel: an end where the key is one of the payment channel's, else the intermediary's.
+pub(crate) fn part_of_virtual(
+    key: &Key,
+    ledgers: &(Name, Name),
+    guarantors: &(Fixed, Fixed),
+    joint: &Fixed,
+    channel: &Fixed,
+    asset: u32,
+    amounts: &(u64, u64),
+) -> Part
+    requires { amounts.now.0 + amounts.now.1 < 2 ^ 64 }
+    ensures { openings.parts_of real key.now (OpenVirtual ledgers.now guarantors.now joint.now channel.now asset amounts.now) ≡ result ∷ [] }
+{
+    let v = virtual_of(key, ledgers, guarantors, joint, channel, asset, amounts);
+    if takes_part(key, channel) {
+        Part::End(v)
+    } else {
+        Part::Middle(v)
+    }
+}

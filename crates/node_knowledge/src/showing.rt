@@ -1,0 +1,77 @@
+//! The chain that an entry shows, by what was shown before.
+
+ghost use Rattle.std.specs.Prelude.{◌≡◌, IfOk};
+ghost use Rattle.std.specs.Option.{option_map};
+ghost use Rattle.channel_calls.specs.History.{is_accepted};
+ghost use Rattle.channel_calls.specs.Marked.{nothing, marked_of};
+ghost use Rattle.node_model.specs.Minds.{shown_by};
+ghost use Rattle.node_knowledge.specs.Shown.{answered_or, HasFew, FewUnder};
+
+use channel_calls::{Call, Op, Reply, answered};
+use nitro_bytes::{Chain, Fixed, Listed, NoMemory, Signed};
+use std::alloc::Global;
+
+pub(crate) fn is_accepted(reply: &Reply) -> bool
+    ensures { result ≡ is_accepted reply.now }
+{
+    match reply {
+        Reply::No(_) => false,
+        _ => true,
+    }
+}
+
+/// A chain of no state.
+fn no_chain(alloc: Global, fixed: &Fixed) -> Result<Chain, NoMemory>
+    ensures { IfOk result (λ chain. marked_of chain ≡ nothing) }
+{
+    let fixed = fixed.copy()?;
+    Ok(Chain {
+        fixed,
+        states: Listed::make(Vec::new(alloc)),
+        marks: Listed::make(Vec::new(alloc)),
+    })
+}
+
+fn with_answer(
+    alloc: Global,
+    before: Option<&Chain>,
+    fixed: &Fixed,
+    next: &Signed,
+) -> Result<Chain, NoMemory>
+    requires { HasFew (option_map (λ m. m.now) before) }
+    ensures { IfOk result (λ chain. marked_of chain ≡ answered_or fixed.now next.now (option_map (λ m. m.now) before.entry)) }
+{
+    match before {
+        None => no_chain(alloc, fixed),
+        Some(chain) => {
+            let chain = chain.copy()?;
+            let next = next.copy()?;
+            answered(fixed, chain, next)
+        }
+    }
+}
+
+/// The chain that an accepted op shows; a respond shows the newest one before with its answer, and a refute none.
+pub(crate) fn shown_by(
+    alloc: Global,
+    fixed: &Fixed,
+    op: &Op,
+    before: Option<&Chain>,
+) -> Result<Chain, NoMemory>
+    requires { FewUnder op.now (option_map (λ m. m.now) before) }
+    ensures { IfOk result (λ chain. marked_of chain ≡ shown_by op.now (option_map (λ m. m.now) before.entry)) }
+{
+    match op {
+        Op::Call(Call::Challenge { chain, .. }) => chain.copy(),
+        Op::Call(Call::Checkpoint { chain }) => chain.copy(),
+        Op::Call(Call::Conclude { chain }) => chain.copy(),
+        Op::Call(
+            Call::Respond {
+                fixed: own,
+                next,
+                ..
+            },
+        ) => with_answer(alloc, before, own, next),
+        _ => no_chain(alloc, fixed),
+    }
+}

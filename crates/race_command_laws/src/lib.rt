@@ -1,0 +1,10 @@
+//! A law alone: the channels that the commands of a race open stand open for two at least. The function is empty: its contract
+//! is the law.
+#![tactic(auto)]
+
+ghost use Rattle.race_command_laws.specs.Laws.{CommandsOpenLasting};
+
+/// No command of a script whose steps may all stand in a race opens a channel of duration 1.
+pub fn commands_open_lasting_channels()
+    ensures { CommandsOpenLasting }
+{}

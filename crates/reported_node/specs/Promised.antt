@@ -1,0 +1,101 @@
+-- What is promised of a person, by a history and the events of its node's journal with their commands; all stand newest
+-- first.
+use Rattle.std.specs.Prelude.{◌≡◌, ◌≤◌, ◌-◌, ℕ, true, false, List, [], ◌∷◌, ◌++◌, length, reverse, drop, Option, Some, None}
+use Rattle.channel_name.specs.Digests.{name_of_person}
+use Rattle.channel_calls.specs.History.{paid_to}
+use Rattle.channel_calls.specs.declared.entry.Entry.{Entry}
+use Rattle.exit_laws.specs.Endings.{ended, AreFinal, Stand}
+use Rattle.exit_script.specs.Calls.{exit_calls}
+use Rattle.net_model.specs.Journals.{Line}
+use Rattle.net_model.specs.Honest.{Honest}
+use Rattle.net_model.specs.Safety.{IsSafe}
+use Rattle.net_share_laws.specs.Keeping.{KeepsItsShare}
+use Rattle.node_laws.specs.Exits.{LeavesForGood}
+use Rattle.node_model.specs.Minds.{facts_of}
+use Rattle.node_model.specs.Places.{Told, lines_of, mind_at}
+use Rattle.node_model.specs.Playing.{Signing, SignsWell, pending, Plays}
+use Rattle.node_model.specs.Refusing.{not_open}
+use Rattle.node_share_laws.specs.Orders.{orders_of}
+use Rattle.node_tables.specs.Stages.{stages}
+use Rattle.node_model.specs.Exiting.{until_exit}
+use Rattle.share_laws.specs.Lines.{SignaturesAreFair}
+use Rattle.share_model.specs.Kept.{is_signing}
+use Rattle.share_model.specs.Places.{Order, IsPlace, plan, share}
+use Rattle.support_chain.specs.Real.{real}
+
+-- each of the one list stands so to the one at its place in the other, which is as long
+abbrev pub Pairwise : {A B : Type 0} → (A → B → Type 0) → List A → List B → Type 0
+Pairwise R [] [] = Unit {0}
+Pairwise R [] (y ∷ ys) = ⊥
+Pairwise R (x ∷ xs) [] = ⊥
+Pairwise R (x ∷ xs) (y ∷ ys) = R x y × Pairwise R xs ys
+
+-- the entries that had been followed at the newest of these events
+abbrev pub past_at : List Entry → List Told → List Entry
+past_at h [] = []
+past_at h (x ∷ front) = drop (length h - x.seen) h
+
+module _ (h : List Entry) (key : List ℕ) (events : List Told) where
+  -- the lines of the journal
+  abbrev pub lines : List Line
+  lines = lines_of key events
+
+  -- what its commands ask for
+  abbrev pub orders : ℕ → Order
+  orders = orders_of real key events
+
+  -- what the person can get of an asset at the end
+  abbrev pub share_at_end : ℕ → ℕ
+  share_at_end asset = share real (name_of_person key) orders h lines asset
+
+  -- and what it could just after these first events
+  abbrev pub share_after : List Told → ℕ → ℕ
+  share_after front asset = share real (name_of_person key) orders (past_at h front) (lines_of key front) asset
+
+  -- ---- honest
+
+  -- The journal is one of the network's own node, event for event: its signatures verify and take one index after another;
+  -- each state, refusal, call and look is the one that the node's rules and tables give at its place. No state is signed after
+  -- an exit that was accepted, and no challenge before one; and a state that no payment made is signed only while every
+  -- channel is open of each part that isn't closed.
+  pub record IsByRules : Type 0 where
+    pub signer : Signing
+    pub owns : signer.key ≡ key
+    pub signs : SignsWell real signer
+    pub plays : Plays stages real signer h events
+    pub leaves : (newer : List Told) (x : Told) (front : List Told) → events ≡ newer ++ x ∷ front → LeavesForGood x front
+    pub live :
+        (newer : List Told) (x : Told) (front : List Told) (later past : List Entry) → events ≡ newer ++ x ∷ front
+        → is_signing x.deed ≡ true → pending front ≡ None → h ≡ later ++ past → length past ≡ x.seen
+        → not_open stages (facts_of (mind_at real key past front)) ≡ None
+
+  abbrev pub IsHonest : Type 0
+  IsHonest = Honest real key h lines × IsByRules
+
+  -- ---- safe
+
+  -- no channel of the person becomes final with an outcome older than its newest supported state
+  abbrev pub StaysSafe : Type 0
+  StaysSafe = IsSafe real key h lines
+
+  -- ---- its share
+
+  -- a state that the person signs lowers its share by no more than the payment that was commanded right before, or, where none
+  -- was and its plan is funded, not at all
+  abbrev pub SignsFairly : Type 0
+  SignsFairly = SignaturesAreFair real (name_of_person key) orders h lines
+
+  -- nobody lowers the share, and the person can leave with it
+  abbrev pub KeepsShare : Type 0
+  KeepsShare = KeepsItsShare (name_of_person key) orders h lines
+
+  -- What it could get just after it was commanded to exit is paid to it, once its channels that count are final and the calls
+  -- of its exit stand after that, whatever others enter between.
+  abbrev pub IsPaidOnExit : Type 0
+  IsPaidOnExit =
+      (front : List Told) → until_exit events ≡ Some front
+      → (mid later : List Entry) (newer : List Line) → h ≡ later ++ (mid ++ past_at h front)
+      → IsPlace h lines (mid ++ past_at h front) (newer ++ lines_of key front)
+      → AreFinal real (mid ++ past_at h front) (newer ++ lines_of key front)
+      → Stand (reverse (exit_calls (ended real (mid ++ past_at h front)) (name_of_person key) (plan orders (newer ++ lines_of key front)))) later
+      → (asset : ℕ) → share_after front asset ≤ paid_to h (name_of_person key) asset

@@ -1,0 +1,58 @@
+//! A node whose journal can be told.
+
+ghost use Rattle.std.specs.Prelude.{◌≡◌, ℕ, List, Option, IfOk, reverse};
+ghost use Rattle.std.specs.Option.{option_map};
+ghost use Rattle.node_model.specs.Places.{Told};
+ghost use Rattle.world_laws.specs.Standing.{AreKept};
+ghost use Rattle.reported_node.specs.Telling.{AreTold, HaveFixed, LinesAreTold, TellsCommands, SharesAreReal, ExitsAreReal, JournalsAreByRules, KeepsShares};
+
+use net_party::Party;
+use nitro_bytes::NoMemory;
+
+/// A node that keeps what it must, and whose journal tells what it did.
+pub trait ReportedNode: Party {
+    // What its person can get of an asset, by what the node knows.
+    ghost shares: { Self → ℕ → ℕ };
+
+    // Where the person was commanded to exit, what it could get just after the first such command that was accepted, of
+    // each asset that the node knew then.
+    ghost exits: { Self → Option (List (ℕ × ℕ)) };
+
+    // The events of its journal with their commands, the newest first.
+    ghost reported: { Self → List Told };
+
+    /// What its person can get of an asset.
+    fn share(&self, asset: u32) -> Result<u128, NoMemory>
+        ensures { IfOk result (λ n. n ≡ shares self.now asset) };
+
+    /// What its person could get when it was commanded to exit, if it was.
+    fn exit_shares(&self) -> Option<&[(u32, u128)]>
+        ensures { option_map (λ s. s.now) result ≡ exits self.now };
+
+    /// The fixed parts that its commands add to its plan are such as their type promises.
+    fn openings_are_fixed(&self)
+        ensures { HaveFixed (Self.ways.lines self.now) };
+
+    // Its journal stays honest, whatever comes to it.
+    ghost keeps: { AreKept Self.ways Self.stands };
+
+    // Its lines are the events of its journal, the newest first.
+    ghost reports: { (p : Self) → AreTold (Self.ways.lines p) (reverse (Self.ways.journal p)) };
+
+    // And what they open is what the commands open, which are those of the steps.
+    ghost opens: { LinesAreTold Self.ways reported };
+
+    ghost commands: { TellsCommands Self.ways reported };
+
+    // Where it followed the whole history, its shares are those of the definition.
+    ghost gets: { SharesAreReal Self.ways Self.stands Self.lost shares reported };
+
+    // What it tells of its exit are those of the definition just after the command.
+    ghost got: { ExitsAreReal Self.ways Self.stands Self.lost exits reported };
+
+    // Each event is what the rules and tables of the network's node give.
+    ghost plays: { JournalsAreByRules Self.ways Self.stands reported };
+
+    // Its own signatures are fair, nobody lowers the share of its person, and it can leave with it, where its premises hold.
+    ghost holds: { KeepsShares Self.ways Self.stands reported };
+}

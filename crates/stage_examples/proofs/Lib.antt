@@ -1,3 +1,0 @@
-pub mod ChildRuns
-pub mod EndRuns
-pub mod MiddleRuns

@@ -1,4 +1,0 @@
-pub mod Words
-pub mod ChildRuns
-pub mod EndRuns
-pub mod MiddleRuns
