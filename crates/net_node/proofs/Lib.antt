@@ -1,4 +1,3 @@
-pub mod Heights
 pub mod Followed
 pub mod Kept
 pub mod Gaining

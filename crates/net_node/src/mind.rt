@@ -1,6 +1,6 @@
 //! What a node knows, with its signer.
 
-ghost use Rattle.std.specs.Prelude.{◌≡◌, ◌+◌, ◌<◌, ◌^◌, true, None, OnOk, IfOk};
+ghost use Rattle.std.specs.Prelude.{◌≡◌, ◌+◌, ◌<◌, true, None, OnOk, IfOk};
 ghost use Rattle.std.specs.List.{flat_map};
 ghost use Rattle.channel_store.specs.Keeping.{held_chain};
 ghost use Rattle.channel_store.specs.Noting.{refusal_of};
@@ -25,16 +25,15 @@ use sign_index::{SignFault, Signer};
 use std::alloc::Global;
 use std::marker::Model;
 
-/// What a node knows, its signer, and how often that signs.
+/// What a node knows, and its signer.
 #[derive(Drop)]
 pub struct Mind {
     known: Known,
     signer: Signer,
-    limit: u32,
 }
 
 impl Model for Mind {
-    ghost use Rattle.std.specs.Prelude.{◌≡◌, ◌^◌};
+    ghost use Rattle.std.specs.Prelude.{◌≡◌};
     ghost use Rattle.net_node.specs.Minds.{MindOf};
     ghost use Rattle.node_way_laws.specs.Ways.{made_of, key_of};
 
@@ -42,16 +41,7 @@ impl Model for Mind {
 
     ghost view = { λ m. record { known = m.known; signer = m.signer } };
 
-    ghost invariant = { λ m. (m.limit ≡ 2 ^ m.signer.h) × (m.known.key ≡ key_of (made_of m.signer)) };
-}
-
-/// How often a signer signs: its key begins with the type of its tree.
-
-fn limit_of(signer: &Signer) -> u32
-    requires { IsHeight signer.now.h }
-    ensures { result ≡ 2 ^ signer.now.h }
-{
-    if signer.public()[3] == 5 { 32 } else { 1024 }
+    ghost invariant = { λ m. m.known.key ≡ key_of (made_of m.signer) };
 }
 
 impl Mind {
@@ -61,11 +51,9 @@ impl Mind {
         ensures known { result.known ≡ fresh (key_of (made_of signer)) }
         ensures signer { result.signer ≡ signer }
     {
-        let limit = limit_of(&signer);
         Mind {
             known: Known::make(alloc, signer.public()),
             signer,
-            limit,
         }
     }
 
@@ -145,7 +133,7 @@ impl Knowing for Mind {
     #[tactic(auto, unfolding(node_model::specs::Playing::signing_of))]
     fn command(&mut self, command: &Command) -> Result<Option<NodeRefusal>, NoMemory> {
         let used = self.signer.used();
-        let refusal = command_refusal(&self.known, self.limit, used, command)?;
+        let refusal = command_refusal(&self.known, self.signer.limit(), used, command)?;
         if refusal.is_none() {
             self.known.commanded(command)?;
         }
@@ -210,7 +198,7 @@ impl Knowing for Mind {
 
     #[tactic(auto, unfolding(node_model::specs::Playing::signing_of))]
     fn can_sign(&self) -> bool {
-        self.signer.used() < self.limit
+        self.signer.used() < self.signer.limit()
     }
 
     #[tactic(auto, unfolding(node_model::specs::Playing::signing_of), using(crate::proofs::Own::passes))]

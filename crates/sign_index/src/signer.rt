@@ -1,6 +1,6 @@
 //! The signer.
 
-ghost use Rattle.std.specs.Prelude.{◌≡◌, ◌++◌, Ok, Err, IsTrue, IfOk, IfErr};
+ghost use Rattle.std.specs.Prelude.{◌≡◌, ◌++◌, ◌^◌, Ok, Err, IsTrue, IfOk, IfErr};
 ghost use Rattle.lms_verify.specs.Types.{u32str, height};
 ghost use Rattle.lms_verify.specs.IsSigned.{is_signed};
 ghost use Rattle.sign_index.specs.Made.{made_key};
@@ -62,6 +62,13 @@ impl Signer {
         let bytes = signing::signature(self.alloc, &self.seed, &self.tree, self.used, message)?;
         self.used += 1;
         Ok(bytes)
+    }
+
+    /// How many indices there are. No memory is taken.
+    pub fn limit(&self) -> u32
+        ensures { result ≡ 2 ^ self.now.h }
+    {
+        self.seed.leaf_count()
     }
 
     /// How many indices have signed. No memory is taken.
