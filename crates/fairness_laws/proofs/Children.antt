@@ -49,7 +49,7 @@ use Rattle.support_chain.specs.Real.{real}
 use Rattle.wish_laws.proofs.Finding.{asked-there, or-left}
 use Rattle.wish_laws.specs.Carried.{OpensWith}
 use Rattle.fairness_laws.proofs.Apps.{no-payments}
-use Rattle.fairness_laws.proofs.SeatPast.{two-people}
+use Rattle.fairness_laws.proofs.Seat.Past.{two-people}
 use Rattle.fairness_laws.specs.Laws.{ChildrenWantFairly}
 use Rattle.fairness_laws.specs.LedgerLaws.{LedgersKeep}
 use Rattle.fairness_laws.specs.LedgerLending.{of_funded, lent}
@@ -58,18 +58,18 @@ use Rattle.fairness_laws.specs.PaymentLaws.{At, IsShared, Shares}
 use Rattle.fairness_laws.specs.PlanParts.{OnLedgerIs}
 use Rattle.fairness_laws.specs.PlanSettings.{IsFair}
 use Rattle.fairness_laws.specs.SeatSitting.{Sits}
-use Rattle.fairness_laws.proofs.LedgerFits.{Sets, up-fits, down-fits}
-use Rattle.fairness_laws.proofs.LedgerLent.{of-child, child-there}
-use Rattle.fairness_laws.proofs.LedgerStanding.{known_ledgers_keep}
+use Rattle.fairness_laws.proofs.Ledger.Fits.{Sets, up-fits, down-fits}
+use Rattle.fairness_laws.proofs.Ledger.Lent.{of-child, child-there}
+use Rattle.fairness_laws.proofs.Ledger.Standing.{known_ledgers_keep}
 use Rattle.fairness_laws.proofs.Live.{wants-early, below-not, live-open}
-use Rattle.fairness_laws.proofs.OpeningChildren.{children_open}
+use Rattle.fairness_laws.proofs.Opening.Children.{children_open}
 use Rattle.fairness_laws.proofs.OpenedParts.{SignsFirst, child-first, child-of}
-use Rattle.fairness_laws.proofs.PaymentShares.{children_share}
-use Rattle.fairness_laws.proofs.PlanParts.{parts_are_known}
+use Rattle.fairness_laws.proofs.Payment.Shares.{children_share}
+use Rattle.fairness_laws.proofs.Plan.Parts.{parts_are_known}
 use Rattle.fairness_laws.proofs.Rows.{ChildWants, opens, ups, posts, finals, downs, child-wants}
-use Rattle.fairness_laws.proofs.SeatBased.{young-turn}
-use Rattle.fairness_laws.proofs.SeatWants.{going-there, wants-repeated, wants-final, wants-move}
-use Rattle.fairness_laws.proofs.SeatEnds.{ends-top, ends-holds, ends-with, first-round}
+use Rattle.fairness_laws.proofs.Seat.Based.{young-turn}
+use Rattle.fairness_laws.proofs.Seat.Wants.{going-there, wants-repeated, wants-final, wants-move}
+use Rattle.fairness_laws.proofs.Seat.Ends.{ends-top, ends-holds, ends-with, first-round}
 use Rattle.fairness_laws.proofs.Shared.{two, amt-first, amt-second, up-first, up-second, shared-items, shared-amounts, which}
 use Rattle.fairness_laws.proofs.Signing.{sits, opens-not_final}
 

@@ -54,12 +54,12 @@ use Rattle.virtual_channel.specs.Ends as ends
 use Rattle.virtual_channel.specs.Ends.{End, end_rows}
 use Rattle.virtual_channel.specs.Stages.{stage_of_end, wanted_of_end}
 use Rattle.wish_laws.proofs.Finding.{asked-there, flips, or-left}
-use Rattle.fairness_laws.proofs.PlanPlans.{plans_are_whole}
-use Rattle.fairness_laws.proofs.PlanRoots.{root-bare}
-use Rattle.fairness_laws.proofs.PlanNames.{in-among}
-use Rattle.fairness_laws.proofs.SeatPast.{several, two-people}
+use Rattle.fairness_laws.proofs.Plan.Plans.{plans_are_whole}
+use Rattle.fairness_laws.proofs.Plan.Roots.{root-bare}
+use Rattle.fairness_laws.proofs.Plan.Names.{in-among}
+use Rattle.fairness_laws.proofs.Seat.Past.{several, two-people}
 use Rattle.fairness_laws.proofs.Apps.{no-payments}
-use Rattle.fairness_laws.proofs.SeatHeld.{held-past}
+use Rattle.fairness_laws.proofs.Seat.Held.{held-past}
 use Rattle.fairness_laws.specs.JointKeeping.{EndKeeps, IsOver}
 use Rattle.fairness_laws.specs.LedgerLaws.{LedgersKeep, LedgersStand}
 use Rattle.fairness_laws.specs.LedgerLending.{of_end, lent}
@@ -70,27 +70,27 @@ use Rattle.fairness_laws.specs.PlanSeats.{SeatIs}
 use Rattle.fairness_laws.specs.PlanSettings.{IsFair}
 use Rattle.fairness_laws.specs.SeatSitting.{Sits}
 use Rattle.fairness_laws.specs.Laws.{EndsWantFairly}
-use Rattle.fairness_laws.proofs.JointEndsKeep.{ends_keep}
-use Rattle.fairness_laws.proofs.JointOutcomes.{terms-of, together-asset, apart-asset}
-use Rattle.fairness_laws.proofs.JointRows.{EndWants, guarantees, splits, opens, ups, joins, finals, parts as parts_back, downs, end-wants}
-use Rattle.fairness_laws.proofs.JointTerms.{three-people}
-use Rattle.fairness_laws.proofs.JointPays.{apart-items, together-items, apart-list, together-list, same-others, AreTerms, apart-outcome, together-outcome, Own, own-of}
+use Rattle.fairness_laws.proofs.Joint.EndsKeep.{ends_keep}
+use Rattle.fairness_laws.proofs.Joint.Outcomes.{terms-of, together-asset, apart-asset}
+use Rattle.fairness_laws.proofs.Joint.Rows.{EndWants, guarantees, splits, opens, ups, joins, finals, parts as parts_back, downs, end-wants}
+use Rattle.fairness_laws.proofs.Joint.Terms.{three-people}
+use Rattle.fairness_laws.proofs.Joint.Pays.{apart-items, together-items, apart-list, together-list, same-others, AreTerms, apart-outcome, together-outcome, Own, own-of}
 use Rattle.fairness_laws.proofs.NamesAreNames.{names_are_names}
-use Rattle.fairness_laws.proofs.LedgerFits.{up-fits, down-fits}
-use Rattle.fairness_laws.proofs.LedgerLent.{LendsAt, of-an-end, end-there}
-use Rattle.fairness_laws.proofs.LedgerFull.{in-full}
-use Rattle.fairness_laws.proofs.LedgerStanding.{known_ledgers_keep}
-use Rattle.fairness_laws.proofs.LedgerUpright.{ledgers_stand_at_places}
+use Rattle.fairness_laws.proofs.Ledger.Fits.{up-fits, down-fits}
+use Rattle.fairness_laws.proofs.Ledger.Lent.{LendsAt, of-an-end, end-there}
+use Rattle.fairness_laws.proofs.Ledger.Full.{in-full}
+use Rattle.fairness_laws.proofs.Ledger.Standing.{known_ledgers_keep}
+use Rattle.fairness_laws.proofs.Ledger.Upright.{ledgers_stand_at_places}
 use Rattle.fairness_laws.proofs.Live.{wants-early, below-not, live-open}
 use Rattle.fairness_laws.proofs.OpenedParts.{SignsFirst}
-use Rattle.fairness_laws.proofs.PaymentShares.{ends_share}
-use Rattle.fairness_laws.proofs.PlanParts.{parts_are_known}
-use Rattle.fairness_laws.proofs.SeatWants.{going-there, wants-repeated, wants-final, wants-move}
-use Rattle.fairness_laws.proofs.SeatEnds.{Ends, ends-top, ends-holds, ends-with, first-round}
+use Rattle.fairness_laws.proofs.Payment.Shares.{ends_share}
+use Rattle.fairness_laws.proofs.Plan.Parts.{parts_are_known}
+use Rattle.fairness_laws.proofs.Seat.Wants.{going-there, wants-repeated, wants-final, wants-move}
+use Rattle.fairness_laws.proofs.Seat.Ends.{Ends, ends-top, ends-holds, ends-with, first-round}
 use Rattle.fairness_laws.proofs.Shared.{two, shared-items, shared-amounts}
 use Rattle.fairness_laws.proofs.Signing.{sits, opens-not_final, planned-there}
 use Rattle.fairness_laws.proofs.OpenedVirtuals.{EndOpened, end-opened}
-use Rattle.fairness_laws.proofs.SeatBased.{Based, based, young-turn, promised}
+use Rattle.fairness_laws.proofs.Seat.Based.{Based, based, young-turn, promised}
 
 module _ (s : Signing) (h : List Entry) (journal : List Told) (fair : IsFair s h journal) (past : List Entry) (front : List Told) (at : At s h journal past front)
     (v : Virtual) (g : Goal) (found : goal_in (facts_of (mind_at real s.key past front)) v.channel ≡ Some g) (e : EndIs s.key past (lines_of s.key front) (facts_of (mind_at real s.key past front)) v g) (there : In (parts.End v) (mind_at real s.key past front).parts)

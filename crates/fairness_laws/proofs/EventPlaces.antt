@@ -15,7 +15,7 @@ use Rattle.fairness_laws.specs.PaymentLaws.{At, ActsNext}
 use Rattle.fairness_laws.specs.PlanSettings.{IsFair}
 use Rattle.support_chain.specs.Real.{real}
 use Rattle.wish_laws.proofs.Over.{Seen}
-use Rattle.fairness_laws.proofs.SeatPast.{early}
+use Rattle.fairness_laws.proofs.Seat.Past.{early}
 
 module _ (s : Signing) (h : List Entry) (journal : List Told) where
   pub before-event : (past : List Entry) (x : Told) (front : List Told) → (is_watched x.deed ≡ true) ⊎ (length past ≡ x.seen) → At s h journal past (x ∷ front) → At s h journal past front

@@ -7,8 +7,8 @@ use Rattle.exit_laws.specs.Fair.{LeavesFairly, SignsInAsset}
 use Rattle.funding_value.specs.declared.plan.Part.{Part}
 use Rattle.funding_value.specs.declared.plan.Part.TheVariants.{Root, OnLedger, End, Middle}
 use Rattle.net_model.specs.Journals.{In, Line}
-use Rattle.fairness_laws.proofs.JointSplits.{ends_split, middles_split}
-use Rattle.fairness_laws.proofs.PlanParts.{parts_are_known}
+use Rattle.fairness_laws.proofs.Joint.Splits.{ends_split, middles_split}
+use Rattle.fairness_laws.proofs.Plan.Parts.{parts_are_known}
 use Rattle.fairness_laws.proofs.Plans.{wanting_plans_fairly, whole-place}
 use Rattle.fairness_laws.proofs.Promises.{end-has_signed, end-in_asset, middle-has_signed, middle-in_asset}
 use Rattle.fairness_laws.specs.Laws.{WantingPlansLeave}

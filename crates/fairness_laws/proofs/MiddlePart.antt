@@ -48,13 +48,13 @@ use Rattle.virtual_channel.specs.Middles.{Middle, middle_rows, back_to}
 use Rattle.virtual_channel.specs.Stages.{stage_of_middle, wanted_of_middle}
 use Rattle.wish_laws.proofs.Finding.{asked-there, or-left}
 use Rattle.wish_laws.specs.Carried.{OpensWith}
-use Rattle.fairness_laws.proofs.PlanPlans.{plans_are_whole}
-use Rattle.fairness_laws.proofs.PlanRoots.{root-bare}
-use Rattle.fairness_laws.proofs.PlanNames.{in-among}
-use Rattle.fairness_laws.proofs.SeatPast.{several}
+use Rattle.fairness_laws.proofs.Plan.Plans.{plans_are_whole}
+use Rattle.fairness_laws.proofs.Plan.Roots.{root-bare}
+use Rattle.fairness_laws.proofs.Plan.Names.{in-among}
+use Rattle.fairness_laws.proofs.Seat.Past.{several}
 use Rattle.fairness_laws.proofs.Apps.{no-payments}
-use Rattle.fairness_laws.proofs.SeatHeld.{held-past}
-use Rattle.fairness_laws.proofs.JointTerms.{ledgers-differ as other-ledgers, three-people}
+use Rattle.fairness_laws.proofs.Seat.Held.{held-past}
+use Rattle.fairness_laws.proofs.Joint.Terms.{ledgers-differ as other-ledgers, three-people}
 use Rattle.fairness_laws.specs.JointKeeping.{MiddleKeeps, IsSplit}
 use Rattle.fairness_laws.specs.Laws.{MiddlesWantFairly}
 use Rattle.fairness_laws.specs.LedgerLaws.{LedgersKeep, LedgersStand}
@@ -66,23 +66,23 @@ use Rattle.fairness_laws.specs.PlanParts.{LedgerIs, GuarantorIs, ChildIs, Middle
 use Rattle.fairness_laws.specs.PlanSeats.{SeatIs}
 use Rattle.fairness_laws.specs.PlanSettings.{IsFair}
 use Rattle.fairness_laws.specs.SeatSitting.{Sits}
-use Rattle.fairness_laws.proofs.JointMiddlesKeep.{middles_keep}
-use Rattle.fairness_laws.proofs.LedgerGiving.{found-sum}
-use Rattle.fairness_laws.proofs.JointOutcomes.{terms-of, together-asset, apart-asset, found-apart}
-use Rattle.fairness_laws.proofs.JointRows.{MiddleWants, guarantees_a, guarantees_b, splits, ups_a, ups_b, joins, parts as parts_back, downs_a, downs_b, middle-wants}
-use Rattle.fairness_laws.proofs.JointPays.{apart-list, together-list, same-others, guarantee-list, AreTerms, apart-outcome, together-outcome, between-fits}
-use Rattle.fairness_laws.proofs.LedgerFits.{Sets, up-fits, down-fits}
-use Rattle.fairness_laws.proofs.LedgerLent.{of-first, of-second, first-there, second-there}
-use Rattle.fairness_laws.proofs.LedgerFull.{in-full}
-use Rattle.fairness_laws.proofs.LedgerStanding.{known_ledgers_keep}
-use Rattle.fairness_laws.proofs.LedgerUpright.{ledgers_stand_at_places}
+use Rattle.fairness_laws.proofs.Joint.MiddlesKeep.{middles_keep}
+use Rattle.fairness_laws.proofs.Ledger.Giving.{found-sum}
+use Rattle.fairness_laws.proofs.Joint.Outcomes.{terms-of, together-asset, apart-asset, found-apart}
+use Rattle.fairness_laws.proofs.Joint.Rows.{MiddleWants, guarantees_a, guarantees_b, splits, ups_a, ups_b, joins, parts as parts_back, downs_a, downs_b, middle-wants}
+use Rattle.fairness_laws.proofs.Joint.Pays.{apart-list, together-list, same-others, guarantee-list, AreTerms, apart-outcome, together-outcome, between-fits}
+use Rattle.fairness_laws.proofs.Ledger.Fits.{Sets, up-fits, down-fits}
+use Rattle.fairness_laws.proofs.Ledger.Lent.{of-first, of-second, first-there, second-there}
+use Rattle.fairness_laws.proofs.Ledger.Full.{in-full}
+use Rattle.fairness_laws.proofs.Ledger.Standing.{known_ledgers_keep}
+use Rattle.fairness_laws.proofs.Ledger.Upright.{ledgers_stand_at_places}
 use Rattle.fairness_laws.proofs.Live.{wants-early, below-not, live-open}
-use Rattle.fairness_laws.proofs.PlanParts.{parts_are_known}
-use Rattle.fairness_laws.proofs.SeatWants.{going-there, wants-repeated, wants-pass, wants-move}
-use Rattle.fairness_laws.proofs.SeatEnds.{Ends, ends-holds, ends-with}
+use Rattle.fairness_laws.proofs.Plan.Parts.{parts_are_known}
+use Rattle.fairness_laws.proofs.Seat.Wants.{going-there, wants-repeated, wants-pass, wants-move}
+use Rattle.fairness_laws.proofs.Seat.Ends.{Ends, ends-holds, ends-with}
 use Rattle.fairness_laws.proofs.Signing.{sits, opens-not_final, planned-there}
 use Rattle.fairness_laws.proofs.OpenedVirtuals.{MiddleOpened, middle-opened}
-use Rattle.fairness_laws.proofs.SeatBased.{Based, based, promised}
+use Rattle.fairness_laws.proofs.Seat.Based.{Based, based, promised}
 
 module _ (s : Signing) (h : List Entry) (journal : List Told) (fair : IsFair s h journal) (past : List Entry) (front : List Told) (at : At s h journal past front)
     (v : Virtual) (g : Goal) (found : goal_in (facts_of (mind_at real s.key past front)) v.channel ≡ Some g) (e : MiddleIs s.key past (lines_of s.key front) (facts_of (mind_at real s.key past front)) v g)

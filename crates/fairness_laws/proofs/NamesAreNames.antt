@@ -7,7 +7,7 @@ use Rattle.sha2.specs.Sha256.{sha256, digest_bytes}
 use Rattle.nitro_bytes.specs.Outcomes.{AreBytes, IsName}
 use Rattle.channel_name.specs.Digests.{name_of_channel, name_of_person}
 use Rattle.fairness_laws.specs.LedgerEvents.{NamesAreNames}
-use Rattle.fairness_laws.proofs.LedgerSpelled.{none, append, number}
+use Rattle.fairness_laws.proofs.Ledger.Spelled.{none, append, number}
 
 digests : (h : List ℕ) (n : ℕ) → AreBytes (digest_bytes h n)
 unfolding digest_bytes

@@ -25,12 +25,12 @@ use Rattle.node_model.specs.Openings.{opened_by, parts_of, shared, takes_part, v
 use Rattle.node_model.specs.Places.{Told, lines_of, mind_at}
 use Rattle.node_model.specs.Playing.{Signing, Plays}
 use Rattle.node_tables.specs.Stages.{stages}
-use Rattle.fairness_laws.proofs.PlanPlaces.{plays-there}
-use Rattle.fairness_laws.proofs.OpeningChildren.{FundedAt, funded-at, goal-opening, wants-opening, child-starts}
-use Rattle.fairness_laws.proofs.OpeningEnds.{end-starts, payment-channel-of, channel-wants}
+use Rattle.fairness_laws.proofs.Plan.Places.{plays-there}
+use Rattle.fairness_laws.proofs.Opening.Children.{FundedAt, funded-at, goal-opening, wants-opening, child-starts}
+use Rattle.fairness_laws.proofs.Opening.Ends.{end-starts, payment-channel-of, channel-wants}
 use Rattle.fairness_laws.proofs.Rows.{exactly}
-use Rattle.fairness_laws.proofs.OpeningSeated.{seated}
-use Rattle.fairness_laws.proofs.OpeningVirtuals.{names-differ, at-end}
+use Rattle.fairness_laws.proofs.Opening.Seated.{seated}
+use Rattle.fairness_laws.proofs.Opening.Virtuals.{names-differ, at-end}
 use Rattle.outcome_targets.specs.declared.terms.Terms.{Terms}
 use Rattle.share_laws.proofs.Finality.{opened-there}
 use Rattle.fairness_laws.specs.PlanParts.{OnLedgerIs}

@@ -19,11 +19,11 @@ use Rattle.node_model.specs.Openings.{opened_by, parts_of, shared, takes_part, v
 use Rattle.node_model.specs.Places.{Told, lines_of, mind_at}
 use Rattle.node_model.specs.Playing.{Signing}
 use Rattle.fairness_laws.proofs.NamesAreNames.{names_are_names}
-use Rattle.fairness_laws.proofs.OpeningEnds.{EndAt, end-at, ends_open, guarantor-named, guarantor-inside}
-use Rattle.fairness_laws.proofs.OpeningGuarantors.{ends_sign, middles_sign}
-use Rattle.fairness_laws.proofs.OpeningMiddles.{MiddleAt, middle-at, middles_open}
-use Rattle.fairness_laws.proofs.OpeningSeated.{seated}
-use Rattle.fairness_laws.proofs.OpeningVirtuals.{GoalIs, goal-is, Differ, names-differ}
+use Rattle.fairness_laws.proofs.Opening.Ends.{EndAt, end-at, ends_open, guarantor-named, guarantor-inside}
+use Rattle.fairness_laws.proofs.Opening.Guarantors.{ends_sign, middles_sign}
+use Rattle.fairness_laws.proofs.Opening.Middles.{MiddleAt, middle-at, middles_open}
+use Rattle.fairness_laws.proofs.Opening.Seated.{seated}
+use Rattle.fairness_laws.proofs.Opening.Virtuals.{GoalIs, goal-is, Differ, names-differ}
 use Rattle.fairness_laws.proofs.OpenedParts.{SignsFirst, end-signs, PartCommand, part-command, later-took, one-fixed}
 use Rattle.fairness_laws.specs.OpeningChannels.{guarantor_of, SignsOnly}
 use Rattle.fairness_laws.specs.PaymentLaws.{At}

@@ -5,14 +5,14 @@ use Rattle.chain_laws.proofs.Lists.{In-get, get-within}
 use Rattle.funding_value.specs.declared.plan.Part.TheVariants.{Root, OnLedger, End}
 use Rattle.share_laws.proofs.Finality.{opened-there}
 use Rattle.fairness_laws.proofs.Apps.{no-payments, no-payments-either}
-use Rattle.fairness_laws.proofs.LedgerPayments.{app-of}
-use Rattle.fairness_laws.proofs.SeatPast.{occurs}
-use Rattle.fairness_laws.proofs.OpeningChildren.{child-starts}
-use Rattle.fairness_laws.proofs.OpeningEnds.{end-starts, payment-channel-of}
-use Rattle.fairness_laws.proofs.OpeningGuarantors.{AreFixed, are-fixed}
-use Rattle.fairness_laws.proofs.OpeningVirtuals.{Differ, names-differ, at-end}
-use Rattle.fairness_laws.proofs.PlanNames.{place-within}
-use Rattle.fairness_laws.proofs.PlanPlaces.{plays-there}
+use Rattle.fairness_laws.proofs.Ledger.Payments.{app-of}
+use Rattle.fairness_laws.proofs.Seat.Past.{occurs}
+use Rattle.fairness_laws.proofs.Opening.Children.{child-starts}
+use Rattle.fairness_laws.proofs.Opening.Ends.{end-starts, payment-channel-of}
+use Rattle.fairness_laws.proofs.Opening.Guarantors.{AreFixed, are-fixed}
+use Rattle.fairness_laws.proofs.Opening.Virtuals.{Differ, names-differ, at-end}
+use Rattle.fairness_laws.proofs.Plan.Names.{place-within}
+use Rattle.fairness_laws.proofs.Plan.Places.{plays-there}
 use Rattle.fairness_laws.specs.Wanting.{PaysInHeld}
 use Rattle.node_model.specs.Minds.{facts_of}
 use Rattle.node_model.specs.Openings.{shared, virtual, takes_part, place_among, opened_by, parts_of}
@@ -40,9 +40,9 @@ use Rattle.node_laws.proofs.Reaching.{Reaches}
 use Rattle.node_model.specs.Places.{Told, lines_of, mind_at}
 use Rattle.node_model.specs.Playing.{Signing, pending}
 use Rattle.node_tables.specs.Stages.{stages}
-use Rattle.fairness_laws.proofs.PaymentMade.{young-next}
+use Rattle.fairness_laws.proofs.Payment.Made.{young-next}
 use Rattle.fairness_laws.specs.PaymentLaws.{At}
-use Rattle.fairness_laws.proofs.PlanHolding.{Holds}
+use Rattle.fairness_laws.proofs.Plan.Holding.{Holds}
 use Rattle.fairness_laws.specs.PlanSettings.{IsFair}
 use Rattle.signing_laws.specs.Signatures.{IsOwn}
 use Rattle.support_chain.specs.Real.{real}

@@ -19,7 +19,7 @@ use Rattle.node_share_laws.proofs.Ordering.{Fits, fits-journal}
 use Rattle.node_share_laws.specs.Laws.{IsFront}
 use Rattle.node_share_laws.specs.Orders.{orders_of}
 use Rattle.node_tables.specs.Stages.{stages}
-use Rattle.fairness_laws.proofs.PlanPlans.{plans_are_whole}
+use Rattle.fairness_laws.proofs.Plan.Plans.{plans_are_whole}
 use Rattle.fairness_laws.specs.PlanLaws.{PlanIs}
 use Rattle.fairness_laws.specs.PaymentLaws.{At}
 use Rattle.fairness_laws.specs.PlanSettings.{IsFair}

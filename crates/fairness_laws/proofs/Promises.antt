@@ -20,10 +20,10 @@ use Rattle.funding_value.specs.declared.plan.Part.TheVariants.{End, Middle}
 use Rattle.funding_value.specs.declared.plan.Virtual.{Virtual}
 use Rattle.net_model.proofs.Members.{In-append_right}
 use Rattle.net_model.specs.Journals.{In, Line, made_in}
-use Rattle.fairness_laws.proofs.JointPays.{only-there, only-other}
+use Rattle.fairness_laws.proofs.Joint.Pays.{only-there, only-other}
 use Rattle.fairness_laws.proofs.Apps.{no-payments, no-payments-either}
 use Rattle.fairness_laws.proofs.Outcomes.{exactly-alone}
-use Rattle.fairness_laws.proofs.SeatPast.{one-fixed}
+use Rattle.fairness_laws.proofs.Seat.Past.{one-fixed}
 use Rattle.fairness_laws.proofs.OpenedVirtuals.{end-opened, middle-opened}
 use Rattle.fairness_laws.specs.JointKeeping.{IsSplit, SignsSplits}
 use Rattle.fairness_laws.specs.OpeningChannels.{SignsOnly}

@@ -24,15 +24,15 @@ use Rattle.node_model.specs.Minds.{facts_of}
 use Rattle.node_model.specs.Places.{Told, lines_of, mind_at}
 use Rattle.node_model.specs.Playing.{Signing}
 use Rattle.node_share_laws.specs.Orders.{orders_of}
-use Rattle.fairness_laws.proofs.SeatPast.{people-are}
+use Rattle.fairness_laws.proofs.Seat.Past.{people-are}
 use Rattle.fairness_laws.specs.PaymentLaws.{At}
-use Rattle.fairness_laws.proofs.PlanParts.{parts_are_known}
+use Rattle.fairness_laws.proofs.Plan.Parts.{parts_are_known}
 use Rattle.fairness_laws.specs.PlanLaws.{PartAt}
 use Rattle.fairness_laws.specs.PlanParts.{RootIs}
 use Rattle.fairness_laws.specs.PlanSeats.{SeatIs}
 use Rattle.fairness_laws.specs.PlanSettings.{IsFair}
 use Rattle.plan_stages.specs.Asked.{is_unfinished, unfinished_on, part_with, wanted_of, asked_in, wanted_in}
-use Rattle.fairness_laws.proofs.SeatSitting.{repeats_are_fair, finals_are_fair}
+use Rattle.fairness_laws.proofs.Seat.Sitting.{repeats_are_fair, finals_are_fair}
 use Rattle.fairness_laws.specs.SeatSitting.{Sits}
 use Rattle.signing_laws.specs.Fairly.{Wants}
 use Rattle.signing_laws.specs.Signatures.{IsOwn}
@@ -45,7 +45,7 @@ use Rattle.wish_laws.proofs.Picking.{IsWanted, opens, closes, wants}
 use Rattle.wish_laws.specs.Carried.{IsRepeatedIfAny}
 use Rattle.fairness_laws.specs.Laws.{RootsWantFairly}
 use Rattle.fairness_laws.proofs.Channels.{one-named, channel-of, carried}
-use Rattle.fairness_laws.proofs.PlanHolding.{Holds}
+use Rattle.fairness_laws.proofs.Plan.Holding.{Holds}
 use Rattle.fairness_laws.proofs.Signing.{sits, kept-of}
 
 -- a root is asked about its own channel alone

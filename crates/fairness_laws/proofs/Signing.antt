@@ -50,14 +50,14 @@ use Rattle.node_share_laws.specs.Laws.{KnowsShare}
 use Rattle.node_share_laws.specs.Orders.{order_of, orders_of}
 use Rattle.node_share_laws.specs.Orders as asks
 use Rattle.node_tables.specs.Stages.{stages}
-use Rattle.fairness_laws.proofs.PlanPlans.{plans_are_whole}
-use Rattle.fairness_laws.proofs.PaymentMade.{held-ends}
-use Rattle.fairness_laws.proofs.PlanHolding.{Holds, holds}
+use Rattle.fairness_laws.proofs.Plan.Plans.{plans_are_whole}
+use Rattle.fairness_laws.proofs.Payment.Made.{held-ends}
+use Rattle.fairness_laws.proofs.Plan.Holding.{Holds, holds}
 use Rattle.fairness_laws.specs.PlanLaws.{PlanIs}
 use Rattle.fairness_laws.specs.PlanSeats.{SeatIs, seat_of}
 use Rattle.fairness_laws.specs.PlanSettings.{IsFair}
 use Rattle.plan_stages.specs.Asked.{wanted_of, asked_in, wanted_in}
-use Rattle.fairness_laws.proofs.SeatPaying.{payments_are_fair}
+use Rattle.fairness_laws.proofs.Seat.Paying.{payments_are_fair}
 use Rattle.fairness_laws.specs.SeatSitting.{HeldEnds, Sits}
 use Rattle.share_laws.proofs.Fair.{whole-plan}
 use Rattle.share_laws.proofs.Keeping.{held-over_line}
@@ -76,7 +76,7 @@ use Rattle.view_laws.specs.Laws.{IsKeptAt, AreKeptAt}
 use Rattle.wish_laws.proofs.Finding.{asked-there}
 use Rattle.net_model.proofs.Members.{In-append_left}
 use Rattle.fairness_laws.specs.PaymentLaws.{At}
-use Rattle.fairness_laws.proofs.PaymentKept.{KeptAs, kept-as, SignsOf, signs-of}
+use Rattle.fairness_laws.proofs.Payment.Kept.{KeptAs, kept-as, SignsOf, signs-of}
 use Rattle.fairness_laws.specs.Wanting.{WantsFairly, PaysInHeld}
 use Rattle.fairness_laws.proofs.Fronts.{Acts}
 

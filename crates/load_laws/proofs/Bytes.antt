@@ -7,7 +7,7 @@ use Rattle.nitro_bytes.specs.Chains.{IsSignature}
 use Rattle.nitro_bytes.specs.Outcomes.{AreBytes}
 use Rattle.nitro_bytes.specs.Parts.{IsKey}
 use Rattle.nitro_bytes.proofs.Fields.{AreBytes-take}
-use Rattle.fairness_laws.proofs.LedgerSpelled.{none, append, number}
+use Rattle.fairness_laws.proofs.Ledger.Spelled.{none, append, number}
 use Rattle.fairness_laws.proofs.NamesAreNames.{sums}
 use Rattle.sign_index.proofs.Lengths.{short_signature}
 use Rattle.script_play.proofs.Meant.{id_long}

@@ -1,4 +1,4 @@
-use Rattle.fairness_laws.proofs.OpeningChildren.{children_open}
+use Rattle.fairness_laws.proofs.Opening.Children.{children_open}
 use Rattle.fairness_laws.proofs.children_open_with.Goals as goal
 
 pub returns : goal.returns

@@ -1,4 +1,4 @@
-use Rattle.fairness_laws.proofs.PaymentShares.{children_share as shares}
+use Rattle.fairness_laws.proofs.Payment.Shares.{children_share as shares}
 use Rattle.fairness_laws.proofs.children_share.Goals as goal
 
 pub returns : goal.returns

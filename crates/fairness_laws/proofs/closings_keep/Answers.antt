@@ -1,4 +1,4 @@
-use Rattle.fairness_laws.proofs.LedgerWhole.{closings_keep}
+use Rattle.fairness_laws.proofs.Ledger.Whole.{closings_keep}
 use Rattle.fairness_laws.proofs.closings_keep.Goals as goal
 
 pub returns : goal.returns

@@ -1,4 +1,4 @@
-use Rattle.fairness_laws.proofs.LedgerWhole.{drifts_keep}
+use Rattle.fairness_laws.proofs.Ledger.Whole.{drifts_keep}
 use Rattle.fairness_laws.proofs.drifts_keep.Goals as goal
 
 pub returns : goal.returns

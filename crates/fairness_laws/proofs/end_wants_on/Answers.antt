@@ -1,4 +1,4 @@
-use Rattle.fairness_laws.proofs.LedgerWanting.{end_wants_on}
+use Rattle.fairness_laws.proofs.Ledger.Wanting.{end_wants_on}
 use Rattle.fairness_laws.proofs.end_wants_on.Goals as goal
 
 pub returns : goal.returns

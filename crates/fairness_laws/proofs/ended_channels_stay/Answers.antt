@@ -1,4 +1,4 @@
-use Rattle.fairness_laws.proofs.PaymentEnded.{ended_stay}
+use Rattle.fairness_laws.proofs.Payment.Ended.{ended_stay}
 use Rattle.fairness_laws.proofs.ended_channels_stay.Goals as goal
 
 pub returns : goal.returns

@@ -1,4 +1,4 @@
-use Rattle.fairness_laws.proofs.JointEndsKeep.{ends_keep as keep}
+use Rattle.fairness_laws.proofs.Joint.EndsKeep.{ends_keep as keep}
 use Rattle.fairness_laws.proofs.ends_keep.Goals as goal
 
 pub returns : goal.returns

@@ -1,4 +1,4 @@
-use Rattle.fairness_laws.proofs.OpeningEnds.{ends_open}
+use Rattle.fairness_laws.proofs.Opening.Ends.{ends_open}
 use Rattle.fairness_laws.proofs.ends_open_with.Goals as goal
 
 pub returns : goal.returns

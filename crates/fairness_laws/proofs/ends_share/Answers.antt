@@ -1,4 +1,4 @@
-use Rattle.fairness_laws.proofs.PaymentShares.{ends_share as shares}
+use Rattle.fairness_laws.proofs.Payment.Shares.{ends_share as shares}
 use Rattle.fairness_laws.proofs.ends_share.Goals as goal
 
 pub returns : goal.returns

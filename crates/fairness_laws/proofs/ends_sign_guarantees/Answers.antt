@@ -1,4 +1,4 @@
-use Rattle.fairness_laws.proofs.OpeningGuarantors.{ends_sign}
+use Rattle.fairness_laws.proofs.Opening.Guarantors.{ends_sign}
 use Rattle.fairness_laws.proofs.ends_sign_guarantees.Goals as goal
 
 pub returns : goal.returns

@@ -1,4 +1,4 @@
-use Rattle.fairness_laws.proofs.JointSplits.{ends_split}
+use Rattle.fairness_laws.proofs.Joint.Splits.{ends_split}
 use Rattle.fairness_laws.proofs.ends_split.Goals as goal
 
 pub returns : goal.returns

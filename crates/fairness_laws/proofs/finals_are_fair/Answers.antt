@@ -1,4 +1,4 @@
-use Rattle.fairness_laws.proofs.SeatSitting.{finals_are_fair}
+use Rattle.fairness_laws.proofs.Seat.Sitting.{finals_are_fair}
 use Rattle.fairness_laws.proofs.finals_are_fair.Goals as goal
 
 pub returns : goal.returns

@@ -1,4 +1,4 @@
-use Rattle.fairness_laws.proofs.LedgerWanting.{funded_runs}
+use Rattle.fairness_laws.proofs.Ledger.Wanting.{funded_runs}
 use Rattle.fairness_laws.proofs.funded_runs.Goals as goal
 
 pub returns : goal.returns

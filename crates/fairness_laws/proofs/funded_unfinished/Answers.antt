@@ -1,4 +1,4 @@
-use Rattle.fairness_laws.proofs.LedgerWanting.{funded_unfinished}
+use Rattle.fairness_laws.proofs.Ledger.Wanting.{funded_unfinished}
 use Rattle.fairness_laws.proofs.funded_unfinished.Goals as goal
 
 pub returns : goal.returns

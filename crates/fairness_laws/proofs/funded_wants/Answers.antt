@@ -1,4 +1,4 @@
-use Rattle.fairness_laws.proofs.LedgerWanting.{funded_wants}
+use Rattle.fairness_laws.proofs.Ledger.Wanting.{funded_wants}
 use Rattle.fairness_laws.proofs.funded_wants.Goals as goal
 
 pub returns : goal.returns

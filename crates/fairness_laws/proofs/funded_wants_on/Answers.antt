@@ -1,4 +1,4 @@
-use Rattle.fairness_laws.proofs.LedgerWanting.{funded_wants_on}
+use Rattle.fairness_laws.proofs.Ledger.Wanting.{funded_wants_on}
 use Rattle.fairness_laws.proofs.funded_wants_on.Goals as goal
 
 pub returns : goal.returns

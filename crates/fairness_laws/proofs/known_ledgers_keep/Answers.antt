@@ -1,4 +1,4 @@
-use Rattle.fairness_laws.proofs.LedgerStanding.{known_ledgers_keep}
+use Rattle.fairness_laws.proofs.Ledger.Standing.{known_ledgers_keep}
 use Rattle.fairness_laws.proofs.known_ledgers_keep.Goals as goal
 
 pub returns : goal.returns

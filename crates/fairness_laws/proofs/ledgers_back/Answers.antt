@@ -1,4 +1,4 @@
-use Rattle.fairness_laws.proofs.LedgerStanding.{ledgers_back}
+use Rattle.fairness_laws.proofs.Ledger.Standing.{ledgers_back}
 use Rattle.fairness_laws.proofs.ledgers_back.Goals as goal
 
 pub returns : goal.returns

@@ -1,4 +1,4 @@
-use Rattle.fairness_laws.proofs.LedgerAtPlaces.{ledgers_keep_at_places}
+use Rattle.fairness_laws.proofs.Ledger.AtPlaces.{ledgers_keep_at_places}
 use Rattle.fairness_laws.proofs.ledgers_keep_at_places.Goals as goal
 
 pub returns : goal.returns

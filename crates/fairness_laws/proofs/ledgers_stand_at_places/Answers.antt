@@ -1,4 +1,4 @@
-use Rattle.fairness_laws.proofs.LedgerUpright.{ledgers_stand_at_places}
+use Rattle.fairness_laws.proofs.Ledger.Upright.{ledgers_stand_at_places}
 use Rattle.fairness_laws.proofs.ledgers_stand_at_places.Goals as goal
 
 pub returns : goal.returns

@@ -1,4 +1,4 @@
-use Rattle.fairness_laws.proofs.LedgerWanting.{middle_wants_on}
+use Rattle.fairness_laws.proofs.Ledger.Wanting.{middle_wants_on}
 use Rattle.fairness_laws.proofs.middle_wants_on.Goals as goal
 
 pub returns : goal.returns

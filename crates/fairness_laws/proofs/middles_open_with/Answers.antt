@@ -1,4 +1,4 @@
-use Rattle.fairness_laws.proofs.OpeningMiddles.{middles_open}
+use Rattle.fairness_laws.proofs.Opening.Middles.{middles_open}
 use Rattle.fairness_laws.proofs.middles_open_with.Goals as goal
 
 pub returns : goal.returns

@@ -1,4 +1,4 @@
-use Rattle.fairness_laws.proofs.OpeningGuarantors.{middles_sign}
+use Rattle.fairness_laws.proofs.Opening.Guarantors.{middles_sign}
 use Rattle.fairness_laws.proofs.middles_sign_guarantees.Goals as goal
 
 pub returns : goal.returns

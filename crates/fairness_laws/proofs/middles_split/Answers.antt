@@ -1,4 +1,4 @@
-use Rattle.fairness_laws.proofs.JointSplits.{middles_split}
+use Rattle.fairness_laws.proofs.Joint.Splits.{middles_split}
 use Rattle.fairness_laws.proofs.middles_split.Goals as goal
 
 pub returns : goal.returns

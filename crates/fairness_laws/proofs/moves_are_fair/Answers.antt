@@ -1,4 +1,4 @@
-use Rattle.fairness_laws.proofs.SeatSitting.{moves_are_fair}
+use Rattle.fairness_laws.proofs.Seat.Sitting.{moves_are_fair}
 use Rattle.fairness_laws.proofs.moves_are_fair.Goals as goal
 
 pub returns : goal.returns

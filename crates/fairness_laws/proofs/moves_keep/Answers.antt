@@ -1,4 +1,4 @@
-use Rattle.fairness_laws.proofs.LedgerWhole.{moves_keep}
+use Rattle.fairness_laws.proofs.Ledger.Whole.{moves_keep}
 use Rattle.fairness_laws.proofs.moves_keep.Goals as goal
 
 pub returns : goal.returns

@@ -1,4 +1,4 @@
-use Rattle.fairness_laws.proofs.PlanParts.{parts_are_known}
+use Rattle.fairness_laws.proofs.Plan.Parts.{parts_are_known}
 use Rattle.fairness_laws.proofs.parts_are_known.Goals as goal
 
 pub returns : goal.returns

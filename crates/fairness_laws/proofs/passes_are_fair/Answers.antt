@@ -1,4 +1,4 @@
-use Rattle.fairness_laws.proofs.SeatSitting.{passes_are_fair}
+use Rattle.fairness_laws.proofs.Seat.Sitting.{passes_are_fair}
 use Rattle.fairness_laws.proofs.passes_are_fair.Goals as goal
 
 pub returns : goal.returns

@@ -1,4 +1,4 @@
-use Rattle.fairness_laws.proofs.SeatPaying.{payments_are_fair}
+use Rattle.fairness_laws.proofs.Seat.Paying.{payments_are_fair}
 use Rattle.fairness_laws.proofs.payments_are_fair.Goals as goal
 
 pub returns : goal.returns

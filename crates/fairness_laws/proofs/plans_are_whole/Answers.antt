@@ -1,4 +1,4 @@
-use Rattle.fairness_laws.proofs.PlanPlans.{plans_are_whole}
+use Rattle.fairness_laws.proofs.Plan.Plans.{plans_are_whole}
 use Rattle.fairness_laws.proofs.plans_are_whole.Goals as goal
 
 pub returns : goal.returns

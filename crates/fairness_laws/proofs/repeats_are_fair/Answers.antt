@@ -1,4 +1,4 @@
-use Rattle.fairness_laws.proofs.SeatSitting.{repeats_are_fair}
+use Rattle.fairness_laws.proofs.Seat.Sitting.{repeats_are_fair}
 use Rattle.fairness_laws.proofs.repeats_are_fair.Goals as goal
 
 pub returns : goal.returns

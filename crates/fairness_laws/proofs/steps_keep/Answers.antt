@@ -1,4 +1,4 @@
-use Rattle.fairness_laws.proofs.LedgerAtPlaces.{steps_keep}
+use Rattle.fairness_laws.proofs.Ledger.AtPlaces.{steps_keep}
 use Rattle.fairness_laws.proofs.steps_keep.Goals as goal
 
 pub returns : goal.returns

@@ -1,4 +1,4 @@
-use Rattle.fairness_laws.proofs.LedgerMoving.{up_is_outcome}
+use Rattle.fairness_laws.proofs.Ledger.Moving.{up_is_outcome}
 use Rattle.fairness_laws.proofs.up_is_outcome.Goals as goal
 
 pub returns : goal.returns

@@ -1,4 +1,4 @@
-use Rattle.fairness_laws.proofs.LedgerMoving.{up_is_up}
+use Rattle.fairness_laws.proofs.Ledger.Moving.{up_is_up}
 use Rattle.fairness_laws.proofs.up_is_up.Goals as goal
 
 pub returns : goal.returns

@@ -1,4 +1,4 @@
-use Rattle.fairness_laws.proofs.LedgerAiming.{wants_move}
+use Rattle.fairness_laws.proofs.Ledger.Aiming.{wants_move}
 use Rattle.fairness_laws.proofs.wants_move.Goals as goal
 
 pub returns : goal.returns

@@ -1,0 +1,10 @@
+pub mod Names
+pub mod Known
+pub mod Holding
+pub mod Fitting
+pub mod Goals
+pub mod Roots
+pub mod Places
+pub mod Parts
+pub mod Asked
+pub mod Plans
