@@ -9,7 +9,7 @@ use Rattle.node_model.specs.Minds.{Mind}
 use Rattle.node_model.specs.Nodes.{NodeOf, handled, asked, told_to}
 use Rattle.node_model.specs.Standing.{Stands}
 use Rattle.node_model.specs.Tables.{Tables}
-use Rattle.node_model.specs.Playing.{Signing}
+use Rattle.node_model.specs.Playing.{Signing, signing_of}
 use Rattle.net_party.specs.declared.outs.Outs.{Outs}
 use Rattle.node_model.specs.Giving.{command_answers}
 use Rattle.node_model.specs.Refusing.{message_refusal, command_refusal, signs_in}
@@ -26,6 +26,14 @@ pub record IsWanted (t : Tables) (r : Rules) (m : Mind) (channel : List ℕ) (st
 pub record SameJournal (old new : NodeOf) : Type 0 where
   pub journal : new.journal ≡ old.journal
   pub commands : new.commands ≡ old.commands
+
+-- where it stands for a history before, it stands for it after
+abbrev pub StaysFor : Tables → Rules → List Entry → NodeOf → NodeOf → Type 0
+StaysFor t r h old new = Stands t r (signing_of old.signer) h old → Stands t r (signing_of old.signer) h new
+
+-- and so for each legal history
+abbrev pub StaysForAll : Tables → Rules → NodeOf → NodeOf → Type 0
+StaysForAll t r old new = (h : List Entry) → Legal r h → StaysFor t r h old new
 
 -- the same as those of a node that stands for each history for which this one did
 abbrev pub StandsPartly : Tables → Rules → Signing → NodeOf → NodeOf → Type 0

@@ -14,7 +14,7 @@ ghost use Rattle.node_model.specs.Refusing.{message_refusal, command_refusal, si
 ghost use Rattle.net_party.specs.declared.command.Command.TheVariants.{Pay};
 ghost use Rattle.node_model.specs.Nodes.{NodeOf, new_node, handled, asked, paid_if, signed_if, ticked, challenged_if, challenged_all, gave_one, gave, told_to, saw_one, watched, wrote_at};
 ghost use Rattle.node_model.specs.Standing.{Stands, ComesNext, Looks};
-ghost use Rattle.node_objective.specs.Answers.{IsWanted, CommandAnswers, HandleAnswers, IsPartly, SameJournal, StandsPartly};
+ghost use Rattle.node_objective.specs.Answers.{IsWanted, CommandAnswers, HandleAnswers, IsPartly, SameJournal, StandsPartly, StaysFor, StaysForAll};
 
 use crate::mind::{Knowing, OwnChallenge};
 use channel_calls::{Call, Deed, Entry, Event, NodeRefusal, copy_call};
@@ -124,7 +124,7 @@ impl<M: Knowing + Drop> Node<M> {
         ensures answer { HandleAnswers M.tables M.rules bytes self.old self.new result }
 
         // Its journal stays one that the rules give, over every history that it stood for.
-        ensures keeps { (h : List AnEntry) → Legal M.rules h → Stands M.tables M.rules (signing_of self.old.signer) h self.old → Stands M.tables M.rules (signing_of self.old.signer) h self.new }
+        ensures keeps { StaysForAll M.tables M.rules self.old self.new }
         ensures signer { self.new.signer ≡ self.old.signer }
         ensures still { self.old.is_lost ≡ true → self.new ≡ self.old }
     {
@@ -284,7 +284,7 @@ impl<M: Knowing + Drop> Node<M> {
     /// Takes a command up, or says why not; a payment it signs.
     pub fn command(&mut self, step: u32, command: Command) -> Result<Outs, NodeFault>
         ensures answer { CommandAnswers M.tables M.rules (signing_of self.old.signer) step command self.old self.new result }
-        ensures keeps { (h : List AnEntry) → Legal M.rules h → Stands M.tables M.rules (signing_of self.old.signer) h self.old → Stands M.tables M.rules (signing_of self.old.signer) h self.new }
+        ensures keeps { StaysForAll M.tables M.rules self.old self.new }
         ensures signer { self.new.signer ≡ self.old.signer }
         ensures still { self.old.is_lost ≡ true → self.new ≡ self.old }
     {
@@ -319,7 +319,7 @@ impl<M: Knowing + Drop> Node<M> {
     pub fn see(&mut self, entry: &Entry) -> Result<(), NoMemory>
         ensures ok { OnOk result ((self.old.is_lost ≡ false) × (self.new ≡ saw_one M.rules self.old entry.now)) }
         ensures err { OnErr result ((self.new.is_lost ≡ true) × SameJournal self.old self.new) }
-        ensures keeps { (h : List AnEntry) → Legal M.rules h → ComesNext h entry.now self.old → Stands M.tables M.rules (signing_of self.old.signer) h self.old → Stands M.tables M.rules (signing_of self.old.signer) h self.new }
+        ensures keeps { (h : List AnEntry) → Legal M.rules h → ComesNext h entry.now self.old → StaysFor M.tables M.rules h self.old self.new }
         ensures signer { self.new.signer ≡ self.old.signer }
         ensures still { self.old.is_lost ≡ true → self.new ≡ self.old }
     {
@@ -383,7 +383,7 @@ impl<M: Knowing + Drop> Node<M> {
         ensures kept { OnOk result (self.new.is_lost ≡ false) }
         ensures sends { OnOk result (all.new.sends.items ≡ all.old.sends.items ++ sent M.tables M.rules (signing_of self.old.signer) channels.now self.old) }
         ensures spent { OnOk result (all.new.spent ≡ option_or all.old.spent (spent M.tables M.rules (signing_of self.old.signer) channels.now self.old)) }
-        ensures stands { OnOk result ((h : List AnEntry) → Legal M.rules h → Stands M.tables M.rules (signing_of self.old.signer) h self.old → Stands M.tables M.rules (signing_of self.old.signer) h self.new) }
+        ensures stands { OnOk result (StaysForAll M.tables M.rules self.old self.new) }
         ensures ok { OnOk result (self.new ≡ ticked M.tables M.rules (signing_of self.old.signer) channels.now self.old) }
         ensures err { OnErr result (StandsPartly M.tables M.rules (signing_of self.old.signer) self.old self.new) }
         ensures signer { self.new.signer ≡ self.old.signer }
@@ -453,7 +453,7 @@ impl<M: Knowing + Drop> Node<M> {
         ensures kept { OnOk result (self.new.is_lost ≡ false) }
         ensures calls { OnOk result (all.new.calls.items ≡ all.old.calls.items ++ challenge_calls M.rules (signing_of self.old.signer) channels.now self.old) }
         ensures spent { OnOk result (all.new.spent ≡ option_or all.old.spent (spent_challenging M.rules (signing_of self.old.signer) channels.now self.old)) }
-        ensures stands { OnOk result ((h : List AnEntry) → Legal M.rules h → Stands M.tables M.rules (signing_of self.old.signer) h self.old → Stands M.tables M.rules (signing_of self.old.signer) h self.new) }
+        ensures stands { OnOk result (StaysForAll M.tables M.rules self.old self.new) }
         ensures ok { OnOk result (self.new ≡ challenged_all M.rules (signing_of self.old.signer) channels.now self.old) }
         ensures err { OnErr result (StandsPartly M.tables M.rules (signing_of self.old.signer) self.old self.new) }
         ensures signer { self.new.signer ≡ self.old.signer }
@@ -494,7 +494,7 @@ impl<M: Knowing + Drop> Node<M> {
         ensures gives { IfOk result (λ outs. outs ≡ tick_gives M.tables M.rules (signing_of self.old.signer) self.old) }
         ensures few { IfOk result (λ outs. length outs.calls ≤ 16384) }
         ensures kept { OnOk result (self.new.is_lost ≡ false) }
-        ensures stands { OnOk result ((h : List AnEntry) → Legal M.rules h → Stands M.tables M.rules (signing_of self.old.signer) h self.old → Stands M.tables M.rules (signing_of self.old.signer) h self.new) }
+        ensures stands { OnOk result (StaysForAll M.tables M.rules self.old self.new) }
         ensures ok { OnOk result (self.new ≡ after_challenging M.tables M.rules (signing_of self.old.signer) self.old) }
         ensures err { OnErr result (StandsPartly M.tables M.rules (signing_of self.old.signer) self.old self.new) }
         ensures signer { self.new.signer ≡ self.old.signer }
@@ -536,7 +536,7 @@ impl<M: Knowing + Drop> Node<M> {
         ensures few { IfOk result (λ outs. length outs.calls ≤ 16384) }
         ensures ok { OnOk result ((self.old.is_lost ≡ false) × (self.new ≡ after_tick M.tables M.rules (signing_of self.old.signer) self.old)) }
         ensures err { OnErr result (self.new.is_lost ≡ true) }
-        ensures keeps { (h : List AnEntry) → Legal M.rules h → Stands M.tables M.rules (signing_of self.old.signer) h self.old → Stands M.tables M.rules (signing_of self.old.signer) h self.new }
+        ensures keeps { StaysForAll M.tables M.rules self.old self.new }
         ensures signer { self.new.signer ≡ self.old.signer }
         ensures still { self.old.is_lost ≡ true → self.new ≡ self.old }
     {
@@ -570,7 +570,7 @@ impl<M: Knowing + Drop> Node<M> {
         ensures err { OnErr result ((self.new.is_lost ≡ true) × SameJournal self.old self.new) }
 
         // Where these are the calls of a look by the chains that it holds.
-        ensures keeps { (h : List AnEntry) → Legal M.rules h → Looks M.rules h seen calls self.old → Stands M.tables M.rules (signing_of self.old.signer) h self.old → Stands M.tables M.rules (signing_of self.old.signer) h self.new }
+        ensures keeps { (h : List AnEntry) → Legal M.rules h → Looks M.rules h seen calls self.old → StaysFor M.tables M.rules h self.old self.new }
         ensures signer { self.new.signer ≡ self.old.signer }
         ensures still { self.old.is_lost ≡ true → self.new ≡ self.old }
     {
