@@ -13,8 +13,8 @@ use Rattle.net_model.specs.Hashed.{of_fixed, hashed}
 use Rattle.net_model.specs.Honest.{Honest}
 use Rattle.net_model.specs.Journals.{In, Line, is_watched, is_followed}
 use Rattle.net_party.specs.declared.command.Command.{Command}
-use Rattle.net_share_laws.proofs.Exits.{leavers_are_paid}
-use Rattle.net_share_laws.proofs.Shares.{hashes, shares_kept}
+use Rattle.net_share_laws.proofs.RealExits.{leavers_are_paid}
+use Rattle.net_share_laws.proofs.RealShares.{hashes, shares_kept}
 use Rattle.node_laws.proofs.Bridging.{In-lines}
 use Rattle.node_laws.proofs.Once.{played_journals_are_honest}
 use Rattle.node_model.specs.Places.{Told, lines_of}

@@ -20,7 +20,7 @@ use Rattle.support_chain.specs.Real.{real}
 use Rattle.support_chain.specs.Steps.{is_set_up, repeat_fault, step_fault}
 use Rattle.support_laws.proofs.Finals.{real_keeps_final}
 use Rattle.share_laws.specs.Finality.{StepsKeepPossible}
-use Rattle.net_share_laws.proofs.Shares.{steps_possible}
+use Rattle.net_share_laws.proofs.RealShares.{steps_possible}
 use Rattle.law_examples.proofs.Digests.{key_a, a, hash, hash-is, person-a}
 use Rattle.law_examples.proofs.KeyA as own
 use Rattle.law_examples.proofs.KeyB as others

@@ -1,3 +1,3 @@
-pub mod Shares
-pub mod Held
-pub mod Exits
+pub mod RealShares
+pub mod RealHeld
+pub mod RealExits

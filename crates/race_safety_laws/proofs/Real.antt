@@ -7,8 +7,8 @@ use Rattle.net_model.specs.Occurring.{AreValid}
 use Rattle.history_laws.proofs.Headline.{safe}
 use Rattle.history_laws.proofs.Telling.{tells}
 use Rattle.net_laws.proofs.Real.{network-safe}
-use Rattle.net_share_laws.proofs.Shares.{hashes, shares_kept}
-use Rattle.net_share_laws.proofs.Exits.{exits_pay, leavers_are_paid}
+use Rattle.net_share_laws.proofs.RealShares.{hashes, shares_kept}
+use Rattle.net_share_laws.proofs.RealExits.{exits_pay, leavers_are_paid}
 use Rattle.race_laws.proofs.Looks.{in_time, stand_for_two}
 use Rattle.race_safety_laws.specs.AnyRules.{AnyRacedOutcomesAreNotOlder}
 use Rattle.race_safety_laws.specs.Network.{RacedWatchersAreInTime, RacedOutcomesAreNotOlder, RacedSharesAreKept, RacedExitsPay, RacedLeaversArePaid}

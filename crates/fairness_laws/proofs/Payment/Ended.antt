@@ -31,7 +31,7 @@ use Rattle.history_laws.proofs.Safe.{Setting, MadeLine, AllClosed, honest-suffix
 use Rattle.held_laws.proofs.Made.{Own, OwnIfAny, held-own}
 use Rattle.held_laws.proofs.Noted.{noted_tell}
 use Rattle.held_laws.specs.Laws.{NotedTell}
-use Rattle.net_share_laws.proofs.Shares.{hashes}
+use Rattle.net_share_laws.proofs.RealShares.{hashes}
 use Rattle.node_laws.proofs.Bridging.{lines-append}
 use Rattle.node_laws.proofs.Once.{played_journals_are_honest}
 use Rattle.node_model.specs.Places.{Told, lines_of}

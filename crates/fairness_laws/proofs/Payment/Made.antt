@@ -27,7 +27,7 @@ use Rattle.net_model.specs.Good.{InTurn}
 use Rattle.net_model.specs.Journals.{In, Line, is_watched, some_if, made_in}
 use Rattle.net_model.specs.Occurring.{OccursFixed}
 use Rattle.net_model.specs.Strings.{signed_of}
-use Rattle.net_share_laws.proofs.Held.{states_end}
+use Rattle.net_share_laws.proofs.RealHeld.{states_end}
 use Rattle.node_laws.proofs.Bridging.{lines-append, In-lines, plays-at}
 use Rattle.node_laws.proofs.Once.{played_journals_are_honest}
 use Rattle.node_model.specs.Minds.{Mind, facts_of}

@@ -1,4 +1,4 @@
-use Rattle.net_share_laws.proofs.Exits.{exits_pay}
+use Rattle.net_share_laws.proofs.RealExits.{exits_pay}
 use Rattle.net_share_laws.proofs.exits.network_exits_pay.Goals as goal
 
 pub returns : goal.returns

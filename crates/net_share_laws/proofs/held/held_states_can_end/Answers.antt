@@ -1,4 +1,4 @@
-use Rattle.net_share_laws.proofs.Held.{states_end}
+use Rattle.net_share_laws.proofs.RealHeld.{states_end}
 use Rattle.net_share_laws.proofs.held.held_states_can_end.Goals as goal
 
 pub returns : goal.returns

@@ -1,4 +1,4 @@
-use Rattle.net_share_laws.proofs.Shares.{shares_kept}
+use Rattle.net_share_laws.proofs.RealShares.{shares_kept}
 use Rattle.net_share_laws.proofs.shares.network_shares_are_kept.Goals as goal
 
 pub returns : goal.returns

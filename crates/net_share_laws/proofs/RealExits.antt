@@ -7,7 +7,7 @@ use Rattle.channel_name.specs.Digests.{name_of_person}
 use Rattle.support_chain.specs.Real.{real}
 use Rattle.support_laws.proofs.Finals.{real_keeps_final}
 use Rattle.history_laws.proofs.Telling.{tells}
-use Rattle.net_share_laws.proofs.Shares.{hashes, steps_possible}
+use Rattle.net_share_laws.proofs.RealShares.{hashes, steps_possible}
 use Rattle.exit_laws.proofs.Fair.{fair_exits, leavers_paid}
 use Rattle.net_share_laws.specs.Exits.{NetworkExitsPay, NetworkLeaversArePaid}
 

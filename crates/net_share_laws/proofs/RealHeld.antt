@@ -2,7 +2,7 @@
 use Rattle.channel_name.specs.Digests.{name_of_person}
 use Rattle.support_chain.specs.Real.{real}
 use Rattle.support_laws.proofs.Finals.{real_keeps_final}
-use Rattle.net_share_laws.proofs.Shares.{steps_possible, hashes}
+use Rattle.net_share_laws.proofs.RealShares.{steps_possible, hashes}
 use Rattle.held_laws.proofs.Ends.{hashed_end}
 use Rattle.net_share_laws.specs.Held.{HeldStatesCanEnd}
 
