@@ -1,6 +1,6 @@
 //! What a node knows, with its signer.
 
-ghost use Rattle.std.specs.Prelude.{◌≡◌, ◌+◌, ◌<◌, true, None, OnOk, IfOk};
+ghost use Rattle.std.specs.Prelude.{◌≡◌, ◌+◌, ◌<◌, ◌^◌, true, None, OnOk, IfOk};
 ghost use Rattle.std.specs.List.{flat_map};
 ghost use Rattle.channel_store.specs.Keeping.{held_chain};
 ghost use Rattle.channel_store.specs.Noting.{refusal_of};
