@@ -87,7 +87,7 @@ hashed-apart s h journal none a b i j same =
     (contains a _ (In-append_left a (hashed h (lines_of s.key journal)) _ (contained a (hashed h (lines_of s.key journal)) i)))
     (contains b _ (In-append_left b (hashed h (lines_of s.key journal)) _ (contained b (hashed h (lines_of s.key journal)) j))) same
 
-is-fair : OfEachNode IsFair
+pub is-fair : OfEachNode IsFair
 is-fair s h journal signs legal plays valid unforged none = record {
   nodes = record {
     signs = signs;

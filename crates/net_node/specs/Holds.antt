@@ -3,6 +3,7 @@ use Rattle.std.proofs.Common.{inl}
 use Rattle.std.specs.Prelude.{List}
 use Rattle.channel_calls.specs.declared.entry.Entry.{Entry}
 use Rattle.net_model.specs.Occurring.{AreValid}
+use Rattle.ending_laws.proofs.Ending.{nodes_end_well}
 use Rattle.fairness_laws.proofs.Kept.{plans_keep_shares, nodes_sign_fairly}
 use Rattle.fairness_laws.proofs.Plans.{valid-few}
 use Rattle.node_laws.proofs.Keys.{made_keys_sign_well}
@@ -25,6 +26,7 @@ nodes_hold h p legal placed =
     let signs = made_keys_sign_well p.node.signer placed.sound in
     record {
       fair = λ valid unforged apart. nodes_sign_fairly (signing_of p.node.signer) h (told_of p.node) signs legal (plays-so h p placed valid) valid unforged apart;
+      ends = λ valid unforged apart. nodes_end_well (signing_of p.node.signer) h (told_of p.node) signs legal (plays-so h p placed valid) valid unforged apart;
       kept = λ valid unforged apart early. plans_keep_shares (signing_of p.node.signer) h (told_of p.node) signs legal (plays-so h p placed valid) valid unforged apart early;
       paid = λ valid unforged apart early.
           paid_on_exit (signing_of p.node.signer) h (told_of p.node) legal (plays-so h p placed valid)

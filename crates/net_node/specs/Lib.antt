@@ -2,6 +2,7 @@ pub mod Minds
 pub mod Openings
 pub mod Shares
 pub mod Gets
+pub mod Knows
 pub mod Leaving
 pub mod Got
 pub mod Ruled

@@ -1,5 +1,7 @@
--- What is told of a node: what its person can get, and its events with their commands.
+-- What is told of a node: what its person can get, what it knows, and its events with their commands.
 use Rattle.std.specs.Prelude.{ℕ, Bool, List, Option}
+use Rattle.funding_value.specs.Known.{FactsOf}
+use Rattle.node_model.specs.Minds.{facts_of}
 use Rattle.node_way_laws.specs.Gains.{share_known}
 use Rattle.node_way_laws.specs.Ways.{Numbered}
 
@@ -8,6 +10,9 @@ shares p asset = share_known p.node.mind asset
 
 abbrev pub exits : Numbered → Option (List (ℕ × ℕ))
 exits p = p.exits
+
+abbrev pub facts : Numbered → FactsOf
+facts p = facts_of p.node.mind
 
 abbrev pub is_lost : Numbered → Bool
 is_lost p = p.node.is_lost

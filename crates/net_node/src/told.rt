@@ -11,10 +11,13 @@ ghost use Rattle.net_node.specs.Got.{nodes_got};
 ghost use Rattle.net_node.specs.Holds.{nodes_hold};
 ghost use Rattle.net_node.specs.Openings.{lines_are_told, lines_open};
 ghost use Rattle.net_node.specs.Ruled.{nodes_play};
-ghost use Rattle.net_node.specs.Shares.{shares, exits};
+ghost use Rattle.net_node.specs.Knows.{nodes_know};
+ghost use Rattle.net_node.specs.Shares.{shares, exits, facts};
 
 use crate::node::Node;
 use crate::sharing::share_known;
+use channel_calls::{HeldChain, Known};
+use funding_value::Plan;
 use net_party::Command;
 use nitro_bytes::{Fixed, NoMemory};
 use reported_node::ReportedNode;
@@ -60,6 +63,8 @@ impl ReportedNode for Node {
 
     ghost exits = { exits };
 
+    ghost facts = { facts };
+
     ghost reported = { told };
 
     fn share(&self, asset: u32) -> Result<u128, NoMemory> {
@@ -68,6 +73,18 @@ impl ReportedNode for Node {
 
     fn exit_shares(&self) -> Option<&[(u32, u128)]> {
         self.exits()
+    }
+
+    fn own_plan(&self) -> &Plan {
+        self.plan()
+    }
+
+    fn own_states(&self) -> &[Known] {
+        self.known()
+    }
+
+    fn own_chains(&self) -> &[HeldChain] {
+        self.chains()
     }
 
     #[tactic(auto, using(crate::specs::Openings::adds_are_fixed))]
@@ -84,6 +101,8 @@ impl ReportedNode for Node {
     ghost commands = { nodes_follow_commands };
 
     ghost gets = { nodes_get };
+
+    ghost knows = { nodes_know };
 
     ghost got = { nodes_got };
 

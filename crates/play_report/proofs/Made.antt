@@ -5,6 +5,8 @@ use Rattle.std.specs.List.{AllByRecursion}
 use Rattle.channel_calls.specs.History.{flows_of, newest_first}
 use Rattle.channel_calls.specs.declared.entry.Entry.{Entry}
 use Rattle.flow_balances.specs.Receipts.{assets_of}
+use Rattle.funding_value.specs.Known.{FactsOf}
+use Rattle.history_check.specs.Sums.{sums_of}
 use Rattle.net_model.specs.Valid.{IsValidEntry, IsValidEvent}
 use Rattle.net_party.specs.Ways.{Ways}
 use Rattle.net_world.specs.Members.{MemberOf}
@@ -15,17 +17,18 @@ use Rattle.script_names.specs.declared.names.Names.{Names}
 use Rattle.script_play.specs.Play.{SceneOf}
 use Rattle.play_report.specs.Members.{AllFixed, AllFollowed, ArePartsOf, IsMade}
 use Rattle.play_report.specs.Reported.{AreJudged, journal_of}
-use Rattle.play_report.specs.Shares.{known_shares, known_exits}
+use Rattle.play_report.specs.Shares.{known_shares, known_exits, known_ending}
 
-pub made_so : {P : Type 0} (ways : Ways P) (lost : P → Bool) (shares : P → ℕ → ℕ) (exits : P → Option (List (ℕ × ℕ))) (load : Option Load) (r : Report)
+pub made_so : {P : Type 0} (ways : Ways P) (lost : P → Bool) (shares : P → ℕ → ℕ) (exits : P → Option (List (ℕ × ℕ))) (facts : P → FactsOf) (load : Option Load) (r : Report)
     (names : Names) (members : List (MemberOf P)) (s : SceneOf P) → ArePartsOf names r.rounds r.history members s
     → r.journals ≡ map (journal_of ways) members → r.labels ≡ names.labels → AreJudged r.history r.journals r.premises
     → r.shares ≡ flat_map (λ m. known_shares ways shares (assets_of (flows_of r.history)) m.node) members
     → r.exits ≡ flat_map (λ m. known_exits ways exits (assets_of (flows_of r.history)) m.node) members
+    → r.ends ≡ map (λ m. known_ending ways facts shares (assets_of (flows_of r.history)) m.node) members → r.sums ≡ sums_of (flows_of r.history)
     → r.load ≡ load → AllByRecursion IsValidEntry r.history → AllByRecursion (λ (j : Journal). AllByRecursion IsValidEvent j.events) r.journals
     → AllFixed ways members → AllFollowed ways lost (length r.history) members
-    → IsMade ways lost shares exits load r s
-made_so ways lost shares exits load r names members s parts journals labels judged shared left noted entries events fixed followed = record {
+    → IsMade ways lost shares exits facts load r s
+made_so ways lost shares exits facts load r names members s parts journals labels judged shared left ended summed noted entries events fixed followed = record {
   history = parts.history_is;
   journals = journals ∙ ap (map (journal_of ways)) parts.members_are;
   rounds = parts.rounds_are;
@@ -33,6 +36,8 @@ made_so ways lost shares exits load r names members s parts journals labels judg
   judged = judged;
   shares = shared ∙ ap (flat_map (λ m. known_shares ways shares (assets_of (flows_of r.history)) m.node)) parts.members_are;
   exits = left ∙ ap (flat_map (λ m. known_exits ways exits (assets_of (flows_of r.history)) m.node)) parts.members_are;
+  ends = ended ∙ ap (map (λ m. known_ending ways facts shares (assets_of (flows_of r.history)) m.node)) parts.members_are;
+  sums = summed;
   noted = noted;
   entries = entries;
   events = events;

@@ -1,12 +1,15 @@
 -- What a play came to has one report.
 use Rattle.std.proofs.Common.{◌≡◌, Bool, true, false, List, [], ◌∷◌, ℕ, sym, ◌∙◌, ap, subst, refl}
-use Rattle.std.specs.Prelude.{IsTrue, ◌↔◌, Option, reverse, flat_map}
+use Rattle.std.specs.Prelude.{IsTrue, ◌↔◌, Option, reverse, map, flat_map}
 use Rattle.std.proofs.lemmas.List.{reverse-reverse}
 use Rattle.channel_calls.specs.History.{flows_of, newest_first}
 use Rattle.channel_calls.specs.declared.entry.Entry.{Entry}
 use Rattle.flow_balances.specs.Receipts.{assets_of}
+use Rattle.history_check.specs.Sums.{sums_of}
 use Rattle.nitro_bytes.specs.Parts.{FixedParts}
 use Rattle.premises.specs.declared.journal.Journal.{Journal}
+use Rattle.record_bytes.specs.declared.run_record.Ending.{Ending}
+use Rattle.reported_node.specs.Endings.{ending_of}
 use Rattle.report_text.specs.declared.report.Judged.{Judged}
 use Rattle.report_text.specs.declared.report.Load.{Load}
 use Rattle.report_text.specs.declared.report.Report.{Report}
@@ -54,6 +57,9 @@ module _ (commands : ℕ → Option Command) where
   abbrev leaves : List Entry → List Journal → List Share
   leaves h journals = flat_map (λ j. exits_after (share_after (newest_first h) j.key (events commands j)) j.key (assets_of (flows_of h)) (until_exit (events commands j))) journals
 
+  abbrev endings : List Entry → List Journal → List Ending
+  endings h journals = map (λ j. ending_of h j.key (events commands j)) journals
+
   pub one_report : {P : Type 0} (ways : Ways P) (load : Option Load) (r q : Report) (s : SceneOf P) → Tells commands ways load r s → Tells commands ways load q s → r ≡ q
   one_report ways load r q s a b =
       let history = same_in_time r.history q.history (a.history ∙ sym b.history) in
@@ -66,6 +72,8 @@ module _ (commands : ℕ → Option Command) where
       let premises = same-all q.history q.journals q.journals r.premises q.premises moved b.judged in
       let shared = a.shares ∙ ap (λ h. ends h r.journals) history ∙ ap (ends q.history) journals ∙ sym b.shares in
       let exited = a.exits ∙ ap (λ h. leaves h r.journals) history ∙ ap (leaves q.history) journals ∙ sym b.exits in
+      let ended = a.ends ∙ ap (λ h. endings h r.journals) history ∙ ap (endings q.history) journals ∙ sym b.ends in
+      let summed = a.sums ∙ ap (λ h. sums_of (flows_of h)) history ∙ sym b.sums in
       let noted = a.noted ∙ sym b.noted in
       λ i.
       record {
@@ -76,5 +84,7 @@ module _ (commands : ℕ → Option Command) where
         premises = premises i;
         shares = shared i;
         exits = exited i;
+        ends = ended i;
+        sums = summed i;
         load = noted i;
       }

@@ -9,6 +9,7 @@ use Rattle.channel_name.specs.Digests.{name_of_person, person_string}
 use Rattle.channel_calls.specs.History.{Legal, flows_of, newest_first}
 use Rattle.channel_calls.specs.declared.entry.Entry.{Entry}
 use Rattle.flow_balances.specs.Receipts.{assets_of}
+use Rattle.funding_value.specs.Known.{FactsOf}
 use Rattle.net_model.proofs.Members.{In-map, In-flat_map, joined}
 use Rattle.net_model.specs.Hashed.{of_fixed, hashed}
 use Rattle.net_model.specs.Honest.{Honest}
@@ -31,6 +32,8 @@ use Rattle.premises.proofs.Distincts.{suffices}
 use Rattle.premises.specs.Collision.{DistinctWith}
 use Rattle.premises.specs.Telling.{strings_opened}
 use Rattle.premises.specs.declared.journal.Journal.{Journal}
+use Rattle.record_bytes.specs.declared.run_record.Ending.{Ending}
+use Rattle.reported_node.specs.Endings.{facts_at_end, ending_of, EndsWell}
 use Rattle.report_text.specs.declared.report.Judged.{Judged}
 use Rattle.report_text.specs.declared.report.Load.{Load}
 use Rattle.report_text.specs.declared.report.Report.{Report}
@@ -41,13 +44,13 @@ use Rattle.script_rules.specs.Bounds.{Fits}
 use Rattle.script_rules.specs.declared.step.Step.{Step}
 use Rattle.support_chain.specs.Real.{real}
 use Rattle.reported_node.specs.Promised.{Pairwise, share_at_end, share_after, IsByRules, IsHonest, StaysSafe, SignsFairly, KeepsShare, IsPaidOnExit}
-use Rattle.reported_node.specs.Telling.{AreTold, HaveFixed, LinesAreTold, IsToldBy, TellsCommands, amount_then, AreThose, SharesAreReal, ExitsAreReal, JournalsAreByRules, KeepsIf, KeepsShares}
+use Rattle.reported_node.specs.Telling.{AreTold, HaveFixed, LinesAreTold, IsToldBy, TellsCommands, amount_then, AreThose, SharesAreReal, ExitsAreReal, FactsAreReal, JournalsAreByRules, KeepsIf, KeepsShares}
 use Rattle.world_laws.specs.Standing.{AreKept, IsWorld}
 use Rattle.play_report.proofs.Lines.{adds_in, lines_told, adds_fixed}
 use Rattle.play_report.proofs.Pairs.{all_reverse, in_all}
 use Rattle.play_report.specs.Members.{IsMade}
-use Rattle.play_report.specs.Reported.{IsJudged, AreJudged, shares_of, exits_after, journal_of, events, Tells, IsSafeIf, IsFairIf, IsInTimeIf, Premised, Promises, IsPlayed}
-use Rattle.play_report.specs.Shares.{HasFollowed, exits_for, exits_if, known_shares, known_exits}
+use Rattle.play_report.specs.Reported.{IsJudged, AreJudged, shares_of, exits_after, journal_of, events, Tells, IsSafeIf, IsFairIf, EndsWellIf, IsInTimeIf, Premised, Promises, IsPlayed}
+use Rattle.play_report.specs.Shares.{HasFollowed, exits_for, exits_if, known_shares, known_exits, known_amounts, known_ending}
 
 -- ---- the fixed parts that a journal opens are among those that its accepted commands name
 
@@ -95,10 +98,22 @@ exits-same key assets share (Some amounts) (Some front) those = shares-same key 
 exits-same key assets share None (Some front) those = absurd those
 exits-same key assets share (Some amounts) None those = absurd those
 
+-- how it ended, by what it knows and its shares
+ending-with : (person : List ℕ) (assets : List ℕ) → FactsOf → (ℕ → ℕ) → Ending
+ending-with person assets f share = record { person = person; plan = f.plan; known = f.known; chains = f.chains; shares = map {B = ℕ × ℕ} (λ (asset : ℕ). (asset, share asset)) assets }
+
+amounts-same : (some other : ℕ → ℕ) (assets : List ℕ) → ((asset : ℕ) → some asset ≡ other asset) → map {B = ℕ × ℕ} (λ (asset : ℕ). (asset, some asset)) assets ≡ map {B = ℕ × ℕ} (λ (asset : ℕ). (asset, other asset)) assets
+amounts-same some other [] same = refl
+amounts-same some other (asset ∷ assets) same = λ i. (asset, same asset i) ∷ amounts-same some other assets same i
+
 -- what each node tells is what its journal tells
 of-each : {A B C : Type 0} (f : A → List C) (g : B → List C) (j : A → B) (members : List A) → ((m : A) → In m members → f m ≡ g (j m)) → flat_map f members ≡ flat_map g (map j members)
 of-each f g j [] same = refl
 of-each f g j (m ∷ members) same = λ i. same m (inl refl) i ++ of-each f g j members (λ n k. same n (inr k)) i
+
+of-one : {A B C : Type 0} (f : A → C) (g : B → C) (j : A → B) (members : List A) → ((m : A) → In m members → f m ≡ g (j m)) → map f members ≡ map g (map j members)
+of-one f g j [] same = refl
+of-one f g j (m ∷ members) same = λ i. same m (inl refl) i ∷ of-one f g j members (λ n k. same n (inr k)) i
 
 -- ---- each person with what is told of it
 
@@ -120,11 +135,11 @@ from-member ways (m ∷ members) j (inr i) = let f = from-member ways members j 
 
 -- ---- the report
 
-module _ {P : Type 0} (ways : Ways P) (stands : List Entry → P → Type 0) (lost : P → Bool) (shares : P → ℕ → ℕ) (exits : P → Option (List (ℕ × ℕ))) (told : P → List Told)
+module _ {P : Type 0} (ways : Ways P) (stands : List Entry → P → Type 0) (lost : P → Bool) (shares : P → ℕ → ℕ) (exits : P → Option (List (ℕ × ℕ))) (facts : P → FactsOf) (told : P → List Told)
     (kept : AreKept ways stands) (tells : (p : P) → AreTold (ways.lines p) (reverse (ways.journal p))) (opens : LinesAreTold ways told)
-    (gets : SharesAreReal ways stands lost shares told) (got : ExitsAreReal ways stands lost exits told) (rules : JournalsAreByRules ways stands told) (holds : KeepsShares ways stands told)
+    (gets : SharesAreReal ways stands lost shares told) (got : ExitsAreReal ways stands lost exits told) (knows : FactsAreReal ways stands lost facts told) (rules : JournalsAreByRules ways stands told) (holds : KeepsShares ways stands told)
     (command : ℕ → Option Command) (scene : SceneOf P) (world : IsWorld stands scene.world) (by : (m : MemberOf P) → In m scene.world.members → told m.node ≡ events command (journal_of ways m))
-    (load : Option Load) (r : Report) (made : IsMade ways lost shares exits load r scene) where
+    (load : Option Load) (r : Report) (made : IsMade ways lost shares exits facts load r scene) where
   abbrev past : List Entry
   past = newest_first r.history
 
@@ -163,6 +178,15 @@ module _ {P : Type 0} (ways : Ways P) (stands : List Entry → P → Type 0) (lo
       (got past m.node legal valid (stood m i) (followed m i).able)
       ∙ ap (λ (xs : List Told). exits_after (share_after past (ways.key m.node) xs) (ways.key m.node) assets (until_exit xs)) (by m i)
 
+  end-same : (m : MemberOf P) → In m scene.world.members → known_ending ways facts shares assets m.node ≡ ending_of r.history (ways.key m.node) (events command (journal_of ways m))
+  unfolding ending-with
+  end-same m i =
+      let f : HasFollowed ways lost (length past) m.node = followed m i in
+      ap (λ (x : FactsOf). ending-with (name_of_person (ways.key m.node)) assets x (shares m.node)) (knows r.history m.node legal valid (stood m i) f.able f.seen)
+      ∙ ap (λ (xs : List (ℕ × ℕ)). record (ending_of r.history (ways.key m.node) (told m.node)) { shares = xs })
+      (amounts-same (shares m.node) (share_at_end past (ways.key m.node) (told m.node)) assets (gets past m.node legal valid (stood m i) f.able f.seen))
+      ∙ ap (ending_of r.history (ways.key m.node)) (by m i)
+
   pub tells_scene : Tells command ways load r scene
   tells_scene = record {
     history = made.history;
@@ -176,9 +200,16 @@ module _ {P : Type 0} (ways : Ways P) (stands : List Entry → P → Type 0) (lo
     exits =
         made.exits ∙ of-each (λ (m : MemberOf P). known_exits ways exits assets m.node) each-exit (journal_of ways) scene.world.members exit-same
         ∙ ap (flat_map each-exit) (sym made.journals);
+    ends =
+        made.ends ∙ of-one (λ (m : MemberOf P). known_ending ways facts shares assets m.node) each-end (journal_of ways) scene.world.members end-same
+        ∙ ap (map each-end) (sym made.journals);
+    sums = made.sums;
     noted = made.noted;
   }
     where
+      each-end : Journal → Ending
+      each-end j = ending_of r.history j.key (events command j)
+
       each-share : Journal → List Share
       each-share j = shares_of j.key (share_at_end past j.key (events command j)) assets
 
@@ -254,6 +285,9 @@ module _ {P : Type 0} (ways : Ways P) (stands : List Entry → P → Type 0) (lo
       fair-if : IsFairIf command r (journal_of ways m) p
       fair-if a = turned (λ (xs : List Told). SignsFairly past key xs) (λ apart. keeps.fair values (unforged a) (none-collide apart))
 
+      ends-if : EndsWellIf command r (journal_of ways m) p
+      ends-if a = turned (λ (xs : List Told). EndsWell r.history key xs) (λ apart. keeps.ends values (unforged a) (none-collide apart) r.history refl)
+
       kept-if : Premised command r KeepsShare (journal_of ways m) p
       kept-if a b = turned (λ (xs : List Told). KeepsShare past key xs) (λ apart. keeps.kept values (unforged a) (none-collide apart) (early b))
 
@@ -281,6 +315,7 @@ module _ {P : Type 0} (ways : Ways P) (stands : List Entry → P → Type 0) (lo
     honest = λ j i. let f = from j i in subst (λ (k : Journal). IsHonest past k.key (events command k)) (sym f.is) (honest-all f.member f.there);
     safe = pairs (IsSafeIf command r) safe-if;
     fair = pairs (IsFairIf command r) fair-if;
+    ends = pairs (EndsWellIf command r) ends-if;
     kept = pairs (Premised command r KeepsShare) kept-if;
     paid = pairs (Premised command r IsPaidOnExit) paid-if;
   }
@@ -299,13 +334,13 @@ module _ {P : Type 0} (ways : Ways P) (stands : List Entry → P → Type 0) (lo
           (subst (InTime real past) (sym (lines-are m i)) (timely m i (values m i) (none-opened m i apart))))
 
 -- the report of a play is that of the play, and keeps its promises
-pub is_played : {P : Type 0} (ways : Ways P) (stands : List Entry → P → Type 0) (lost : P → Bool) (shares : P → ℕ → ℕ) (exits : P → Option (List (ℕ × ℕ))) (told : P → List Told)
+pub is_played : {P : Type 0} (ways : Ways P) (stands : List Entry → P → Type 0) (lost : P → Bool) (shares : P → ℕ → ℕ) (exits : P → Option (List (ℕ × ℕ))) (facts : P → FactsOf) (told : P → List Told)
     → AreKept ways stands → ((p : P) → AreTold (ways.lines p) (reverse (ways.journal p))) → LinesAreTold ways told → TellsCommands ways told
-    → SharesAreReal ways stands lost shares told → ExitsAreReal ways stands lost exits told → JournalsAreByRules ways stands told → KeepsShares ways stands told
-    → (steps : List Step) → All Fits steps → (load : Option Load) (r : Report) → IsMade ways lost shares exits load r (play ways steps) → IsPlayed ways load r steps
-is_played ways stands lost shares exits told kept tells opens commands gets got rules holds steps fit load r made =
+    → SharesAreReal ways stands lost shares told → ExitsAreReal ways stands lost exits told → FactsAreReal ways stands lost facts told → JournalsAreByRules ways stands told → KeepsShares ways stands told
+    → (steps : List Step) → All Fits steps → (load : Option Load) (r : Report) → IsMade ways lost shares exits facts load r (play ways steps) → IsPlayed ways load r steps
+is_played ways stands lost shares exits facts told kept tells opens commands gets got knows rules holds steps fit load r made =
     let world : IsWorld stands (play ways steps).world = (plays_are_kept ways stands kept).worlds steps fit in
     let by = plays_follow_commands ways (IsToldBy ways told) commands steps fit in record {
-      tells = tells_scene ways stands lost shares exits told kept tells opens gets got rules holds (command_of steps) (play ways steps) world by load r made;
-      keeps = promises ways stands lost shares exits told kept tells opens gets got rules holds (command_of steps) (play ways steps) world by load r made;
+      tells = tells_scene ways stands lost shares exits facts told kept tells opens gets got knows rules holds (command_of steps) (play ways steps) world by load r made;
+      keeps = promises ways stands lost shares exits facts told kept tells opens gets got knows rules holds (command_of steps) (play ways steps) world by load r made;
     }

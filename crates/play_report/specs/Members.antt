@@ -4,11 +4,13 @@ use Rattle.std.specs.List.{AllByRecursion}
 use Rattle.channel_calls.specs.History.{flows_of, newest_first}
 use Rattle.channel_calls.specs.declared.entry.Entry.{Entry}
 use Rattle.flow_balances.specs.Receipts.{assets_of}
+use Rattle.funding_value.specs.Known.{FactsOf}
+use Rattle.history_check.specs.Sums.{sums_of}
 use Rattle.net_model.specs.Valid.{IsValidEntry, IsValidEvent}
 use Rattle.net_party.specs.Ways.{Ways}
 use Rattle.net_world.specs.Members.{MemberOf}
 use Rattle.play_report.specs.Reported.{AreJudged, journal_of}
-use Rattle.play_report.specs.Shares.{HasFollowed, known_shares, known_exits}
+use Rattle.play_report.specs.Shares.{HasFollowed, known_shares, known_exits, known_ending}
 use Rattle.report_text.specs.declared.report.Load.{Load}
 use Rattle.report_text.specs.declared.report.Report.{Report}
 use Rattle.script_names.specs.declared.names.Names.{Names}
@@ -31,7 +33,7 @@ pub record ArePartsOf {P : Type 0} (names : Names) (rounds : List ℕ) (history 
   pub members_are : members ≡ s.world.members
 
 -- The report is made of what the nodes of the scene tell, and its values are such as their types promise.
-pub record IsMade {P : Type 0} (ways : Ways P) (lost : P → Bool) (can_get : P → ℕ → ℕ) (got : P → Option (List (ℕ × ℕ))) (load : Option Load)
+pub record IsMade {P : Type 0} (ways : Ways P) (lost : P → Bool) (can_get : P → ℕ → ℕ) (got : P → Option (List (ℕ × ℕ))) (facts : P → FactsOf) (load : Option Load)
     (r : Report) (s : SceneOf P) : Type 0 where
   pub history : newest_first r.history ≡ s.world.history
   pub journals : r.journals ≡ map (journal_of ways) s.world.members
@@ -40,6 +42,8 @@ pub record IsMade {P : Type 0} (ways : Ways P) (lost : P → Bool) (can_get : P 
   pub judged : AreJudged r.history r.journals r.premises
   pub shares : r.shares ≡ flat_map (λ m. known_shares ways can_get (assets_of (flows_of r.history)) m.node) s.world.members
   pub exits : r.exits ≡ flat_map (λ m. known_exits ways got (assets_of (flows_of r.history)) m.node) s.world.members
+  pub ends : r.ends ≡ map (λ m. known_ending ways facts can_get (assets_of (flows_of r.history)) m.node) s.world.members
+  pub sums : r.sums ≡ sums_of (flows_of r.history)
   pub noted : r.load ≡ load
   pub entries : AllByRecursion IsValidEntry r.history
   pub events : AllByRecursion (λ j. AllByRecursion IsValidEvent j.events) r.journals

@@ -5,6 +5,7 @@ use Rattle.channel_name.specs.Digests.{name_of_person}
 use Rattle.channel_calls.specs.History.{flows_of, newest_first}
 use Rattle.channel_calls.specs.declared.entry.Entry.{Entry}
 use Rattle.flow_balances.specs.Receipts.{assets_of}
+use Rattle.history_check.specs.Sums.{sums_of}
 use Rattle.net_model.specs.Hashed.{of_fixed}
 use Rattle.net_model.specs.Journals.{In}
 use Rattle.net_party.specs.Ways.{Ways}
@@ -24,6 +25,7 @@ use Rattle.report_text.specs.declared.report.Share.{Share}
 use Rattle.script_names.specs.Commands.{command_of}
 use Rattle.script_play.specs.Play.{SceneOf, play}
 use Rattle.script_rules.specs.declared.step.Step.{Step}
+use Rattle.reported_node.specs.Endings.{ending_of, EndsWell}
 use Rattle.reported_node.specs.Promised.{Pairwise, share_at_end, share_after, IsHonest, StaysSafe, SignsFairly, KeepsShare, IsPaidOnExit}
 
 -- ---- premises
@@ -65,7 +67,8 @@ module _ (commands : ℕ → Option Command) where
 
   -- The report is that of a scene, with a note of the load that its script was made of, if it was. Each share is told of each
   -- person with a node, in each asset that was deposited: by the definition, over the whole history and its journal; and each
-  -- exit, just after the first command to exit that was accepted.
+  -- exit, just after the first command to exit that was accepted. The endings say what each of them knew at the end, with these
+  -- shares; and the sums are those of the history's flows.
   pub record Tells {P : Type 0} (ways : Ways P) (load : Option Load) (r : Report) (s : SceneOf P) : Type 0 where
     pub history : newest_first r.history ≡ s.world.history
     pub journals : r.journals ≡ map (journal_of ways) s.world.members
@@ -76,6 +79,8 @@ module _ (commands : ℕ → Option Command) where
         r.shares ≡ flat_map (λ j. shares_of j.key (share_at_end (newest_first r.history) j.key (events j)) (assets_of (flows_of r.history))) r.journals
     pub exits :
         r.exits ≡ flat_map (λ j. exits_after (share_after (newest_first r.history) j.key (events j)) j.key (assets_of (flows_of r.history)) (until_exit (events j))) r.journals
+    pub ends : r.ends ≡ map (λ j. ending_of r.history j.key (events j)) r.journals
+    pub sums : r.sums ≡ sums_of (flows_of r.history)
     pub noted : r.load ≡ load
 
   -- ---- what is promised
@@ -99,6 +104,10 @@ module _ (commands : ℕ → Option Command) where
     abbrev pub IsFairIf : Journal → Judged → Type 0
     IsFairIf j p = p.unforged ≡ true → NoCollision j → SignsFairly (newest_first r.history) j.key (events j)
 
+    -- There a checker finds no fault in how it ended.
+    abbrev pub EndsWellIf : Journal → Judged → Type 0
+    EndsWellIf j p = p.unforged ≡ true → NoCollision j → EndsWell r.history j.key (events j)
+
     -- Where no strings collide that its watchers tell apart, they are told to have been in time.
     abbrev pub IsInTimeIf : Journal → Judged → Type 0
     IsInTimeIf j p = NoneOpenedCollide j → p.in_time ≡ true
@@ -108,11 +117,13 @@ module _ (commands : ℕ → Option Command) where
     Premised Promise j p = p.unforged ≡ true → p.in_time ≡ true → NoCollision j → Promise (newest_first r.history) j.key (events j)
 
     -- Each person with a node has an honest journal over the whole history. Where its premises are told to hold it is safe, its
-    -- own signatures are fair, nobody lowers its share and it can leave with it; and what is told of its exit is paid to it.
+    -- own signatures are fair, a checker finds no fault in how it ended, nobody lowers its share and it can leave with it; and
+    -- what is told of its exit is paid to it.
     pub record Promises : Type 0 where
       pub honest : (j : Journal) → In j r.journals → IsHonest (newest_first r.history) j.key (events j)
       pub safe : Pairwise IsSafeIf r.journals r.premises
       pub fair : Pairwise IsFairIf r.journals r.premises
+      pub ends : Pairwise EndsWellIf r.journals r.premises
       pub kept : Pairwise (Premised KeepsShare) r.journals r.premises
       pub paid : Pairwise (Premised IsPaidOnExit) r.journals r.premises
 

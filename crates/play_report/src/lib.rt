@@ -1,6 +1,7 @@
 //! The report of a play: its history and journals, and whether the premises hold under which people with nodes are safe.
 #![tactic(auto)]
 
+mod endings;
 mod judging;
 pub mod laws;
 mod making;

@@ -4,23 +4,27 @@ ghost use Rattle.std.specs.Prelude.{◌≡◌, ◌≤◌, All, IfOk, OnOk, lengt
 ghost use Rattle.std.specs.List.{AllByRecursion};
 ghost use Rattle.channel_calls.specs.History.{Legal, flows_of, newest_first};
 ghost use Rattle.flow_balances.specs.Receipts.{assets_of};
+ghost use Rattle.history_check.specs.Sums.{sums_of};
 ghost use Rattle.net_model.specs.Valid.{IsValidEvent};
 ghost use Rattle.support_chain.specs.Real.{real};
 ghost use Rattle.script_play.specs.Play.{SceneOf};
 ghost use Rattle.script_rules.specs.Bounds.{Fits, persons_of, rounds_of, signers_of};
 ghost use Rattle.play_report.specs.Members.{AllFixed, AllFollowed, ArePartsOf, IsMade};
 ghost use Rattle.play_report.specs.Reported.{journal_of, IsPlayed};
-ghost use Rattle.play_report.specs.Shares.{known_shares, known_exits};
+ghost use Rattle.play_report.specs.Shares.{known_shares, known_exits, known_ending};
 
+use crate::endings::endings_of;
 use crate::judging::judge_all;
 use crate::sharing::{exits_of, have_followed, shares_of};
 use crate::walking::{journals_are_valid, journals_of, openings_are_fixed};
 use channel_calls::Entry;
+use history_check::sums_of;
 use net_model::entries_are_valid;
 use net_world::{Docket, Member};
 use nitro_bytes::{Listed, NoMemory};
 use premises::Journal;
-use report_text::{Load, Report, Share, assets_of};
+use record_bytes::{Ending, Sum};
+use report_text::{Load, Report, Share, assets_of, balances_of};
 use reported_node::ReportedNode;
 use script_names::Names;
 use script_play::{Scene, play};
@@ -28,13 +32,14 @@ use script_rules::{STEP_LIMIT, Step};
 use sign_index::Signer;
 use std::alloc::Global;
 
-/// What is told of the people with nodes, in their order: their journals, what each can get of each asset, and what it
-/// could when it was commanded to exit.
+/// What is told of the people with nodes, in their order: their journals, what each can get of each asset, what it could
+/// when it was commanded to exit, and how it ended.
 #[derive(Drop)]
 struct Tales {
     journals: Vec<Journal>,
     shares: Vec<Share>,
     exits: Vec<Share>,
+    ends: Vec<Ending>,
 }
 
 /// What is told of people whose nodes have followed the whole history.
@@ -50,6 +55,8 @@ fn tales_of<P: ReportedNode>(
         ≡ flat_map (λ m. known_shares P.ways P.shares (assets_of (flows_of history.now)) m.node) members.now) }
     ensures exits { IfOk result (λ t. t.exits.items
         ≡ flat_map (λ m. known_exits P.ways P.exits (assets_of (flows_of history.now)) m.node) members.now) }
+    ensures ends { IfOk result (λ t. t.ends.items
+        ≡ map (λ m. known_ending P.ways P.facts P.shares (assets_of (flows_of history.now)) m.node) members.now) }
     ensures followed { OnOk result (AllFollowed P.ways P.lost (length history.now) members.now) }
 {
     let journals = journals_of(alloc, members)?;
@@ -59,11 +66,22 @@ fn tales_of<P: ReportedNode>(
     have_followed(members, history.len())?;
     let shares = shares_of(alloc, &assets, members)?;
     let exits = exits_of(alloc, &assets, members)?;
+    let ends = endings_of(alloc, &assets, members)?;
     Ok(Tales {
         journals,
         shares,
         exits,
+        ends,
     })
+}
+
+/// The sums of the flows of a history.
+fn sums_in(alloc: Global, history: &[Entry]) -> Result<Vec<Sum>, NoMemory>
+    requires { Legal real (newest_first history.now) }
+    ensures { IfOk result (λ sums. sums.items ≡ sums_of (flows_of history.now)) }
+{
+    let balances = balances_of(alloc, history)?;
+    sums_of(alloc, &balances)
 }
 
 /// The report of these parts of a scene: what names stand for, how long the history was after each round, the entries in the
@@ -76,13 +94,15 @@ pub fn report_of<P: ReportedNode>(
     members: &[Member<P>],
     load: Option<Load>,
 ) -> Result<Report, NoMemory>
+    requires legal { Legal real (newest_first history.items) }
     ensures made { (s : SceneOf P) → ArePartsOf names rounds history.items members.now s
-        → IfOk result (λ report. IsMade P.ways P.lost P.shares P.exits load report s) }
+        → IfOk result (λ report. IsMade P.ways P.lost P.shares P.exits P.facts load report s) }
     ensures history { IfOk result (λ report. report.history ≡ history.items) }
 {
     let tales = tales_of(alloc, &history, members)?;
     entries_are_valid(&history);
     let premises = judge_all(alloc, &history, &tales.journals)?;
+    let sums = sums_in(alloc, &history)?;
     Ok(Report {
         history: Listed::make(history),
         journals: Listed::make(tales.journals),
@@ -91,6 +111,8 @@ pub fn report_of<P: ReportedNode>(
         premises: Listed::make(premises),
         shares: Listed::make(tales.shares),
         exits: Listed::make(tales.exits),
+        ends: Listed::make(tales.ends),
+        sums: Listed::make(sums),
         load,
     })
 }

@@ -6,6 +6,7 @@ use Rattle.adjudicator_core.proofs.SharedSteps.{shared_legal}
 use Rattle.channel_name.specs.Collisions.{NoneCollide}
 use Rattle.channel_calls.specs.History.{Legal, newest_first}
 use Rattle.channel_calls.specs.declared.entry.Entry.{Entry}
+use Rattle.funding_value.specs.Known.{FactsOf}
 use Rattle.net_model.specs.Hashed.{hashed}
 use Rattle.net_model.specs.Journals.{In, Line}
 use Rattle.net_model.specs.Occurring.{AreValid}
@@ -29,7 +30,7 @@ use Rattle.script_rules.specs.Bounds.{Fits}
 use Rattle.script_rules.specs.Conditions.{runs_in_race}
 use Rattle.script_rules.specs.declared.step.Step.{Step}
 use Rattle.support_chain.specs.Real.{real}
-use Rattle.reported_node.specs.Telling.{AreTold, HaveFixed, LinesAreTold, IsToldBy, TellsCommands, SharesAreReal, ExitsAreReal, JournalsAreByRules, KeepsShares}
+use Rattle.reported_node.specs.Telling.{AreTold, HaveFixed, LinesAreTold, IsToldBy, TellsCommands, SharesAreReal, ExitsAreReal, FactsAreReal, JournalsAreByRules, KeepsShares}
 use Rattle.world_laws.specs.Standing.{AreKept, Follows, IsWorld}
 use Rattle.race_report.proofs.Followed.{races_follow_commands}
 use Rattle.race_report.proofs.Lasting.{opens_lasting}
@@ -56,18 +57,18 @@ pub race_is_legal : {P : Type 0} (ways : Ways P) (stands : List Entry → P → 
 race_is_legal ways stands lost s h past racing seen is =
     subst (Legal real) (ap newest_first seen ∙ reverse-reverse past ∙ sym is) (shared_legal real s.seen racing.crew.legal)
 
-pub is_of_race : {P : Type 0} (ways : Ways P) (stands : List Entry → P → Type 0) (lost : P → Bool) (shares : P → ℕ → ℕ) (exits : P → Option (List (ℕ × ℕ))) (told : P → List Told)
+pub is_of_race : {P : Type 0} (ways : Ways P) (stands : List Entry → P → Type 0) (lost : P → Bool) (shares : P → ℕ → ℕ) (exits : P → Option (List (ℕ × ℕ))) (facts : P → FactsOf) (told : P → List Told)
     → AreKept ways stands → ((p : P) → AreTold (ways.lines p) (reverse (ways.journal p))) → LinesAreTold ways told → TellsCommands ways told
-    → SharesAreReal ways stands lost shares told → ExitsAreReal ways stands lost exits told → JournalsAreByRules ways stands told → KeepsShares ways stands told
+    → SharesAreReal ways stands lost shares told → ExitsAreReal ways stands lost exits told → FactsAreReal ways stands lost facts told → JournalsAreByRules ways stands told → KeepsShares ways stands told
     → RacersAreInTime ways stands
     → (steps : List Step) → All Fits steps → All (λ (step : Step). runs_in_race step ≡ true) steps → (cast : List Player) (t : RaceOf P) (r : Report)
-    → IsRaceOf ways steps cast t → IsRacing ways stands lost (stage_of t) → IsMade ways lost shares exits None r t.scene → IsOfRace ways cast r steps
-is_of_race {P} ways stands lost shares exits told kept tells opens commands gets got rules holds timely steps fit may cast t r races racing made = record {
+    → IsRaceOf ways steps cast t → IsRacing ways stands lost (stage_of t) → IsMade ways lost shares exits facts None r t.scene → IsOfRace ways cast r steps
+is_of_race {P} ways stands lost shares exits facts told kept tells opens commands gets got knows rules holds timely steps fit may cast t r races racing made = record {
   race = t;
   races = races;
-  tells = tells_scene ways stands lost shares exits told kept tells opens gets got rules holds (command_of steps) t.scene world by None r made;
-  keeps = promises ways stands lost shares exits told kept tells opens gets got rules holds (command_of steps) t.scene world by None r made;
-  in_time = all_in_time ways stands lost shares exits told kept tells opens gets got rules holds (command_of steps) t.scene world by None r made early;
+  tells = tells_scene ways stands lost shares exits facts told kept tells opens gets got knows rules holds (command_of steps) t.scene world by None r made;
+  keeps = promises ways stands lost shares exits facts told kept tells opens gets got knows rules holds (command_of steps) t.scene world by None r made;
+  in_time = all_in_time ways stands lost shares exits facts told kept tells opens gets got knows rules holds (command_of steps) t.scene world by None r made early;
 }
   where
     world : IsWorld stands t.scene.world

@@ -2,6 +2,7 @@
 use Rattle.std.specs.Prelude.{ℕ, List, ◌++◌, Option, Some, None, codes, flat_map}
 use Rattle.std.specs.Fmt.{decimal}
 use Rattle.channel_calls.specs.History.{flows_of}
+use Rattle.record_bytes.specs.declared.run_record.Record.{Record}
 use Rattle.report_text.specs.People.{all_refused, command_lines}
 use Rattle.report_text.specs.Shares.{person_lines}
 use Rattle.report_lines.specs.Text.{◌&◌, ended, entry_line, end_line, balance_lines}
@@ -22,3 +23,7 @@ text_of r =
     ++ end_line r.history
     ++ balance_lines r.labels (flows_of r.history)
     ++ flat_map (person_lines r.labels (flows_of r.history) r.shares r.exits) r.premises
+
+-- the record of the run, for somebody who checks it
+abbrev pub record_from : Report → Record
+record_from r = record { history = r.history; sums = r.sums; ends = r.ends }

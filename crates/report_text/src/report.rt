@@ -3,12 +3,13 @@
 ghost use Rattle.std.specs.Prelude.{◌≡◌, IfOk};
 ghost use Rattle.channel_calls.specs.History.{Legal, newest_first};
 ghost use Rattle.support_chain.specs.Real.{real};
-ghost use Rattle.report_text.specs.Report.{text_of};
+ghost use Rattle.report_text.specs.Report.{text_of, record_from};
 
 use crate::text::report_text;
 use channel_calls::Entry;
 use nitro_bytes::{Dest, Label, Listed, Name, NoMemory};
 use premises::Journal;
+use record_bytes::{Ending, Record, Sum};
 
 /// Whether each premise of a person's safety holds.
 #[derive(Clone, Copy, Debug, Drop)]
@@ -37,7 +38,8 @@ pub struct Load {
 /// What a run made: its history, in the order of time; the journals of the people with nodes, in the order of their
 /// declaration; how long the history was after each round; the names of the declared people and channels, in the order
 /// of declaration; for each journal whether the premises of its person's safety hold; the shares of those people at the
-/// end; those just after they were commanded to exit; and, where it is of a load, what that was made from.
+/// end; those just after they were commanded to exit; how each of them ended; the sums of the flows of the history; and, where
+/// it is of a load, what that was made from. No text is made of the endings and the sums.
 #[derive(Drop)]
 pub struct Report {
     pub history: Listed<Entry>,
@@ -47,6 +49,8 @@ pub struct Report {
     pub premises: Listed<Judged>,
     pub shares: Listed<Share>,
     pub exits: Listed<Share>,
+    pub ends: Listed<Ending>,
+    pub sums: Listed<Sum>,
     pub load: Option<Load>,
 }
 
@@ -57,4 +61,15 @@ pub fn text_of(report: &Report) -> Result<Vec<u8>, NoMemory>
 {
     let text = report_text(report.history.allocator(), report)?;
     Ok(text.into_bytes())
+}
+
+/// The record of the run, for somebody who checks it.
+pub fn record_from(report: Report) -> Record
+    ensures { result ≡ record_from report }
+{
+    Record {
+        history: report.history,
+        sums: report.sums,
+        ends: report.ends,
+    }
 }

@@ -123,7 +123,7 @@ fn append_tables(
 }
 
 /// The balances of a history.
-fn balances_of(alloc: Global, history: &[Entry]) -> Result<Balances, NoMemory>
+pub fn balances_of(alloc: Global, history: &[Entry]) -> Result<Balances, NoMemory>
     requires { Legal real (newest_first history.now) }
     ensures flows { IfOk result (λ balances. balances ≡ flows_of history.now) }
     ensures within { IfOk result (λ balances. AreWithinAmounts balances) }

@@ -4,9 +4,10 @@ use Rattle.std.specs.List.{AllByRecursion}
 use Rattle.nitro_bytes.specs.Parts.{IsFixed}
 use Rattle.channel_name.specs.Collisions.{NoneCollide}
 use Rattle.channel_name.specs.Digests.{person_string}
-use Rattle.channel_calls.specs.History.{Legal}
+use Rattle.channel_calls.specs.History.{Legal, newest_first}
 use Rattle.channel_calls.specs.declared.entry.Entry.{Entry}
 use Rattle.channel_calls.specs.declared.event.Event.{Event}
+use Rattle.funding_value.specs.Known.{FactsOf}
 use Rattle.net_model.specs.Hashed.{of_fixed, hashed}
 use Rattle.net_model.specs.Journals.{Line}
 use Rattle.net_model.specs.Premises.{Unforged, InTime}
@@ -19,6 +20,7 @@ use Rattle.node_model.specs.Places.{Told, told_by, lines_of}
 use Rattle.node_model.specs.Exiting.{until_exit}
 use Rattle.support_chain.specs.Real.{real}
 use Rattle.world_laws.specs.Commanded.{FollowCommands}
+use Rattle.reported_node.specs.Endings.{facts_at_end, EndsWell}
 use Rattle.reported_node.specs.Promised.{Pairwise, share_at_end, share_after, IsByRules, SignsFairly, KeepsShare, IsPaidOnExit}
 
 -- ---- journals
@@ -74,6 +76,13 @@ ExitsAreReal {P} ways stands lost exits told =
     (h : List Entry) (p : P) → Legal real h → AllByRecursion IsValidEntry h → stands h p → lost p ≡ false
     → AreThose (share_after h (ways.key p) (told p)) (exits p) (until_exit (told p))
 
+-- What a node knows, where memory didn't fail it and it followed the whole history, is what is known at the end by the history,
+-- whose entries are in the order of time, and its own journal.
+abbrev pub FactsAreReal : {P : Type 0} → Ways P → (stands : List Entry → P → Type 0) → (lost : P → Bool) → (facts : P → FactsOf) → (told : P → List Told) → Type 0
+FactsAreReal {P} ways stands lost facts told =
+    (history : List Entry) (p : P) → Legal real (newest_first history) → AllByRecursion IsValidEntry (newest_first history) → stands (newest_first history) p
+    → lost p ≡ false → ways.seen p ≡ length (newest_first history) → facts p ≡ facts_at_end history (ways.key p) (told p)
+
 -- ---- what people keep
 
 -- each event is what the node's rules give
@@ -82,12 +91,16 @@ JournalsAreByRules {P} ways stands told =
     (h : List Entry) (p : P) → Legal real h → AllByRecursion IsValidEntry h → stands h p → IsByRules h (ways.key p) (told p)
 
 -- What a person keeps where nothing is forged and no hashed strings collide, those of its key and of the fixed parts that its
--- accepted commands name among them; and what it keeps where moreover its watchers are in time.
+-- accepted commands name among them, and how it ends then; and what it keeps where moreover its watchers are in time.
 pub record KeepsIf (h : List Entry) (key : List ℕ) (events : List Told) : Type 0 where
   pub fair :
       AreValid h (lines_of key events) → Unforged real key h (lines_of key events)
       → NoneCollide (hashed h (lines_of key events) ++ (person_string key ∷ flat_map of_fixed (named_in events)))
       → SignsFairly h key events
+  pub ends :
+      AreValid h (lines_of key events) → Unforged real key h (lines_of key events)
+      → NoneCollide (hashed h (lines_of key events) ++ (person_string key ∷ flat_map of_fixed (named_in events)))
+      → (history : List Entry) → newest_first history ≡ h → EndsWell history key events
   pub kept :
       AreValid h (lines_of key events) → Unforged real key h (lines_of key events)
       → NoneCollide (hashed h (lines_of key events) ++ (person_string key ∷ flat_map of_fixed (named_in events)))

@@ -2,10 +2,13 @@
 
 ghost use Rattle.std.specs.Prelude.{◌≡◌, ℕ, List, Option, IfOk, reverse};
 ghost use Rattle.std.specs.Option.{option_map};
+ghost use Rattle.funding_value.specs.Known.{FactsOf};
 ghost use Rattle.node_model.specs.Places.{Told};
 ghost use Rattle.world_laws.specs.Standing.{AreKept};
-ghost use Rattle.reported_node.specs.Telling.{AreTold, HaveFixed, LinesAreTold, TellsCommands, SharesAreReal, ExitsAreReal, JournalsAreByRules, KeepsShares};
+ghost use Rattle.reported_node.specs.Telling.{AreTold, HaveFixed, LinesAreTold, TellsCommands, SharesAreReal, ExitsAreReal, FactsAreReal, JournalsAreByRules, KeepsShares};
 
+use channel_calls::{HeldChain, Known};
+use funding_value::Plan;
 use net_party::Party;
 use nitro_bytes::NoMemory;
 
@@ -18,6 +21,9 @@ pub trait ReportedNode: Party {
     // each asset that the node knew then.
     ghost exits: { Self → Option (List (ℕ × ℕ)) };
 
+    // What it knows.
+    ghost facts: { Self → FactsOf };
+
     // The events of its journal with their commands, the newest first.
     ghost reported: { Self → List Told };
 
@@ -28,6 +34,18 @@ pub trait ReportedNode: Party {
     /// What its person could get when it was commanded to exit, if it was.
     fn exit_shares(&self) -> Option<&[(u32, u128)]>
         ensures { option_map (λ s. s.now) result ≡ exits self.now };
+
+    /// Its person, and the parts in the order in which they were opened.
+    fn own_plan(&self) -> &Plan
+        ensures { result.now ≡ (facts self.now).plan };
+
+    /// The last state that it signed in each channel of which it holds a chain, in the order in which they were added.
+    fn own_states(&self) -> &[Known]
+        ensures { result.now ≡ (facts self.now).known };
+
+    /// The chains that it holds, in the same order.
+    fn own_chains(&self) -> &[HeldChain]
+        ensures { result.now ≡ (facts self.now).chains };
 
     /// The fixed parts that its commands add to its plan are such as their type promises.
     fn openings_are_fixed(&self)
@@ -47,12 +65,16 @@ pub trait ReportedNode: Party {
     // Where it followed the whole history, its shares are those of the definition.
     ghost gets: { SharesAreReal Self.ways Self.stands Self.lost shares reported };
 
+    // And what it knows is what is known by its journal.
+    ghost knows: { FactsAreReal Self.ways Self.stands Self.lost facts reported };
+
     // What it tells of its exit are those of the definition just after the command.
     ghost got: { ExitsAreReal Self.ways Self.stands Self.lost exits reported };
 
     // Each event is what the rules and tables of the network's node give.
     ghost plays: { JournalsAreByRules Self.ways Self.stands reported };
 
-    // Its own signatures are fair, nobody lowers the share of its person, and it can leave with it, where its premises hold.
+    // Its own signatures are fair, a checker finds no fault in how it ended, nobody lowers the share of its person, and it can
+    // leave with it, where its premises hold.
     ghost holds: { KeepsShares Self.ways Self.stands reported };
 }

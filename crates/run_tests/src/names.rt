@@ -61,6 +61,8 @@ fn report(alloc: Global, channel: Name) -> Result<Report, NoMemory>
         premises: Listed::make(Vec::new(alloc)),
         shares: Listed::make(Vec::new(alloc)),
         exits: Listed::make(Vec::new(alloc)),
+        ends: Listed::make(Vec::new(alloc)),
+        sums: Listed::make(Vec::new(alloc)),
         load: None,
     })
 }

@@ -11,8 +11,8 @@ race-requires-clause-keep g c κs within =
 pub returns-clause-raced : goal.returns-clause-raced
 returns-clause-raced g c =
     let told = g.met.P.ReportedNode g.world.𝓛 g.world.𝓜 g.world.𝓡 ((λ s x. x), (λ x. x), (λ x. x), λ x. x) in
-    is_of_race g.P.Party.ways g.P.Party.stands g.P.Party.lost g.P.ReportedNode.shares g.P.ReportedNode.exits g.P.ReportedNode.reported
-    told.keeps told.reports told.opens told.commands told.gets told.got told.plays told.holds
+    is_of_race g.P.Party.ways g.P.Party.stands g.P.Party.lost g.P.ReportedNode.shares g.P.ReportedNode.exits g.P.ReportedNode.facts g.P.ReportedNode.reported
+    told.keeps told.reports told.opens told.commands told.gets told.got told.knows told.plays told.holds
     c.requires.timely c.args.steps.now c.requires.fit c.requires.may_race _ _ c.in_ok-report.report
     c.in_ok-race.ensures.raced c.in_ok-race.ensures.racing
     (c.in_ok-report.ensures.made _ (record {
@@ -26,3 +26,10 @@ pub returns-clause-legal : goal.returns-clause-legal
 returns-clause-legal g c =
     race_is_legal g.P.Party.ways g.P.Party.stands g.P.Party.lost _ c.in_ok-report.report.history _ c.in_ok-race.ensures.racing refl
     (ap newest_first c.in_ok-report.ensures.history ∙ c.into_parts-names.ensures.history)
+
+pub report_of-requires : goal.report_of-requires
+report_of-requires g c = record {
+  legal =
+      race_is_legal g.P.Party.ways g.P.Party.stands g.P.Party.lost _ c.into_parts-names.result.2.items _ c.in_ok-race.ensures.racing refl
+      c.into_parts-names.ensures.history;
+}

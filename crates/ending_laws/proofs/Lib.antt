@@ -1,0 +1,9 @@
+pub mod Lists
+pub mod Joining
+pub mod Firsts
+pub mod Payments
+pub mod Votes
+pub mod Sites
+pub mod Few
+pub mod Grounded
+pub mod Ending
