@@ -219,6 +219,11 @@ impl Desk {
         }
     }
 
+    /// The bytes of a message of the channel.
+    pub(crate) fn message(&self, row: &Brought) -> Result<Vec<u8>, Fail> {
+        message_of(self.alloc, &self.people, &self.channel, row)
+    }
+
     pub(crate) fn answer(&self, node: &mut Node, step: &Step) -> Result<Said, Fail> {
         match step {
             Step::Open(nonce) => self.opens(node, *nonce),

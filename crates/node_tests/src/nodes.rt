@@ -1,6 +1,7 @@
 //! What a node answers, worked out by hand from the rules. Whole runs of two nodes are files, in `examples`.
 
 use crate::desk::{Desk, Said, Step, node_of};
+use crate::messages::Brought;
 use channel_calls::NodeRefusal;
 use deadline_clock::Standing;
 use net_node::Node;
@@ -134,5 +135,76 @@ fn new_node(alloc: Global, number: u8) -> Result<(Option<NodeFault>, bool, u32, 
 fn a_new_node_answers(rt: HostRuntime) -> Result<(), Fail> {
     let fault = Some(NodeFault::Refused(NodeRefusal::BadBytes));
     assert_eq!(rt; new_node(rt.alloc(), 7)?, (fault, true, 0, 1));
+    Ok(())
+}
+
+const BROKEN: Option<NodeFault> = Some(NodeFault::Refused(NodeRefusal::BadBytes));
+
+const FORGED: Option<NodeFault> = Some(NodeFault::Refused(NodeRefusal::BadSignature));
+
+/// The second's state of turn 1.
+const FIRST: Brought = Brought {
+    turn: 1,
+    amounts: (5, 3),
+    number: 2,
+};
+
+/// A node that waits for that state, and the message that brings it.
+fn waiting(alloc: Global) -> Result<(Node, Vec<u8>), Fail> {
+    let mut node = node_of(alloc, 1)?;
+    let desk = Desk::make(alloc, *node.key())?;
+    first_wrong(&desk, &mut node, &LATE[..2])?;
+    let message = desk.message(&FIRST)?;
+    Ok((node, message))
+}
+
+/// How many parts, kept chains and known states the node has.
+fn sizes(node: &Node) -> (usize, usize, usize) {
+    let parts = node.plan().parts.as_slice().len();
+    (parts, node.chains().len(), node.known().len())
+}
+
+/// Whether the node refuses each front of these bytes as no message.
+fn refuses_fronts(node: &mut Node, bytes: &[u8]) -> bool {
+    for length in 0..bytes.len() {
+        if node.handle(&bytes[..length]).err() != BROKEN {
+            return false;
+        }
+    }
+    true
+}
+
+/// What the node says of the message with one byte more, and of the message with another last byte.
+fn broken(node: &mut Node, mut message: Vec<u8>) -> Result<[Option<NodeFault>; 2], Fail> {
+    message.push(0)?;
+    let longer = node.handle(&message).err();
+    message.pop();
+    let last = message.pop().unwrap_or(0);
+    message.push(last ^ 1)?;
+    let forged = node.handle(&message).err();
+    Ok([longer, forged])
+}
+
+/// Whether fronts of a message are refused, what is said of the two broken ones, whether the node knows what it knew, whether
+/// its journal has a line more for each, and what is said of the message then.
+fn broken_messages(
+    alloc: Global,
+) -> Result<(bool, [Option<NodeFault>; 2], bool, bool, Option<NodeFault>), Fail> {
+    let (mut node, message) = waiting(alloc)?;
+    let before = sizes(&node);
+    let lines = node.journal().len();
+    let refused = refuses_fronts(&mut node, &message);
+    let length = message.len();
+    let faults = broken(&mut node, message)?;
+    let is_same = sizes(&node) == before;
+    let is_told = node.journal().len().saturating_sub(lines) == length.saturating_add(2);
+    let whole = waiting(alloc)?.1;
+    Ok((refused, faults, is_same, is_told, node.handle(&whole).err()))
+}
+
+#[test]
+fn a_broken_message_changes_nothing(rt: HostRuntime) -> Result<(), Fail> {
+    let wanted = (true, [BROKEN, FORGED], true, true, None);
+    assert_eq!(rt; broken_messages(rt.alloc())?, wanted);
     Ok(())
 }
