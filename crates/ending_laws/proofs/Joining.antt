@@ -28,12 +28,14 @@ use Rattle.net_model.proofs.Members.{In-map}
 use Rattle.net_model.specs.Journals.{In}
 use Rattle.net_party.specs.declared.command.Command.{Command}
 use Rattle.net_party.specs.declared.command.Command.TheVariants as commands
+use Rattle.net_party.specs.declared.command.Route.{Route}
 use Rattle.node_model.specs.Minds.{Mind, facts_of}
 use Rattle.node_model.specs.Openings.{opened_by, place_among, takes_part, virtual, parts_of}
 use Rattle.node_model.specs.Places.{Told, lines_of, mind_at}
 use Rattle.node_model.specs.Playing.{Signing, Plays}
 use Rattle.node_share_laws.proofs.Apart.{apart-back}
-use Rattle.node_tables.specs.Fitting.{can_share, is_double_small, is_channel_of, are_channels_of, both_lend, fits_among, fits}
+use Rattle.node_tables.proofs.OnlyPlain.{fits-plain}
+use Rattle.node_tables.specs.Fitting.{can_share, is_double_small, is_channel_of, are_channels_of, both_lend, fits_among}
 use Rattle.node_tables.specs.Ledgers.{are_same}
 use Rattle.node_tables.specs.Stages.{stages}
 use Rattle.share_laws.proofs.Finality.{opened-there}
@@ -67,11 +69,6 @@ among f ledgers guarantors joint channel asset ab x y z e =
       a = people-of (x ∷ y ∷ []) guarantors.0 (and-left (is_channel_of 2 (x ∷ y ∷ []) guarantors.0) (is_channel_of 2 (y ∷ z ∷ []) guarantors.1) both);
       b = people-of (y ∷ z ∷ []) guarantors.1 (and-right (is_channel_of 2 (x ∷ y ∷ []) guarantors.0) (is_channel_of 2 (y ∷ z ∷ []) guarantors.1) both);
     }
-
-fitting : (f : FactsOf) (ledgers : List ℕ × List ℕ) (guarantors : FixedParts × FixedParts) (joint channel : FixedParts) (asset : ℕ) (ab : ℕ × ℕ)
-    → fits f (commands.OpenVirtual ledgers guarantors joint channel asset ab) ≡ true → fits_among f ledgers guarantors joint channel asset ab (persons joint) ≡ true
-unfolding fits
-fitting f ledgers guarantors joint channel asset ab e = e
 
 differ-twice : (me one other : List ℕ) → bytes_eq me one ≡ false → bytes_eq me other ≡ false → In me (one ∷ other ∷ []) → ⊥
 differ-twice me one other a b (inl e) = clash (bytes_eq me one) (subst (λ (n : List ℕ). bytes_eq me n ≡ true) e (bytes_eq_self me)) a
@@ -108,10 +105,10 @@ module _ (s : Signing) (h : List Entry) (journal : List Told) (fair : IsFair s h
   own-person : (f : FixedParts) → In f (channels (lines_of s.key front)) → In (name_of_person s.key) (persons f)
   own-person f i = In-map name_of_person s.key f.keys (own-key f i)
 
-  module _ (ledgers : List ℕ × List ℕ) (guarantors : FixedParts × FixedParts) (joint channel : FixedParts) (asset : ℕ) (amounts : ℕ × ℕ)
-      (took : Took (commands.OpenVirtual ledgers guarantors joint channel asset amounts) front) where
+  module _ (route : Route) (ledgers : List ℕ × List ℕ) (guarantors : FixedParts × FixedParts) (joint channel : FixedParts) (asset : ℕ) (amounts : ℕ × ℕ)
+      (took : Took (commands.OpenVirtual route ledgers guarantors joint channel asset amounts) front) where
     abbrev command : Command
-    command = commands.OpenVirtual ledgers guarantors joint channel asset amounts
+    command = commands.OpenVirtual route ledgers guarantors joint channel asset amounts
 
     abbrev v : Virtual
     v = virtual real s.key ledgers guarantors joint channel asset amounts
@@ -119,7 +116,7 @@ module _ (s : Signing) (h : List Entry) (journal : List Told) (fair : IsFair s h
     -- at an end
     module _ (takes : takes_part s.key channel ≡ true) where
       there : In (parts.End v) m.parts
-      there = opened-part command (parts.End v) took (at-end s.key ledgers guarantors joint channel asset amounts takes)
+      there = opened-part command (parts.End v) took (at-end s.key route ledgers guarantors joint channel asset amounts takes)
 
       known : PartAt s past front (parts.End v)
       known = parts_are_known s h journal past front fair.nodes at.front_is (parts.End v) there
@@ -135,7 +132,7 @@ module _ (s : Signing) (h : List Entry) (journal : List Told) (fair : IsFair s h
           let fit = fitted stages real s h fair.nodes.legal joint front plays command joint took (inr (inr (inl refl))) in
           among (facts_of fit.0) ledgers guarantors joint channel asset amounts e.end.terms.first e.end.terms.middle e.end.terms.second
           (subst (λ (ps : List (List ℕ)). fits_among (facts_of fit.0) ledgers guarantors joint channel asset amounts ps ≡ true) (sym (ap persons joint-is) ∙ e.joint.people)
-          (fitting (facts_of fit.0) ledgers guarantors joint channel asset amounts fit.1))
+          (fits-plain (facts_of fit.0) route ledgers guarantors joint channel asset amounts fit.1))
 
       -- nobody is in the guarantor of the other end
       not-first : (side : Bool) → side ≡ true → cond side e.end.terms.second e.end.terms.first ≡ name_of_person s.key → In (name_of_person s.key) (persons guarantors.0) → ⊥
@@ -180,7 +177,7 @@ module _ (s : Signing) (h : List Entry) (journal : List Told) (fair : IsFair s h
         go true t = record { part = parts.End v; there = there t; joins = at-an-end t f i inside }
         go false t = record {
           part = parts.Middle v;
-          there = opened-part command (parts.Middle v) took (at-middle s.key ledgers guarantors joint channel asset amounts t);
+          there = opened-part command (parts.Middle v) took (at-middle s.key route ledgers guarantors joint channel asset amounts t);
           joins = at-a-middle t f own inside;
         }
 
@@ -197,8 +194,8 @@ module _ (s : Signing) (h : List Entry) (journal : List Told) (fair : IsFair s h
     joins = inl (ap (λ (x : FixedParts). real.named x) is);
   }
   of-command f i own (commands.OpenOn ledger g asset amounts) took (inr j) = absurd j
-  of-command f i own (commands.OpenVirtual ledgers guarantors joint channel asset amounts) took inside =
-      of-virtual ledgers guarantors joint channel asset amounts took f i own inside
+  of-command f i own (commands.OpenVirtual route ledgers guarantors joint channel asset amounts) took inside =
+      of-virtual route ledgers guarantors joint channel asset amounts took f i own inside
   of-command f i own (commands.Pay channel asset amount) took j = absurd j
   of-command f i own (commands.Close channel) took j = absurd j
   of-command f i own commands.Exit took j = absurd j

@@ -72,7 +72,7 @@ pub paid-by : (d : Deed) (o : Option Command) (paid : List ℕ) (asset amount : 
 paid-by (deeds.Commanded step None) (Some (commands.Pay channel a n)) paid asset amount e = record { step = step; deed = refl; command = e }
 paid-by (deeds.Commanded step None) (Some (commands.Open f outcome)) paid asset amount e = absurd (none-eq _ e)
 paid-by (deeds.Commanded step None) (Some (commands.OpenOn l f a n)) paid asset amount e = absurd (none-eq _ e)
-paid-by (deeds.Commanded step None) (Some (commands.OpenVirtual ls gs j c a n)) paid asset amount e = absurd (none-eq _ e)
+paid-by (deeds.Commanded step None) (Some (commands.OpenVirtual route ls gs j c a n)) paid asset amount e = absurd (none-eq _ e)
 paid-by (deeds.Commanded step None) (Some (commands.Close c)) paid asset amount e = absurd (none-eq _ e)
 paid-by (deeds.Commanded step None) (Some commands.Exit) paid asset amount e = absurd (none-eq _ e)
 paid-by (deeds.Commanded step None) None paid asset amount e = absurd (none-eq _ e)

@@ -19,6 +19,7 @@ use Rattle.funding_value.specs.declared.plan.Part.TheVariants as parts
 use Rattle.net_model.specs.Journals.{In, Line, made_in}
 use Rattle.net_party.specs.declared.command.Command.{Command}
 use Rattle.net_party.specs.declared.command.Command.TheVariants as commands
+use Rattle.net_party.specs.declared.command.Route.{Route}
 use Rattle.node_laws.proofs.Allowing.{apart-one}
 use Rattle.node_model.specs.Minds.{Mind, facts_of}
 use Rattle.node_model.specs.Openings.{opened_by, parts_of, shared, takes_part, virtual}
@@ -65,16 +66,16 @@ module _ (s : Signing) (h : List Entry) (journal : List Told) (legal : Legal rea
       wants-opening ledger f asset amounts p.m n.state ((n.state.outcome ≡ shared f asset amounts) × (n.state.app_bytes ≡ [])) p.known_there p.asked_is p.going p.wants
       (λ c from until is w. let z = exactly c (shared f asset amounts) from until n.state is w in (z.1, z.2))
 
-  pub end-signs : (ledgers : List ℕ × List ℕ) (guarantors : FixedParts × FixedParts) (joint channel : FixedParts) (asset : ℕ) (amounts : ℕ × ℕ) (t : Terms)
-      → Took (commands.OpenVirtual ledgers guarantors joint channel asset amounts) journal → takes_part s.key channel ≡ true
+  pub end-signs : (route : Route) (ledgers : List ℕ × List ℕ) (guarantors : FixedParts × FixedParts) (joint channel : FixedParts) (asset : ℕ) (amounts : ℕ × ℕ) (t : Terms)
+      → Took (commands.OpenVirtual route ledgers guarantors joint channel asset amounts) journal → takes_part s.key channel ≡ true
       → terms_for (virtual real s.key ledgers guarantors joint channel asset amounts) (persons joint) ≡ Some t → SignsFirst channel (shared channel asset amounts) (lines_of s.key journal)
-  end-signs ledgers guarantors joint channel asset amounts t took takes told x n i made small =
-      let distinct = names-differ s h journal legal plays ledgers guarantors joint channel asset amounts took in
-      let p = first-place s h journal legal plays (commands.OpenVirtual ledgers guarantors joint channel asset amounts) (parts.End (virtual real s.key ledgers guarantors joint channel asset amounts)) channel
-      (shared channel asset amounts) (people channel - 1) took (inr (inr (inr (inl refl)))) (at-end s.key ledgers guarantors joint channel asset amounts takes)
-      (end-starts s.key ledgers guarantors joint channel asset amounts t told distinct channel (shared channel asset amounts) (payment-channel-of s.key ledgers guarantors joint channel asset amounts t told distinct))
+  end-signs route ledgers guarantors joint channel asset amounts t took takes told x n i made small =
+      let distinct = names-differ s h journal legal plays route ledgers guarantors joint channel asset amounts took in
+      let p = first-place s h journal legal plays (commands.OpenVirtual route ledgers guarantors joint channel asset amounts) (parts.End (virtual real s.key ledgers guarantors joint channel asset amounts)) channel
+      (shared channel asset amounts) (people channel - 1) took (inr (inr (inr (inl refl)))) (at-end s.key route ledgers guarantors joint channel asset amounts takes)
+      (end-starts s.key route ledgers guarantors joint channel asset amounts t told distinct channel (shared channel asset amounts) (payment-channel-of s.key route ledgers guarantors joint channel asset amounts t told distinct))
       x n i made small in
-      channel-wants s.key ledgers guarantors joint channel asset amounts t told distinct p.m n.state ((n.state.outcome ≡ shared channel asset amounts) × (n.state.app_bytes ≡ []))
+      channel-wants s.key route ledgers guarantors joint channel asset amounts t told distinct p.m n.state ((n.state.outcome ≡ shared channel asset amounts) × (n.state.app_bytes ≡ []))
       p.known_there p.asked_is p.going p.wants (λ c from until is w. let z = exactly c (shared channel asset amounts) from until n.state is w in (z.1, z.2))
 
 -- ---- the command of a part at a place
@@ -145,7 +146,7 @@ module _ (s : Signing) (h : List Entry) (journal : List Told) (fair : IsFair s h
       of (commands.OpenOn l f asset amounts) took (inr j) goal = absurd j
       of (commands.Open f outcome) took (inl e) goal = absurd cc
       of (commands.Open f outcome) took (inr j) goal = absurd j
-      of (commands.OpenVirtual ledgers guarantors joint channel asset amounts) took j goal = absurd (no (takes_part s.key channel) j)
+      of (commands.OpenVirtual route ledgers guarantors joint channel asset amounts) took j goal = absurd (no (takes_part s.key channel) j)
         where
           no : (b : Bool) → In (parts.OnLedger ledger name)
               (cond b (parts.End (virtual real s.key ledgers guarantors joint channel asset amounts) ∷ []) (parts.Middle (virtual real s.key ledgers guarantors joint channel asset amounts) ∷ [])) → ⊥

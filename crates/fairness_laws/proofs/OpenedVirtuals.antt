@@ -14,6 +14,7 @@ use Rattle.funding_value.specs.declared.plan.Virtual.{Virtual}
 use Rattle.net_model.specs.Journals.{In}
 use Rattle.net_party.specs.declared.command.Command.{Command}
 use Rattle.net_party.specs.declared.command.Command.TheVariants as commands
+use Rattle.net_party.specs.declared.command.Route.{Route}
 use Rattle.node_model.specs.Minds.{Mind, facts_of}
 use Rattle.node_model.specs.Openings.{opened_by, parts_of, shared, takes_part, virtual}
 use Rattle.node_model.specs.Places.{Told, lines_of, mind_at}
@@ -64,13 +65,14 @@ module _ (s : Signing) (h : List Entry) (journal : List Told) (fair : IsFair s h
 
   -- the command by which it was opened
   pub record OpenedBy (v : Virtual) (g : Goal) (end : Bool) : Type 0 where
+    pub route : Route
     pub ledgers : List ℕ × List ℕ
     pub guarantors : FixedParts × FixedParts
     pub joint : FixedParts
     pub channel : FixedParts
     pub asset : ℕ
     pub amounts : ℕ × ℕ
-    pub took : Took (commands.OpenVirtual ledgers guarantors joint channel asset amounts) front
+    pub took : Took (commands.OpenVirtual route ledgers guarantors joint channel asset amounts) front
     pub takes : takes_part s.key channel ≡ end
     pub is : v ≡ virtual real s.key ledgers guarantors joint channel asset amounts
     pub goal : GoalIs channel asset amounts g
@@ -92,13 +94,14 @@ module _ (s : Signing) (h : List Entry) (journal : List Told) (fair : IsFair s h
       by-command true (commands.Open f outcome) took (inl q) goal = absurd cc
       by-command false (commands.Open f outcome) took (inl q) goal = absurd cc
       by-command end (commands.Open f outcome) took (inr j) goal = absurd j
-      by-command end (commands.OpenVirtual ledgers guarantors joint channel asset amounts) took j goal = by end (takes_part s.key channel) refl j
+      by-command end (commands.OpenVirtual route ledgers guarantors joint channel asset amounts) took j goal = by end (takes_part s.key channel) refl j
         where
           w : Virtual
           w = virtual real s.key ledgers guarantors joint channel asset amounts
 
           opened : (end : Bool) → takes_part s.key channel ≡ end → v ≡ w → OpenedBy v g end
           opened end takes is = record {
+            route = route;
             ledgers = ledgers;
             guarantors = guarantors;
             joint = joint;
@@ -108,7 +111,7 @@ module _ (s : Signing) (h : List Entry) (journal : List Told) (fair : IsFair s h
             took = took;
             takes = takes;
             is = is;
-            goal = goal-is ledgers guarantors joint channel asset amounts g goal;
+            goal = goal-is route ledgers guarantors joint channel asset amounts g goal;
           }
 
           by : (end b : Bool) → takes_part s.key channel ≡ b → In (part-of v end) (cond b (parts.End w ∷ []) (parts.Middle w ∷ [])) → OpenedBy v g end
@@ -164,7 +167,7 @@ module _ (s : Signing) (h : List Entry) (journal : List Told) (fair : IsFair s h
       w = virtual real s.key o.ledgers o.guarantors o.joint o.channel o.asset o.amounts
 
       command : Command
-      command = commands.OpenVirtual o.ledgers o.guarantors o.joint o.channel o.asset o.amounts
+      command = commands.OpenVirtual o.route o.ledgers o.guarantors o.joint o.channel o.asset o.amounts
 
       took : Took command journal
       took = later-took s h journal fair past front at command o.took
@@ -181,12 +184,12 @@ module _ (s : Signing) (h : List Entry) (journal : List Told) (fair : IsFair s h
           ∙ told-terms w t (e.joint.asset ∙ ap (λ (x : Virtual). x.asset) o.is) (e.joint.channel ∙ ap (λ (x : Virtual). x.channel) o.is) (e.joint.total ∙ ap (λ (x : Virtual). x.total) o.is)
 
       distinct : Differ (real.named o.guarantors.0) (real.named o.guarantors.1) (real.named o.joint) (real.named o.channel)
-      distinct = names-differ s h journal fair.nodes.legal fair.nodes.plays o.ledgers o.guarantors o.joint o.channel o.asset o.amounts took
+      distinct = names-differ s h journal fair.nodes.legal fair.nodes.plays o.route o.ledgers o.guarantors o.joint o.channel o.asset o.amounts took
 
       guarantor-is : e.guarantor.fixed ≡ guarantor_of w o.guarantors
       guarantor-is =
-          same-fixed command o.took (guarantor_of w o.guarantors) (guarantor-inside s.key o.ledgers o.guarantors o.joint o.channel o.asset o.amounts t told distinct) e.guarantor.fixed e.guarantor.seat.own.there
-          (e.guarantor.named ∙ (ap own_guarantor o.is ∙ sym (guarantor-named s.key o.ledgers o.guarantors o.joint o.channel o.asset o.amounts t told distinct)))
+          same-fixed command o.took (guarantor_of w o.guarantors) (guarantor-inside s.key o.route o.ledgers o.guarantors o.joint o.channel o.asset o.amounts t told distinct) e.guarantor.fixed e.guarantor.seat.own.there
+          (e.guarantor.named ∙ (ap own_guarantor o.is ∙ sym (guarantor-named s.key o.route o.ledgers o.guarantors o.joint o.channel o.asset o.amounts t told distinct)))
 
       promise-is : guarantee t w.joint (own_end w t) ≡ guarantee t v.joint (name_of_person s.key)
       promise-is = ap (λ (x : Virtual). guarantee t x.joint (own_end x t)) (sym o.is) ∙ ap (guarantee t v.joint) e.me
@@ -201,15 +204,15 @@ module _ (s : Signing) (h : List Entry) (journal : List Told) (fair : IsFair s h
 
       by : EndOpened v g e
       by =
-          let opens = ends_open s h journal fair.nodes.legal fair.nodes.plays o.ledgers o.guarantors o.joint o.channel o.asset o.amounts t took o.takes told in
+          let opens = ends_open s h journal fair.nodes.legal fair.nodes.plays o.route o.ledgers o.guarantors o.joint o.channel o.asset o.amounts t took o.takes told in
           record {
             guarantees = there Opens (guarantor_of w o.guarantors) e.guarantor.fixed (guarantee t w.joint (own_end w t)) (guarantee t v.joint (name_of_person s.key)) guarantor-is promise-is opens.guarantor_opens;
             signs = there Signs (guarantor_of w o.guarantors) e.guarantor.fixed (guarantee t w.joint (own_end w t)) (guarantee t v.joint (name_of_person s.key)) guarantor-is promise-is
-                (ends_sign s h journal fair.nodes.legal fair.nodes.plays o.ledgers o.guarantors o.joint o.channel o.asset o.amounts t took o.takes told);
+                (ends_sign s h journal fair.nodes.legal fair.nodes.plays o.route o.ledgers o.guarantors o.joint o.channel o.asset o.amounts t took o.takes told);
             splits = there Opens o.joint e.joint.fixed (apart t o.amounts) (apart t g.amounts) joint-is split-is opens.joint_opens;
             opens = there Opens o.channel e.fixed (shared o.channel w.asset o.amounts) g.opening channel-is opening-is opens.channel_opens;
             first = there First o.channel e.fixed (shared o.channel w.asset o.amounts) g.opening channel-is opening-is
-                (end-signs s h journal fair.nodes.legal fair.nodes.plays o.ledgers o.guarantors o.joint o.channel o.asset o.amounts t took o.takes told);
+                (end-signs s h journal fair.nodes.legal fair.nodes.plays o.route o.ledgers o.guarantors o.joint o.channel o.asset o.amounts t took o.takes told);
           }
 
   -- ---- at the intermediary
@@ -238,7 +241,7 @@ module _ (s : Signing) (h : List Entry) (journal : List Told) (fair : IsFair s h
       w = virtual real s.key o.ledgers o.guarantors o.joint o.channel o.asset o.amounts
 
       command : Command
-      command = commands.OpenVirtual o.ledgers o.guarantors o.joint o.channel o.asset o.amounts
+      command = commands.OpenVirtual o.route o.ledgers o.guarantors o.joint o.channel o.asset o.amounts
 
       took : Took command journal
       took = later-took s h journal fair past front at command o.took
@@ -267,8 +270,8 @@ module _ (s : Signing) (h : List Entry) (journal : List Told) (fair : IsFair s h
 
       by : MiddleOpened v g e
       by =
-          let opens = middles_open s h journal fair.nodes.legal fair.nodes.plays o.ledgers o.guarantors o.joint o.channel o.asset o.amounts t took o.takes told in
-          let signs = middles_sign s h journal fair.nodes.legal fair.nodes.plays o.ledgers o.guarantors o.joint o.channel o.asset o.amounts t took o.takes told in
+          let opens = middles_open s h journal fair.nodes.legal fair.nodes.plays o.route o.ledgers o.guarantors o.joint o.channel o.asset o.amounts t took o.takes told in
+          let signs = middles_sign s h journal fair.nodes.legal fair.nodes.plays o.route o.ledgers o.guarantors o.joint o.channel o.asset o.amounts t took o.takes told in
           record {
             guarantees_a = there Opens o.guarantors.0 e.guarantor_a.fixed (guarantee t w.joint t.first) (guarantee t v.joint t.first) a-is (promise-is t.first) opens.first_opens;
             guarantees_b = there Opens o.guarantors.1 e.guarantor_b.fixed (guarantee t w.joint t.second) (guarantee t v.joint t.second) b-is (promise-is t.second) opens.second_opens;

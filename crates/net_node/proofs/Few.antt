@@ -95,7 +95,7 @@ fewer test (x ∷ xs) = go (test x) (fewer test xs)
 as-opened : (key : List ℕ) (command : Command) → length (channels (parts_of real key command)) ≡ length (opened_by command)
 as-opened key (Open f outcome) = refl
 as-opened key (OpenOn ledger f asset amounts) = refl
-as-opened key (OpenVirtual ledgers guarantors joint channel asset amounts) = go (takes_part key channel)
+as-opened key (OpenVirtual route ledgers guarantors joint channel asset amounts) = go (takes_part key channel)
   where
     v : Virtual
     v = virtual real key ledgers guarantors joint channel asset amounts
@@ -122,7 +122,7 @@ few-opened m command e few =
 few-commanded : (limit used : ℕ) (m : Mind) (command : Command) → command_refusal stages real limit used m command ≡ None → KeepsFew m → KeepsFew (commanded real command m)
 few-commanded limit used m (Open f outcome) e few = few-opened m (Open f outcome) e few
 few-commanded limit used m (OpenOn ledger f asset amounts) e few = few-opened m (OpenOn ledger f asset amounts) e few
-few-commanded limit used m (OpenVirtual ledgers guarantors joint channel asset amounts) e few = few-opened m (OpenVirtual ledgers guarantors joint channel asset amounts) e few
+few-commanded limit used m (OpenVirtual route ledgers guarantors joint channel asset amounts) e few = few-opened m (OpenVirtual route ledgers guarantors joint channel asset amounts) e few
 few-commanded limit used m (Pay channel asset amount) e few = few
 few-commanded limit used m (Close channel) e few = few-same m (commanded real (Close channel) m) refl refl few
 few-commanded limit used m Exit e few = few-same m (commanded real Exit m) refl refl few
@@ -181,7 +181,7 @@ small-told s step command n small = go (command_refusal stages real s.limit n.us
     paid : (other : Command) (m : NodeOf) → IsSmall m → IsSmall (paid_if stages real s None other m)
     paid (Open f outcome) m fine = fine
     paid (OpenOn ledger f asset amounts) m fine = fine
-    paid (OpenVirtual ledgers guarantors joint channel asset amounts) m fine = fine
+    paid (OpenVirtual route ledgers guarantors joint channel asset amounts) m fine = fine
     paid (Pay channel asset amount) m fine = small-signed s channel (signs_in stages real (Some (Pay channel asset amount)) m.mind channel) m fine
     paid (Close channel) m fine = fine
     paid Exit m fine = fine

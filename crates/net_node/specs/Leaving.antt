@@ -61,7 +61,7 @@ exit-deed : (deed : Deed) (command : Option Command) → (is_followed deed && le
 exit-deed (deeds.Commanded step None) (Some Exit) e = refl
 exit-deed (deeds.Commanded step None) (Some (Open f outcome)) e = absurd cc
 exit-deed (deeds.Commanded step None) (Some (OpenOn ledger f asset amounts)) e = absurd cc
-exit-deed (deeds.Commanded step None) (Some (OpenVirtual ledgers guarantors joint channel asset amounts)) e = absurd cc
+exit-deed (deeds.Commanded step None) (Some (OpenVirtual route ledgers guarantors joint channel asset amounts)) e = absurd cc
 exit-deed (deeds.Commanded step None) (Some (Pay channel asset amount)) e = absurd cc
 exit-deed (deeds.Commanded step None) (Some (Close channel)) e = absurd cc
 exit-deed (deeds.Commanded step None) None e = absurd cc

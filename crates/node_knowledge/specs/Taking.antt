@@ -40,5 +40,5 @@ pub record CanShare (f : FixedParts) (amounts : ℕ × ℕ) : Type 0 where
 abbrev pub CanTake : Command → Mind → Type 0
 CanTake (Open f outcome) m = CanOpen m (f ∷ [])
 CanTake (OpenOn ledger f asset amounts) m = CanOpen m (f ∷ []) × CanShare f amounts
-CanTake (OpenVirtual ledgers guarantors joint channel asset amounts) m = CanOpen m (guarantors.0 ∷ guarantors.1 ∷ joint ∷ channel ∷ []) × CanShare channel amounts
+CanTake (OpenVirtual route ledgers guarantors joint channel asset amounts) m = CanOpen m (guarantors.0 ∷ guarantors.1 ∷ joint ∷ channel ∷ []) × CanShare channel amounts
 CanTake _ m = Unit {0}

@@ -13,6 +13,7 @@ ghost use Rattle.channel_store.specs.Storing.{kept_with};
 ghost use Rattle.channel_store.specs.declared.kept.Kept.{Kept as AKept};
 ghost use Rattle.history_view.specs.Views.{view_of};
 ghost use Rattle.net_party.specs.declared.command.Command.TheVariants as commands;
+ghost use Rattle.net_party.specs.declared.command.Route.TheVariants.{Plain};
 ghost use Rattle.node_model.specs.Giving.{in_order, sends_of};
 ghost use Rattle.node_model.specs.Leaving.{challenge_in, is_over};
 ghost use Rattle.node_model.specs.Minds.{fresh, facts_of, shown_by, kept_seeing, saw, noted, with_opened, commanded};
@@ -283,6 +284,7 @@ impl Known {
         self.add_part(Part::OnLedger(*ledger, name_of(fixed)), opening, amounts)
     }
 
+    /// By each route the same is known.
     fn open_virtual(
         &mut self,
         ledgers: &(Name, Name),
@@ -294,7 +296,7 @@ impl Known {
     ) -> Result<(), NoMemory>
         requires channels { CanOpen self.old (guarantors.now.0 ∷ guarantors.now.1 ∷ joint.now ∷ channel.now ∷ []) }
         requires opening { CanShare channel.now amounts.now }
-        ensures opened { OnOk result (self.new ≡ with_opened real (commands.OpenVirtual ledgers.now guarantors.now joint.now channel.now asset amounts.now) self.old) }
+        ensures opened { OnOk result (self.new ≡ with_opened real (commands.OpenVirtual Plain ledgers.now guarantors.now joint.now channel.now asset amounts.now) self.old) }
         ensures key { self.new.key ≡ self.old.key }
     {
         let opening = shared(*self.goals.allocator(), channel, asset, amounts)?;
@@ -333,6 +335,7 @@ impl Known {
                 channel,
                 asset,
                 amounts,
+                ..
             } => self.open_virtual(ledgers, guarantors, joint, channel, *asset, amounts),
             Command::Close { channel } => {
                 self.close(channel);

@@ -7,6 +7,7 @@ ghost use Rattle.nitro_bytes.specs.declared.value.Dest.TheVariants.{Person};
 ghost use Rattle.channel_calls.specs.Naming.{name_of};
 ghost use Rattle.channel_store.specs.Storing.{kept_of};
 ghost use Rattle.net_party.specs.declared.command.Command.TheVariants.{OpenVirtual};
+ghost use Rattle.net_party.specs.declared.command.Route.TheVariants.{Plain};
 ghost use Rattle.node_model.specs.Openings as openings;
 ghost use Rattle.node_knowledge.specs.Owned.{AreOwned};
 ghost use Rattle.node_knowledge.specs.Taking.{joined, CanJoin, CanShare};
@@ -181,7 +182,8 @@ fn virtual_of(
     }
 }
 
-/// The part of a virtual channel: an end where the key is one of the payment channel's, else the intermediary's.
+/// The part of a virtual channel: an end where the key is one of the payment channel's, else the intermediary's. It is the
+/// same by each route.
 pub(crate) fn part_of_virtual(
     key: &Key,
     ledgers: &(Name, Name),
@@ -192,7 +194,7 @@ pub(crate) fn part_of_virtual(
     amounts: &(u64, u64),
 ) -> Part
     requires { amounts.now.0 + amounts.now.1 < 2 ^ 64 }
-    ensures { openings.parts_of real key.now (OpenVirtual ledgers.now guarantors.now joint.now channel.now asset amounts.now) ≡ result ∷ [] }
+    ensures { openings.parts_of real key.now (OpenVirtual Plain ledgers.now guarantors.now joint.now channel.now asset amounts.now) ≡ result ∷ [] }
 {
     let v = virtual_of(key, ledgers, guarantors, joint, channel, asset, amounts);
     if takes_part(key, channel) {

@@ -188,6 +188,6 @@ module _ (ts : Tables) (r : Rules) (s : Signing) (h : List Entry) (legal : Legal
           by (Open f outcome) e a = a
           by (Close channel) e a = a
           by (OpenOn ledger f asset amounts) e a = a
-          by (OpenVirtual ledgers guarantors joint channel asset amounts) e a = a
+          by (OpenVirtual route ledgers guarantors joint channel asset amounts) e a = a
           by Exit e a = a
           by (Pay channel asset amount) e a = pays n step channel asset amount e a

@@ -24,7 +24,7 @@ use Rattle.net_party.specs.declared.command.Command.TheVariants.{Open, OpenOn, O
 abbrev pub opened_by : Command → List FixedParts
 opened_by (Open f outcome) = f ∷ []
 opened_by (OpenOn ledger f asset amounts) = f ∷ []
-opened_by (OpenVirtual ledgers guarantors joint channel asset amounts) = guarantors.0 ∷ guarantors.1 ∷ joint ∷ channel ∷ []
+opened_by (OpenVirtual route ledgers guarantors joint channel asset amounts) = guarantors.0 ∷ guarantors.1 ∷ joint ∷ channel ∷ []
 opened_by _ = []
 
 -- the position of a key among a channel's, or how many keys it has
@@ -70,7 +70,7 @@ virtual r key ledgers guarantors joint channel asset amounts =
 abbrev pub parts_of : Rules → List ℕ → Command → List Part
 parts_of r key (Open f outcome) = Root (r.named f) ∷ []
 parts_of r key (OpenOn ledger f asset amounts) = OnLedger ledger (r.named f) ∷ []
-parts_of r key (OpenVirtual ledgers guarantors joint channel asset amounts) =
+parts_of r key (OpenVirtual route ledgers guarantors joint channel asset amounts) =
     if takes_part key channel
     then End (virtual r key ledgers guarantors joint channel asset amounts) ∷ []
     else Middle (virtual r key ledgers guarantors joint channel asset amounts) ∷ []
@@ -79,7 +79,7 @@ parts_of r key _ = []
 -- the ledgers that the part stands on
 abbrev pub ledgers_for : List ℕ → Command → List (List ℕ)
 ledgers_for key (OpenOn ledger f asset amounts) = ledger ∷ []
-ledgers_for key (OpenVirtual ledgers guarantors joint channel asset amounts) =
+ledgers_for key (OpenVirtual route ledgers guarantors joint channel asset amounts) =
     if takes_part key channel
     then (if place_among key channel == 1 then ledgers.1 else ledgers.0) ∷ []
     else ledgers.0 ∷ ledgers.1 ∷ []
@@ -103,5 +103,5 @@ goal_with part opening amounts = record { part = part; opening = opening; amount
 abbrev pub goals_of : ℕ → Command → List Goal
 goals_of part (Open f outcome) = goal_with part outcome (0, 0) ∷ []
 goals_of part (OpenOn ledger f asset amounts) = goal_with part (shared f asset amounts) amounts ∷ []
-goals_of part (OpenVirtual ledgers guarantors joint channel asset amounts) = goal_with part (shared channel asset amounts) amounts ∷ []
+goals_of part (OpenVirtual route ledgers guarantors joint channel asset amounts) = goal_with part (shared channel asset amounts) amounts ∷ []
 goals_of part _ = []

@@ -259,6 +259,7 @@ impl<M: Knowing + Drop> Node<M> {
                 },
             ),
             Command::OpenVirtual {
+                route,
                 ledgers,
                 guarantors,
                 joint,
@@ -268,6 +269,7 @@ impl<M: Knowing + Drop> Node<M> {
             } => self.take_up_quietly(
                 step,
                 Command::OpenVirtual {
+                    route,
                     ledgers,
                     guarantors,
                     joint,

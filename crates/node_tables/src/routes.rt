@@ -7,21 +7,11 @@ use crate::fitting::{both_lend, can_share, is_among, is_channel_of, is_double_sm
 use crate::ledgers::{affords_in, is_between, lends};
 use crate::stake::Stake;
 use funding_value::{Facts, Part};
+use net_party::Route;
 use nitro_bytes::{Fixed, Name};
 use plan_stages::stage;
 use stage_rules::{chain_in, place_in};
 use support_chain::people_of;
-
-/// On what a channel of two people through an intermediary stands, and what it is.
-#[derive(Clone, Copy, Debug, PartialEq, Eq)]
-pub enum Route {
-    /// A payment channel on roots.
-    Plain,
-    /// A virtual ledger on roots.
-    Ledger,
-    /// A payment channel one of whose ledgers is a virtual one.
-    Onward,
-}
 
 fn app_of(route: Route) -> u8
     ensures { result ≡ told.app_of route }

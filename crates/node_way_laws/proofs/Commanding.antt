@@ -92,7 +92,7 @@ module _ (commands : ℕ → Option Command) where
     pays (Some refusal) command n f = f
     pays None (Open fixed outcome) n f = f
     pays None (OpenOn ledger fixed asset amounts) n f = f
-    pays None (OpenVirtual ledgers guarantors joint channel asset amounts) n f = f
+    pays None (OpenVirtual route ledgers guarantors joint channel asset amounts) n f = f
     pays None (Pay channel asset amount) n f = signs channel (signs_in t r (Some (Pay channel asset amount)) n.mind channel) n f
     pays None (Close channel) n f = f
     pays None Exit n f = f

@@ -142,8 +142,8 @@ module _ (r : Rules) (key : List ℕ) (lines : List Line) where
       opens-opened seen step (Open g outcome) m there was
   did-opened seen (deeds.Commanded step None) (Some (OpenOn ledger g asset amounts)) m there was =
       opens-opened seen step (OpenOn ledger g asset amounts) m there was
-  did-opened seen (deeds.Commanded step None) (Some (OpenVirtual ledgers guarantors joint f asset amounts)) m there was =
-      opens-opened seen step (OpenVirtual ledgers guarantors joint f asset amounts) m there was
+  did-opened seen (deeds.Commanded step None) (Some (OpenVirtual route ledgers guarantors joint f asset amounts)) m there was =
+      opens-opened seen step (OpenVirtual route ledgers guarantors joint f asset amounts) m there was
   did-opened seen (deeds.Commanded step None) (Some (Pay channel asset amount)) m there was = was
   did-opened seen (deeds.Commanded step None) (Some (Close channel)) m there was =
       record { own = was.own; each = was.each }

@@ -11,6 +11,7 @@ use Rattle.channel_calls.specs.declared.call.Op.{Op}
 use Rattle.channel_calls.specs.declared.call.Op.TheVariants as ops
 use Rattle.net_party.specs.declared.command.Command.{Command}
 use Rattle.net_party.specs.declared.command.Command.TheVariants as commands
+use Rattle.net_party.specs.declared.command.Route.TheVariants.{Plain}
 use Rattle.script_rules.specs.Digests.{key_of}
 use Rattle.named_states.specs.Chains.{or_none}
 use Rattle.named_states.specs.declared.chains.NamedState.{NamedState}
@@ -250,7 +251,7 @@ module _ (n m : Names) (same : AreAlike n m) where
       after-both (both_by n.channels guarantors) (both_by m.channels guarantors) _ _ (ap (λ (channels : List NamedChannel). both_by channels guarantors) same.channels) (λ by.
       after-both (fixed_by n.channels joint) (fixed_by m.channels joint) _ _ (fixed-alike joint) (λ j.
       after-both (fixed_by n.channels channel) (fixed_by m.channels channel) _ _ (fixed-alike channel) (λ f.
-      tells n m who who (commands.OpenVirtual on by j f asset amounts) same)))))
+      tells n m who who (commands.OpenVirtual Plain on by j f asset amounts) same)))))
   meaning_alike (steps.Pay who channel asset amount) =
       whole-both n m _ _ same
       (after-both (fixed_by n.channels channel) (fixed_by m.channels channel) _ _ (fixed-alike channel) (λ f. tells n m (who ∷ []) (who ∷ []) (commands.Pay (name_of f) asset amount) same))

@@ -6,7 +6,7 @@ ghost use Rattle.script_names.specs.Meanings.{doing, telling, meaning, message_b
 
 use channel_calls::write_message;
 use named_states::state_by;
-use net_party::Command;
+use net_party::{Command, Route};
 use nitro_bytes::{Fixed, Label, Listed, Name, NoMemory, Outcome};
 use script_names::{Effect, Names};
 use std::slice;
@@ -180,6 +180,7 @@ pub(crate) fn open_virtual(
         known,
         who,
         Command::OpenVirtual {
+            route: Route::Plain,
             ledgers,
             guarantors,
             joint,

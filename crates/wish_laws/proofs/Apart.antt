@@ -163,8 +163,8 @@ command-apart : (t : Tables) (r : Rules) (s : Signing) (used : ℕ) (m : Mind) (
     → are_apart (names (commanded_if r (Some command) None m).kept) ≡ true
 command-apart t r s used m (commands.Open f outcome) e apart = opens-apart r m (commands.Open f outcome) (accepted-new t r m (commands.Open f outcome) e) apart
 command-apart t r s used m (commands.OpenOn ledger f asset amounts) e apart = opens-apart r m (commands.OpenOn ledger f asset amounts) (accepted-new t r m (commands.OpenOn ledger f asset amounts) e) apart
-command-apart t r s used m (commands.OpenVirtual ledgers guarantors joint channel asset amounts) e apart =
-    opens-apart r m (commands.OpenVirtual ledgers guarantors joint channel asset amounts) (accepted-new t r m (commands.OpenVirtual ledgers guarantors joint channel asset amounts) e) apart
+command-apart t r s used m (commands.OpenVirtual route ledgers guarantors joint channel asset amounts) e apart =
+    opens-apart r m (commands.OpenVirtual route ledgers guarantors joint channel asset amounts) (accepted-new t r m (commands.OpenVirtual route ledgers guarantors joint channel asset amounts) e) apart
 command-apart t r s used m (commands.Pay channel asset amount) e apart = apart
 command-apart t r s used m (commands.Close channel) e apart = apart
 command-apart t r s used m commands.Exit e apart = apart

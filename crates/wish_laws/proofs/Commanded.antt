@@ -106,7 +106,7 @@ taken-parts r (deeds.Commanded step None) (Some c) command m w is p i = by c (su
     by : (c : Command) → In p (parts_of r m.key c) → In p (did r (deeds.Commanded step None) (Some c) m).parts
     by (commands.Open f outcome) i = In-append_right p m.parts (parts_of r m.key (commands.Open f outcome)) i
     by (commands.OpenOn ledger f asset amounts) i = In-append_right p m.parts (parts_of r m.key (commands.OpenOn ledger f asset amounts)) i
-    by (commands.OpenVirtual ledgers guarantors joint channel asset amounts) i = In-append_right p m.parts (parts_of r m.key (commands.OpenVirtual ledgers guarantors joint channel asset amounts)) i
+    by (commands.OpenVirtual route ledgers guarantors joint channel asset amounts) i = In-append_right p m.parts (parts_of r m.key (commands.OpenVirtual route ledgers guarantors joint channel asset amounts)) i
     by (commands.Pay channel asset amount) i = absurd i
     by (commands.Close channel) i = absurd i
     by commands.Exit i = absurd i
@@ -127,7 +127,7 @@ taken-can t r s past used waits (deeds.Commanded step None) (Some c) m allowed w
     by : (c : Command) → Allowed t r s past m used waits (deeds.Commanded step None) (Some c) → In f (opened_by c) → can_open t r m c ≡ true
     by (commands.Open g outcome) a i = accepted-can t r m (commands.Open g outcome) a.1
     by (commands.OpenOn ledger g asset amounts) a i = accepted-can t r m (commands.OpenOn ledger g asset amounts) a.1
-    by (commands.OpenVirtual ledgers guarantors joint channel asset amounts) a i = accepted-can t r m (commands.OpenVirtual ledgers guarantors joint channel asset amounts) a.1
+    by (commands.OpenVirtual route ledgers guarantors joint channel asset amounts) a i = accepted-can t r m (commands.OpenVirtual route ledgers guarantors joint channel asset amounts) a.1
     by (commands.Pay channel asset amount) a i = absurd i
     by (commands.Close channel) a i = absurd i
     by commands.Exit a i = absurd i

@@ -95,7 +95,7 @@ ledgers-are key (commands.Open f outcome) q (inl e) = ap ledgers_of e
 ledgers-are key (commands.Open f outcome) q (inr i) = absurd i
 ledgers-are key (commands.OpenOn ledger f asset amounts) q (inl e) = ap ledgers_of e
 ledgers-are key (commands.OpenOn ledger f asset amounts) q (inr i) = absurd i
-ledgers-are key (commands.OpenVirtual ledgers guarantors joint channel asset amounts) q i = go (takes_part key channel) refl i
+ledgers-are key (commands.OpenVirtual route ledgers guarantors joint channel asset amounts) q i = go (takes_part key channel) refl i
   where
     v : Virtual
     v = virtual real key ledgers guarantors joint channel asset amounts
@@ -152,7 +152,7 @@ pays s past m used waits (deeds.Commanded step None) (Some (commands.Pay paid a 
     record { accepts = subst (λ (x : Command). None ≡ command_refusal stages real s.limit used m x) (some-eq (commands.Pay paid a n) (commands.Pay channel asset amount) e) allowed.1; parts = refl }
 pays s past m used waits (deeds.Commanded step None) (Some (commands.Open f outcome)) channel asset amount allowed e = absurd (none-eq _ e)
 pays s past m used waits (deeds.Commanded step None) (Some (commands.OpenOn ledger f a n)) channel asset amount allowed e = absurd (none-eq _ e)
-pays s past m used waits (deeds.Commanded step None) (Some (commands.OpenVirtual ledgers guarantors joint c a n)) channel asset amount allowed e = absurd (none-eq _ e)
+pays s past m used waits (deeds.Commanded step None) (Some (commands.OpenVirtual route ledgers guarantors joint c a n)) channel asset amount allowed e = absurd (none-eq _ e)
 pays s past m used waits (deeds.Commanded step None) (Some (commands.Close c)) channel asset amount allowed e = absurd (none-eq _ e)
 pays s past m used waits (deeds.Commanded step None) (Some commands.Exit) channel asset amount allowed e = absurd (none-eq _ e)
 pays s past m used waits (deeds.Commanded step None) None channel asset amount allowed e = absurd (none-eq _ e)

@@ -83,7 +83,7 @@ wished t waits m c k s e = by waits (staying m.left (wish_staying t waits m c k)
         go false is e = absurd (none-eq s e)
     by (Some (commands.Open f outcome)) e = inr (wants e)
     by (Some (commands.OpenOn ledger f asset amounts)) e = inr (wants e)
-    by (Some (commands.OpenVirtual ledgers guarantors joint channel asset amounts)) e = inr (wants e)
+    by (Some (commands.OpenVirtual route ledgers guarantors joint channel asset amounts)) e = inr (wants e)
     by (Some (commands.Close channel)) e = inr (wants e)
     by (Some commands.Exit) e = inr (wants e)
 

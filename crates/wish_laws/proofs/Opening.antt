@@ -150,7 +150,7 @@ pub root-of : (key c : List ℕ) (command : Command) → In (Root c) (parts_of r
 root-of key c (Open f outcome) i = record { f = f; outcome = outcome; is = refl }
 root-of key c (commands.OpenOn ledger f asset amounts) (inl e) = absurd cc
 root-of key c (commands.OpenOn ledger f asset amounts) (inr i) = absurd i
-root-of key c (commands.OpenVirtual ledgers guarantors joint channel asset amounts) i = absurd (go (takes_part key channel) i)
+root-of key c (commands.OpenVirtual route ledgers guarantors joint channel asset amounts) i = absurd (go (takes_part key channel) i)
   where
     v : Virtual
     v = virtual real key ledgers guarantors joint channel asset amounts

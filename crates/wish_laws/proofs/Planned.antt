@@ -52,8 +52,8 @@ event-changes t r s past used waits (deeds.Commanded step None) (Some (commands.
     opens (commands.Open f outcome) refl refl allowed.1 refl refl
 event-changes t r s past used waits (deeds.Commanded step None) (Some (commands.OpenOn ledger f asset amounts)) m allowed =
     opens (commands.OpenOn ledger f asset amounts) refl refl allowed.1 refl refl
-event-changes t r s past used waits (deeds.Commanded step None) (Some (commands.OpenVirtual ledgers guarantors joint channel asset amounts)) m allowed =
-    opens (commands.OpenVirtual ledgers guarantors joint channel asset amounts) refl refl allowed.1 refl refl
+event-changes t r s past used waits (deeds.Commanded step None) (Some (commands.OpenVirtual route ledgers guarantors joint channel asset amounts)) m allowed =
+    opens (commands.OpenVirtual route ledgers guarantors joint channel asset amounts) refl refl allowed.1 refl refl
 event-changes t r s past used waits (deeds.Commanded step None) (Some (commands.Pay channel asset amount)) m allowed = stays refl refl
 event-changes t r s past used waits (deeds.Commanded step None) (Some (commands.Close channel)) m allowed = closes channel allowed.1 refl refl
 event-changes t r s past used waits (deeds.Commanded step None) (Some commands.Exit) m allowed = stays refl refl
@@ -84,7 +84,7 @@ same-plan m new parts goals p = record {
 pub opened-channels : (r : Rules) (key : List ℕ) (command : Command) → channels (parts_of r key command) ≡ map r.named (opened_by command)
 opened-channels r key (commands.Open f outcome) = refl
 opened-channels r key (commands.OpenOn ledger f asset amounts) = refl
-opened-channels r key (commands.OpenVirtual ledgers guarantors joint channel asset amounts) = go (takes_part key channel)
+opened-channels r key (commands.OpenVirtual route ledgers guarantors joint channel asset amounts) = go (takes_part key channel)
   where
     names : List (List ℕ)
     names = r.named guarantors.0 ∷ r.named guarantors.1 ∷ r.named joint ∷ r.named channel ∷ []
@@ -123,13 +123,13 @@ new-goal r key n (commands.Open f outcome) g (inl e) = record { place = ap (λ (
 new-goal r key n (commands.Open f outcome) g (inr i) = absurd i
 new-goal r key n (commands.OpenOn ledger f asset amounts) g (inl e) = record { place = ap (λ (x : Goal). x.part) e; fresh = ap (λ (x : Goal). x.closing) e; one = refl }
 new-goal r key n (commands.OpenOn ledger f asset amounts) g (inr i) = absurd i
-new-goal r key n (commands.OpenVirtual ledgers guarantors joint channel asset amounts) g (inl e) =
+new-goal r key n (commands.OpenVirtual route ledgers guarantors joint channel asset amounts) g (inl e) =
     record { place = ap (λ (x : Goal). x.part) e; fresh = ap (λ (x : Goal). x.closing) e; one = go (takes_part key channel) }
   where
     go : (b : Bool) → length (cond b (End (virtual r key ledgers guarantors joint channel asset amounts) ∷ []) (Middle (virtual r key ledgers guarantors joint channel asset amounts) ∷ [])) ≡ 1
     go true = refl
     go false = refl
-new-goal r key n (commands.OpenVirtual ledgers guarantors joint channel asset amounts) g (inr i) = absurd i
+new-goal r key n (commands.OpenVirtual route ledgers guarantors joint channel asset amounts) g (inr i) = absurd i
 new-goal r key n (commands.Pay channel asset amount) g i = absurd i
 new-goal r key n (commands.Close channel) g i = absurd i
 new-goal r key n commands.Exit g i = absurd i

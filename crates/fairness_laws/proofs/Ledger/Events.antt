@@ -64,8 +64,8 @@ module _ (s : Signing) (h : List Entry) (journal : List Told) (fair : IsFair s h
         (λ c. ap (made_in c) e)
     commanded step (Some (commands.Open fixed outcome)) e f a = open-step s h journal fair known ends middles past x front next keeps step e fixed outcome f a.1
     commanded step (Some (commands.OpenOn l fixed asset amounts)) e f a = on-step s h journal fair known ends middles past x front next keeps step e l fixed asset amounts f a.1
-    commanded step (Some (commands.OpenVirtual ledgers guarantors joint channel asset amounts)) e f a =
-        virtual-step s h journal fair known ends middles past x front next keeps step e ledgers guarantors joint channel asset amounts f a.1
+    commanded step (Some (commands.OpenVirtual route ledgers guarantors joint channel asset amounts)) e f a =
+        virtual-step s h journal fair known ends middles past x front next keeps step e route ledgers guarantors joint channel asset amounts f a.1
 
     same-parts : (o : Result Message ByteFault) → ((noted_message real o m).parts ≡ m.parts) × ((noted_message real o m).goals ≡ m.goals)
     same-parts (Ok message) = (refl, refl)

@@ -27,6 +27,7 @@ use Rattle.net_model.proofs.Members.{In-append_left, In-append_right, In-append_
 use Rattle.net_model.specs.Journals.{In, Line, made_in, is_followed, opened}
 use Rattle.net_party.specs.declared.command.Command.{Command}
 use Rattle.net_party.specs.declared.command.Command.TheVariants as commands
+use Rattle.net_party.specs.declared.command.Route.{Route}
 use Rattle.node_laws.proofs.Allowing.{first_none, rest_none}
 use Rattle.node_laws.proofs.Places.{mind-event}
 use Rattle.node_model.specs.Minds.{Mind, facts_of, did, commanded, with_opened}
@@ -312,10 +313,10 @@ module _ (s : Signing) (h : List Entry) (journal : List Told) (fair : IsFair s h
 
     -- ---- a virtual channel
 
-    module _ (ledgers : List ℕ × List ℕ) (guarantors : FixedParts × FixedParts) (joint channel : FixedParts) (asset : ℕ) (amounts : ℕ × ℕ)
-        (is : x.command ≡ Some (commands.OpenVirtual ledgers guarantors joint channel asset amounts)) (taken : None ≡ open_refusal stages real m (commands.OpenVirtual ledgers guarantors joint channel asset amounts)) where
+    module _ (route : Route) (ledgers : List ℕ × List ℕ) (guarantors : FixedParts × FixedParts) (joint channel : FixedParts) (asset : ℕ) (amounts : ℕ × ℕ)
+        (is : x.command ≡ Some (commands.OpenVirtual route ledgers guarantors joint channel asset amounts)) (taken : None ≡ open_refusal stages real m (commands.OpenVirtual route ledgers guarantors joint channel asset amounts)) where
       abbrev virtually : Command
-      virtually = commands.OpenVirtual ledgers guarantors joint channel asset amounts
+      virtually = commands.OpenVirtual route ledgers guarantors joint channel asset amounts
 
       abbrev v : Virtual
       v = virtual real s.key ledgers guarantors joint channel asset amounts
@@ -340,14 +341,14 @@ module _ (s : Signing) (h : List Entry) (journal : List Told) (fair : IsFair s h
       owns = owns-at s h journal fair.nodes past front next.place.few next.place.later next.place.entries (plays-there s h journal fair.nodes past front next.place) next.place.before
 
       abbrev Fit : Type 0
-      Fit = Fitted s.key m mine (channels_told s.key front) on-ledger owns ledgers guarantors joint channel asset amounts tells valid (can-open m virtually taken)
+      Fit = Fitted s.key m mine (channels_told s.key front) on-ledger owns route ledgers guarantors joint channel asset amounts tells valid (can-open m virtually taken)
 
       fit : Fit
-      fit = fitted s.key m mine (channels_told s.key front) on-ledger owns ledgers guarantors joint channel asset amounts tells valid (can-open m virtually taken)
+      fit = fitted s.key m mine (channels_told s.key front) on-ledger owns route ledgers guarantors joint channel asset amounts tells valid (can-open m virtually taken)
 
       joint-there : In joint (channels-of lines)
       joint-there =
-          in-new joint (joint-takes s.key m mine (channels_told s.key front) on-ledger owns ledgers guarantors joint channel asset amounts tells valid (can-open m virtually taken) fit)
+          in-new joint (joint-takes s.key m mine (channels_told s.key front) on-ledger owns route ledgers guarantors joint channel asset amounts tells valid (can-open m virtually taken) fit)
 
       -- the people of the joint channel
       module _ (g : Goal) (t : Terms) (c : Seat) (j : JointIs s.key past lines v g t c) where

@@ -209,7 +209,7 @@ module _ (s : Signing) (h : List Entry) (journal : List Told) (fair : IsFair s h
           by : In l (ledger ∷ []) → Lender G l
           by (inr n) = absurd n
           by (inl same) = subst (Lender G) (sym same) (record { asset = asset; first = b.first; second = b.second; amounts = amounts; lends_them = b.lends_them })
-      lenders (commands.OpenVirtual ledgers guarantors joint channel asset amounts) is taken p l i on = go (takes_part s.key channel) refl i
+      lenders (commands.OpenVirtual route ledgers guarantors joint channel asset amounts) is taken p l i on = go (takes_part s.key channel) refl i
         where
           v : Virtual
           v = virtual real s.key ledgers guarantors joint channel asset amounts
@@ -223,7 +223,7 @@ module _ (s : Signing) (h : List Entry) (journal : List Told) (fair : IsFair s h
                 second = cond v.side_b a.is.end.terms.second a.is.end.terms.middle;
                 amounts = amounts;
                 lends_them =
-                    end-lends s h journal fair known ends middles past x front next keeps number deed-is ledgers guarantors joint channel asset amounts is taken
+                    end-lends s h journal fair known ends middles past x front next keeps number deed-is route ledgers guarantors joint channel asset amounts is taken
                     a.goal a.is.end.terms a.is.end.joint a.is.joint v.side_b a.is.me;
               })
 
@@ -236,7 +236,7 @@ module _ (s : Signing) (h : List Entry) (journal : List Told) (fair : IsFair s h
                 second = a.is.middle.terms.middle;
                 amounts = amounts;
                 lends_them =
-                    first-lends s h journal fair known ends middles past x front next keeps number deed-is ledgers guarantors joint channel asset amounts is taken
+                    first-lends s h journal fair known ends middles past x front next keeps number deed-is route ledgers guarantors joint channel asset amounts is taken
                     a.goal a.is.middle.terms a.is.middle.joint a.is.joint (inr (inl (sym a.is.me)));
               })
           middle passes a (inr (inl same)) =
@@ -246,18 +246,18 @@ module _ (s : Signing) (h : List Entry) (journal : List Told) (fair : IsFair s h
                 second = a.is.middle.terms.second;
                 amounts = amounts;
                 lends_them =
-                    second-lends s h journal fair known ends middles past x front next keeps number deed-is ledgers guarantors joint channel asset amounts is taken
+                    second-lends s h journal fair known ends middles past x front next keeps number deed-is route ledgers guarantors joint channel asset amounts is taken
                     a.goal a.is.middle.terms a.is.middle.joint a.is.joint (inl (sym a.is.me));
               })
 
           go : (b : Bool) → takes_part s.key channel ≡ b → In p (cond b (kinds.End v ∷ []) (kinds.Middle v ∷ [])) → Lender G l
           go true takes (inr n) = absurd n
           go true takes (inl e) =
-              end takes (at-end s h journal fair known ends middles past x front next keeps number deed-is ledgers guarantors joint channel asset amounts is taken takes)
+              end takes (at-end s h journal fair known ends middles past x front next keeps number deed-is route ledgers guarantors joint channel asset amounts is taken takes)
               (subst (λ (q : Part). In l (ledgers_of q)) e on)
           go false passes (inr n) = absurd n
           go false passes (inl e) =
-              middle passes (at-middle s h journal fair known ends middles past x front next keeps number deed-is ledgers guarantors joint channel asset amounts is taken passes)
+              middle passes (at-middle s h journal fair known ends middles past x front next keeps number deed-is route ledgers guarantors joint channel asset amounts is taken passes)
               (subst (λ (q : Part). In l (ledgers_of q)) e on)
 
     -- what a command opens stands on roots that don't close

@@ -31,6 +31,7 @@ use Rattle.funding_value.specs.declared.plan.Part.{Part}
 use Rattle.funding_value.specs.declared.plan.Part.TheVariants.{Root, OnLedger, End, Middle}
 use Rattle.net_model.specs.Journals.{In}
 use Rattle.net_party.specs.declared.command.Command.TheVariants.{OpenVirtual}
+use Rattle.net_party.specs.declared.command.Route.{Route}
 use Rattle.stage_rules.specs.Gathered as gathered
 use Rattle.stage_rules.specs.Seats.{Seat, repeats}
 use Rattle.ledger_channel.specs.OnLedgers.{Funded}
@@ -41,6 +42,7 @@ use Rattle.virtual_channel.specs.Stages.{end_in, middle_in, wanted_of_end, wante
 use Rattle.plan_stages.specs.Asked.{unfinished_on, part_with, wanted_of, wanted_in}
 use Rattle.node_model.specs.Minds.{Mind, facts_of}
 use Rattle.node_model.specs.Openings.{are_apart, takes_part, virtual}
+use Rattle.node_tables.proofs.OnlyPlain.{fits-plain}
 use Rattle.node_tables.specs.Fitting.{are_channels_of, both_lend, can_share, is_double_small, is_channel_of, fits_among, fits}
 use Rattle.support_chain.specs.Steps.{persons}
 use Rattle.node_tables.specs.Ledgers.{are_same}
@@ -152,26 +154,26 @@ fixed-among f ledgers guarantors joint channel asset ab (x ∷ y ∷ z ∷ []) i
       people = is;
     }
 
-pub are-fixed : (f : FactsOf) (ledgers : List ℕ × List ℕ) (guarantors : FixedParts × FixedParts) (joint channel : FixedParts) (asset : ℕ) (ab : ℕ × ℕ) → fits f (OpenVirtual ledgers guarantors joint channel asset ab) ≡ true
+pub are-fixed : (f : FactsOf) (route : Route) (ledgers : List ℕ × List ℕ) (guarantors : FixedParts × FixedParts) (joint channel : FixedParts) (asset : ℕ) (ab : ℕ × ℕ) → fits f (OpenVirtual route ledgers guarantors joint channel asset ab) ≡ true
     → AreFixed guarantors joint
-unfolding fits
-are-fixed f ledgers guarantors joint channel asset ab e = fixed-among f ledgers guarantors joint channel asset ab (persons joint) refl e
+are-fixed f route ledgers guarantors joint channel asset ab e =
+    fixed-among f ledgers guarantors joint channel asset ab (persons joint) refl (fits-plain f route ledgers guarantors joint channel asset ab e)
 
 -- ---- the laws
 
-module _ (s : Signing) (h : List Entry) (journal : List Told) (legal : Legal real h) (plays : Plays stages real s h journal) (ledgers : List ℕ × List ℕ) (guarantors : FixedParts × FixedParts) (joint channel : FixedParts)
-    (asset : ℕ) (amounts : ℕ × ℕ) (t : Terms) (took : Took (OpenVirtual ledgers guarantors joint channel asset amounts) journal) where
+module _ (s : Signing) (h : List Entry) (journal : List Told) (legal : Legal real h) (plays : Plays stages real s h journal) (route : Route) (ledgers : List ℕ × List ℕ) (guarantors : FixedParts × FixedParts) (joint channel : FixedParts)
+    (asset : ℕ) (amounts : ℕ × ℕ) (t : Terms) (took : Took (OpenVirtual route ledgers guarantors joint channel asset amounts) journal) where
   abbrev v : Virtual
   v = virtual real s.key ledgers guarantors joint channel asset amounts
 
   abbrev command : Command
-  command = OpenVirtual ledgers guarantors joint channel asset amounts
+  command = OpenVirtual route ledgers guarantors joint channel asset amounts
 
   pub distinct : Differ (real.named guarantors.0) (real.named guarantors.1) (real.named joint) (real.named channel)
-  distinct = names-differ s h journal legal plays ledgers guarantors joint channel asset amounts took
+  distinct = names-differ s h journal legal plays route ledgers guarantors joint channel asset amounts took
 
   pub apps : AreFixed guarantors joint
-  apps = let a = fitted stages real s h legal joint journal plays command joint took (inr (inr (inl refl))) in are-fixed (facts_of a.0) ledgers guarantors joint channel asset amounts a.1
+  apps = let a = fitted stages real s h legal joint journal plays command joint took (inr (inr (inl refl))) in are-fixed (facts_of a.0) route ledgers guarantors joint channel asset amounts a.1
 
   module _ (told : terms_for v (persons joint) ≡ Some t) where
     -- at an end
@@ -186,12 +188,12 @@ module _ (s : Signing) (h : List Entry) (journal : List Told) (legal : Legal rea
         go false = apps.first
 
     end-among : is_among (real.named own) (channels_of (End v)) ≡ true
-    end-among = joined-among (real.named own) (End v) (guarantor-channel-of s.key ledgers guarantors joint channel asset amounts t told distinct).joins
+    end-among = joined-among (real.named own) (End v) (guarantor-channel-of s.key route ledgers guarantors joint channel asset amounts t told distinct).joins
 
     end-other : bytes_eq (own_channel (End v)) (real.named own) ≡ false
     end-other =
-        subst (λ (n : List ℕ). bytes_eq v.channel n ≡ false) (sym (guarantor-named s.key ledgers guarantors joint channel asset amounts t told distinct))
-        (flips (own_guarantor v) v.channel (guarantor-channel s.key ledgers guarantors joint channel asset amounts t told distinct))
+        subst (λ (n : List ℕ). bytes_eq v.channel n ≡ false) (sym (guarantor-named s.key route ledgers guarantors joint channel asset amounts t told distinct))
+        (flips (own_guarantor v) v.channel (guarantor-channel s.key route ledgers guarantors joint channel asset amounts t told distinct))
 
     end-signs : takes_part s.key channel ≡ true → SignsOnly own (guarantee t (real.named joint) (own_end v t)) (lines_of s.key journal)
     end-signs takes x n i e = by mp.why
@@ -199,12 +201,12 @@ module _ (s : Signing) (h : List Entry) (journal : List Told) (legal : Legal rea
         promise : List AssetOutcome
         promise = guarantee t (real.named joint) (own_end v t)
 
-        mp : MadePlace s h journal legal plays command (End v) own promise (people own - 1) took (guarantor-inside s.key ledgers guarantors joint channel asset amounts t told distinct)
-            (at-end s.key ledgers guarantors joint channel asset amounts takes)
-            (end-starts s.key ledgers guarantors joint channel asset amounts t told distinct own promise (guarantor-channel-of s.key ledgers guarantors joint channel asset amounts t told distinct)) n.state
-        mp = made-place s h journal legal plays command (End v) own promise (people own - 1) took (guarantor-inside s.key ledgers guarantors joint channel asset amounts t told distinct)
-            (at-end s.key ledgers guarantors joint channel asset amounts takes)
-            (end-starts s.key ledgers guarantors joint channel asset amounts t told distinct own promise (guarantor-channel-of s.key ledgers guarantors joint channel asset amounts t told distinct)) x n i e
+        mp : MadePlace s h journal legal plays command (End v) own promise (people own - 1) took (guarantor-inside s.key route ledgers guarantors joint channel asset amounts t told distinct)
+            (at-end s.key route ledgers guarantors joint channel asset amounts takes)
+            (end-starts s.key route ledgers guarantors joint channel asset amounts t told distinct own promise (guarantor-channel-of s.key route ledgers guarantors joint channel asset amounts t told distinct)) n.state
+        mp = made-place s h journal legal plays command (End v) own promise (people own - 1) took (guarantor-inside s.key route ledgers guarantors joint channel asset amounts t told distinct)
+            (at-end s.key route ledgers guarantors joint channel asset amounts takes)
+            (end-starts s.key route ledgers guarantors joint channel asset amounts t told distinct own promise (guarantor-channel-of s.key route ledgers guarantors joint channel asset amounts t told distinct)) x n i e
 
         wanting : (o : Option ends.End) → end_in (facts_of mp.m) v ≡ o → wanted_of_end (real.named own) o ≡ Some n.state → IsExactly promise n.state
         wanting None is w = absurd (none-eq n.state w)
@@ -212,8 +214,8 @@ module _ (s : Signing) (h : List Entry) (journal : List Told) (legal : Legal rea
             let at = end-at mp.m v p is in
             let none = no-seat mp.m (End v) (real.named own) mp.plan mp.there end-among end-other in
             from-end p (real.named own) n.state (IsExactly promise n.state)
-            (guarantor-wishes s.key ledgers guarantors joint channel asset amounts t told distinct mp.m p n.state (IsExactly promise n.state)
-            (end-place s.key ledgers guarantors joint channel asset amounts t told distinct mp.m own p is
+            (guarantor-wishes s.key route ledgers guarantors joint channel asset amounts t told distinct mp.m p n.state (IsExactly promise n.state)
+            (end-place s.key route ledgers guarantors joint channel asset amounts t told distinct mp.m own p is
             (record {
               fixed = mp.fixed;
               goal = mp.goal;
@@ -228,9 +230,9 @@ module _ (s : Signing) (h : List Entry) (journal : List Told) (legal : Legal rea
 
     -- at the intermediary
     module _ (takes : takes_part s.key channel ≡ false) where
-      middle-signs : (f : FixedParts) (promise : List AssetOutcome) (ch : MiddleChannel s.key ledgers guarantors joint channel asset amounts t told distinct f promise) → f.app ≡ 2
+      middle-signs : (f : FixedParts) (promise : List AssetOutcome) (ch : MiddleChannel s.key route ledgers guarantors joint channel asset amounts t told distinct f promise) → f.app ≡ 2
           → bytes_eq v.channel (real.named f) ≡ false
-          → ((m : Mind) (p : middles.Middle) (n : StateParts) (Q : Type 0) → MiddlePlace s.key ledgers guarantors joint channel asset amounts t told distinct m f p
+          → ((m : Mind) (p : middles.Middle) (n : StateParts) (Q : Type 0) → MiddlePlace s.key route ledgers guarantors joint channel asset amounts t told distinct m f p
           → ((c : Seat) (from until : ℕ) → c.opening ≡ promise → repeats from until c ≡ Some n → Q) → MiddleWishes p (real.named f) n Q)
           → SignsOnly f promise (lines_of s.key journal)
       middle-signs f promise ch two other wishes x n i e = by mp.why
@@ -238,17 +240,17 @@ module _ (s : Signing) (h : List Entry) (journal : List Told) (legal : Legal rea
           among : is_among (real.named f) (channels_of (Middle v)) ≡ true
           among = joined-among (real.named f) (Middle v) ch.joins
 
-          mp : MadePlace s h journal legal plays command (Middle v) f promise (people f - 1) took ch.inside (at-middle s.key ledgers guarantors joint channel asset amounts takes)
-              (middle-starts s.key ledgers guarantors joint channel asset amounts t told distinct f promise ch) n.state
-          mp = made-place s h journal legal plays command (Middle v) f promise (people f - 1) took ch.inside (at-middle s.key ledgers guarantors joint channel asset amounts takes)
-              (middle-starts s.key ledgers guarantors joint channel asset amounts t told distinct f promise ch) x n i e
+          mp : MadePlace s h journal legal plays command (Middle v) f promise (people f - 1) took ch.inside (at-middle s.key route ledgers guarantors joint channel asset amounts takes)
+              (middle-starts s.key route ledgers guarantors joint channel asset amounts t told distinct f promise ch) n.state
+          mp = made-place s h journal legal plays command (Middle v) f promise (people f - 1) took ch.inside (at-middle s.key route ledgers guarantors joint channel asset amounts takes)
+              (middle-starts s.key route ledgers guarantors joint channel asset amounts t told distinct f promise ch) x n i e
 
           wanting : (o : Option middles.Middle) → middle_in (facts_of mp.m) v ≡ o → wanted_of_middle (real.named f) o ≡ Some n.state → IsExactly promise n.state
           wanting None is w = absurd (none-eq n.state w)
           wanting (Some p) is w =
               from-middle p (real.named f) n.state (IsExactly promise n.state)
               (wishes mp.m p n.state (IsExactly promise n.state)
-              (middle-place s.key ledgers guarantors joint channel asset amounts t told distinct mp.m f p is
+              (middle-place s.key route ledgers guarantors joint channel asset amounts t told distinct mp.m f p is
               (record { fixed = mp.fixed; goal = mp.goal; apart = no-ledger p is; once = mp.once }))
               (λ c from until is w. exactly c promise from until n.state is w)) w
             where
@@ -266,20 +268,20 @@ module _ (s : Signing) (h : List Entry) (journal : List Told) (legal : Legal rea
           by (inl w) = wanting (middle_in (facts_of mp.m) v) refl (wants-own mp.m (Middle v) (real.named f) mp.plan mp.there among other n.state w)
 
 pub ends_sign : EndsSignGuarantees
-ends_sign s h journal legal plays ledgers guarantors joint channel asset amounts t took takes told = end-signs s h journal legal plays ledgers guarantors joint channel asset amounts t took told takes
+ends_sign s h journal legal plays route ledgers guarantors joint channel asset amounts t took takes told = end-signs s h journal legal plays route ledgers guarantors joint channel asset amounts t took told takes
 
 pub middles_sign : MiddlesSignGuarantees
-middles_sign s h journal legal plays ledgers guarantors joint channel asset amounts t took takes told = (
-  middle-signs s h journal legal plays ledgers guarantors joint channel asset amounts t took told takes guarantors.0 (guarantee t (real.named joint) t.first)
-      (first-channel s.key ledgers guarantors joint channel asset amounts t told names) fixed.first (flips (real.named guarantors.0) (real.named channel) names.ad)
-      (first-wishes s.key ledgers guarantors joint channel asset amounts t told names),
-  middle-signs s h journal legal plays ledgers guarantors joint channel asset amounts t took told takes guarantors.1 (guarantee t (real.named joint) t.second)
-      (second-channel s.key ledgers guarantors joint channel asset amounts t told names) fixed.second (flips (real.named guarantors.1) (real.named channel) names.bd)
-      (second-wishes s.key ledgers guarantors joint channel asset amounts t told names),
+middles_sign s h journal legal plays route ledgers guarantors joint channel asset amounts t took takes told = (
+  middle-signs s h journal legal plays route ledgers guarantors joint channel asset amounts t took told takes guarantors.0 (guarantee t (real.named joint) t.first)
+      (first-channel s.key route ledgers guarantors joint channel asset amounts t told names) fixed.first (flips (real.named guarantors.0) (real.named channel) names.ad)
+      (first-wishes s.key route ledgers guarantors joint channel asset amounts t told names),
+  middle-signs s h journal legal plays route ledgers guarantors joint channel asset amounts t took told takes guarantors.1 (guarantee t (real.named joint) t.second)
+      (second-channel s.key route ledgers guarantors joint channel asset amounts t told names) fixed.second (flips (real.named guarantors.1) (real.named channel) names.bd)
+      (second-wishes s.key route ledgers guarantors joint channel asset amounts t told names),
 )
   where
     names : Differ (real.named guarantors.0) (real.named guarantors.1) (real.named joint) (real.named channel)
-    names = distinct s h journal legal plays ledgers guarantors joint channel asset amounts t took
+    names = distinct s h journal legal plays route ledgers guarantors joint channel asset amounts t took
 
     fixed : AreFixed guarantors joint
-    fixed = apps s h journal legal plays ledgers guarantors joint channel asset amounts t took
+    fixed = apps s h journal legal plays route ledgers guarantors joint channel asset amounts t took

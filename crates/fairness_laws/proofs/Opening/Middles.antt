@@ -23,6 +23,7 @@ use Rattle.support_chain.specs.Steps.{persons}
 use Rattle.net_model.specs.Journals.{In}
 use Rattle.net_party.specs.declared.command.Command.{Command}
 use Rattle.net_party.specs.declared.command.Command.TheVariants.{OpenVirtual}
+use Rattle.net_party.specs.declared.command.Route.{Route}
 use Rattle.stage_rules.specs.Gathered as gathered
 use Rattle.stage_rules.specs.Rows.{wanted_in}
 use Rattle.stage_rules.specs.Seats.{Seat, holds, is_set_up, repeats, takes_fixed}
@@ -150,12 +151,12 @@ from-middle p c s Q k e = by (middle-wants p c s e)
 
 -- ---- one of its channels
 
-module _ (key : List ℕ) (ledgers : List ℕ × List ℕ) (guarantors : FixedParts × FixedParts) (joint channel : FixedParts) (asset : ℕ) (amounts : ℕ × ℕ) (t : Terms) where
+module _ (key : List ℕ) (route : Route) (ledgers : List ℕ × List ℕ) (guarantors : FixedParts × FixedParts) (joint channel : FixedParts) (asset : ℕ) (amounts : ℕ × ℕ) (t : Terms) where
   abbrev v : Virtual
   v = virtual real key ledgers guarantors joint channel asset amounts
 
   abbrev command : Command
-  command = OpenVirtual ledgers guarantors joint channel asset amounts
+  command = OpenVirtual route ledgers guarantors joint channel asset amounts
 
   module _ (told : terms_for v (persons joint) ≡ Some t) (distinct : Differ (real.named guarantors.0) (real.named guarantors.1) (real.named joint) (real.named channel)) where
     -- what is known of a place
@@ -173,7 +174,7 @@ module _ (key : List ℕ) (ledgers : List ℕ × List ℕ) (guarantors : FixedPa
           at = at;
           place = place;
           terms_are = terms-known m v joint p.terms t sits.k at.told sits.keeps (place.fixed joint (inr (inr (inl refl))) sits.k sits.keeps) told;
-          goal_of = goal-is ledgers guarantors joint channel asset amounts at.g (place.goal at.g at.goal);
+          goal_of = goal-is route ledgers guarantors joint channel asset amounts at.g (place.goal at.g at.goal);
         }
 
     -- what its tables say of one of its channels
@@ -402,17 +403,17 @@ module _ (key : List ℕ) (ledgers : List ℕ × List ℕ) (guarantors : FixedPa
         }
 
 pub middles_open : MiddlesOpenWith
-middles_open s h journal legal plays ledgers guarantors joint channel asset amounts t took takes told = record {
-  first_opens = opens guarantors.0 (inl refl) (guarantee t (real.named joint) t.first) (first-channel s.key ledgers guarantors joint channel asset amounts t told distinct);
-  second_opens = opens guarantors.1 (inr (inl refl)) (guarantee t (real.named joint) t.second) (second-channel s.key ledgers guarantors joint channel asset amounts t told distinct);
-  joint_opens = opens joint (inr (inr (inl refl))) (apart t amounts) (joint-channel s.key ledgers guarantors joint channel asset amounts t told distinct);
+middles_open s h journal legal plays route ledgers guarantors joint channel asset amounts t took takes told = record {
+  first_opens = opens guarantors.0 (inl refl) (guarantee t (real.named joint) t.first) (first-channel s.key route ledgers guarantors joint channel asset amounts t told distinct);
+  second_opens = opens guarantors.1 (inr (inl refl)) (guarantee t (real.named joint) t.second) (second-channel s.key route ledgers guarantors joint channel asset amounts t told distinct);
+  joint_opens = opens joint (inr (inr (inl refl))) (apart t amounts) (joint-channel s.key route ledgers guarantors joint channel asset amounts t told distinct);
 }
   where
     distinct : Differ (real.named guarantors.0) (real.named guarantors.1) (real.named joint) (real.named channel)
-    distinct = names-differ s h journal legal plays ledgers guarantors joint channel asset amounts took
+    distinct = names-differ s h journal legal plays route ledgers guarantors joint channel asset amounts took
 
-    opens : (f : FixedParts) → In f (opened_by (OpenVirtual ledgers guarantors joint channel asset amounts)) → (opening : List AssetOutcome) → MiddleChannel s.key ledgers guarantors joint channel asset amounts t told distinct f opening
+    opens : (f : FixedParts) → In f (opened_by (OpenVirtual route ledgers guarantors joint channel asset amounts)) → (opening : List AssetOutcome) → MiddleChannel s.key route ledgers guarantors joint channel asset amounts t told distinct f opening
         → OpensWith f opening (lines_of s.key journal)
     opens f inside opening ch =
-        opens-with s h journal legal plays (OpenVirtual ledgers guarantors joint channel asset amounts) (parts.Middle (virtual real s.key ledgers guarantors joint channel asset amounts)) f opening (people f - 1) took inside
-        (at-middle s.key ledgers guarantors joint channel asset amounts takes) (middle-starts s.key ledgers guarantors joint channel asset amounts t told distinct f opening ch)
+        opens-with s h journal legal plays (OpenVirtual route ledgers guarantors joint channel asset amounts) (parts.Middle (virtual real s.key ledgers guarantors joint channel asset amounts)) f opening (people f - 1) took inside
+        (at-middle s.key route ledgers guarantors joint channel asset amounts takes) (middle-starts s.key route ledgers guarantors joint channel asset amounts t told distinct f opening ch)

@@ -27,12 +27,14 @@ use Rattle.net_model.specs.Journals.{In}
 use Rattle.net_model.proofs.Members.{In-append_left, In-append_right, In-map, mapped}
 use Rattle.net_party.specs.declared.command.Command.{Command}
 use Rattle.net_party.specs.declared.command.Command.TheVariants.{Open, OpenOn, OpenVirtual}
+use Rattle.net_party.specs.declared.command.Route.{Route}
 use Rattle.node_laws.proofs.Allowing.{first_none, rest_none, holds_not}
 use Rattle.node_model.specs.Minds.{Mind, facts_of}
 use Rattle.node_model.specs.Openings.{opened_by, place_among, takes_part, adds, are_apart, virtual, parts_of, ledgers_for, shared, goal_with, goals_of}
 use Rattle.node_model.specs.Places.{Told, lines_of}
 use Rattle.node_model.specs.Refusing.{not_open, has_left, unfinished, is_planned, are_new, can_open, are_planned, open_refusal}
 use Rattle.node_share_laws.proofs.Apart.{Apart, not-of}
+use Rattle.node_tables.proofs.OnlyPlain.{fits-plain}
 use Rattle.node_tables.specs.Fitting.{are_shared, stake, can_share, is_double_small, is_channel_of, are_channels_of, lends_if_own, both_lend, fits_between, fits_among, fits}
 use Rattle.node_tables.specs.Ledgers.{are_same, affords_in, is_between, is_root_of, is_running_root, lends}
 use Rattle.node_tables.specs.Stages.{stages}
@@ -327,12 +329,12 @@ module _ (key : List ℕ) (m : Mind) (mine : m.key ≡ key) (fs : List FixedPart
 
   -- ---- a virtual channel
 
-  module _ (ledgers : List ℕ × List ℕ) (guarantors : FixedParts × FixedParts) (joint channel : FixedParts) (asset : ℕ) (amounts : ℕ × ℕ)
-      (tells : (f : FixedParts) → In f (opened_by (OpenVirtual ledgers guarantors joint channel asset amounts)) → Tells key f)
-      (valid : (f : FixedParts) → In f (adds key (Some (OpenVirtual ledgers guarantors joint channel asset amounts))) → IsFixed f)
-      (can : can_open stages real m (OpenVirtual ledgers guarantors joint channel asset amounts) ≡ true) where
+  module _ (route : Route) (ledgers : List ℕ × List ℕ) (guarantors : FixedParts × FixedParts) (joint channel : FixedParts) (asset : ℕ) (amounts : ℕ × ℕ)
+      (tells : (f : FixedParts) → In f (opened_by (OpenVirtual route ledgers guarantors joint channel asset amounts)) → Tells key f)
+      (valid : (f : FixedParts) → In f (adds key (Some (OpenVirtual route ledgers guarantors joint channel asset amounts))) → IsFixed f)
+      (can : can_open stages real m (OpenVirtual route ledgers guarantors joint channel asset amounts) ≡ true) where
     abbrev command : Command
-    command = OpenVirtual ledgers guarantors joint channel asset amounts
+    command = OpenVirtual route ledgers guarantors joint channel asset amounts
 
     abbrev gs : List FixedParts
     gs = adds key (Some command)
@@ -432,8 +434,9 @@ module _ (key : List ℕ) (m : Mind) (mine : m.key ≡ key) (fs : List FixedPart
         lend = and-right channels-fit ledgers-lend right
 
     pub fitted : Fitted
-    unfolding fits
-    fitted = fitted-by (persons joint) refl (and-left (fits_among (facts_of m) ledgers guarantors joint channel asset amounts (persons joint)) (are_new m names) can)
+    fitted =
+        fitted-by (persons joint) refl
+        (fits-plain (facts_of m) route ledgers guarantors joint channel asset amounts (and-left (fits (facts_of m) command) (are_new m names) can))
 
     -- one of the channels in which the participant is named
     there : (f : FixedParts) → In f (opened_by command) → is_among (name_of_person key) (persons f) ≡ true → In f (fs ++ gs)

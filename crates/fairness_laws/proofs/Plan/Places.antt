@@ -138,9 +138,9 @@ module _ (s : Signing) (past : List Entry) (m : Mind) (mine : m.key ≡ s.key) (
   followed used (commands.OpenOn ledger f asset amounts) e tells valid =
       opening (commands.OpenOn ledger f asset amounts)
       (child-added s.key m mine fs on-ledger owns ledger f asset amounts tells (can-open m (commands.OpenOn ledger f asset amounts) e) (length m.parts))
-  followed used (commands.OpenVirtual ledgers guarantors joint channel asset amounts) e tells valid =
-      opening (commands.OpenVirtual ledgers guarantors joint channel asset amounts)
-      (virtual-added s.key m mine fs on-ledger owns ledgers guarantors joint channel asset amounts tells valid (can-open m (commands.OpenVirtual ledgers guarantors joint channel asset amounts) e) (length m.parts))
+  followed used (commands.OpenVirtual route ledgers guarantors joint channel asset amounts) e tells valid =
+      opening (commands.OpenVirtual route ledgers guarantors joint channel asset amounts)
+      (virtual-added s.key m mine fs on-ledger owns route ledgers guarantors joint channel asset amounts tells valid (can-open m (commands.OpenVirtual route ledgers guarantors joint channel asset amounts) e) (length m.parts))
   followed used (commands.Pay channel asset amount) e tells valid = with-channels s.key fs [] m.parts m.goals was
   followed used (commands.Close channel) e tells valid = with-closing s.key fs [] m.parts m.goals (place_with channel m.parts) was
   followed used commands.Exit e tells valid = with-channels s.key fs [] m.parts m.goals was
