@@ -65,5 +65,6 @@ sign(a, 0, 6, 2), sign(b, 1, 6, 2), sign(a, 2, 6, 2)
 told = {"KEY_A": a.key, "KEY_B": b.key, "A": people[0], "B": people[1], "C": channel,
         "BY_B3": sign(b, 3, 6, 2), "BY_A4": sign(a, 4, 5, 3), "BY_B5": sign(b, 5, 7, 1),
         "CALLED": challenge(b, 1, 4, 5, 3), "CALLED_AGAIN": challenge(b, 1, 4, 5, 3)}
-for name, value in told.items():
-    print("%s = 0x%s" % (name, value.hex()))
+if __name__ == "__main__":
+    for name, value in told.items():
+        print("%s = 0x%s" % (name, value.hex()))

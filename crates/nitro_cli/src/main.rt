@@ -1,6 +1,6 @@
 //! The program: `nitro_cli run` reads a script from standard input, plays it and prints the history; `nitro_cli race` plays it
 //! by rounds in threads, beside actors of whom nobody expects anything good; `nitro_cli load` plays one that it makes from a
-//! seed.
+//! seed. `nitro_cli record run` and `nitro_cli record race` put the record of what was played instead.
 #![tactic(auto)]
 
 ghost use Rattle.std.specs.Prelude.{◌≡◌, []};
@@ -10,6 +10,7 @@ use byte_source::{Source, StdSource};
 use cast_actors::{Equivocator, Idle, Replayer};
 use net_actors::{Actor, Cast, Notes};
 use nitro_bytes::{Label, NoMemory};
+use script_record::run_record;
 use script_run::run_words;
 use std::alloc::Global;
 use std::process::ExitCode;
@@ -45,6 +46,14 @@ fn unseeing(alloc: Global, number: u32, actor: Box<dyn Actor + Send>) -> Cast
     }
 }
 
+/// Whether a record is asked for.
+fn asks_record(words: &[Label]) -> bool {
+    match words {
+        [word, ..] => word.as_str() == "record",
+        [] => false,
+    }
+}
+
 /// Plays what the words ask for, and gives the status number. In a race three act beside the nodes: one plays old challenges
 /// again, one answers a challenge in two ways, and one rests.
 fn played<R: Threads + Wait + Sync, S: Source, K: Sink>(
@@ -61,6 +70,10 @@ fn played<R: Threads + Wait + Sync, S: Source, K: Sink>(
     cast.push(unseeing(alloc, 101, replayer))?;
     cast.push(unseeing(alloc, 102, equivocator))?;
     cast.push(unseeing(alloc, 103, idle))?;
+    if asks_record(words) {
+        let status = run_record(rt, alloc, words, source, sink, cast);
+        return Ok(status.code());
+    }
     let ended = run_words(rt, alloc, words, source, sink, cast);
     Ok(ended.status.code())
 }

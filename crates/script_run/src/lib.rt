@@ -7,4 +7,4 @@ mod run;
 
 pub use laws::calm_runs_end_alike;
 pub use records::Records;
-pub use run::{Ended, Status, run_words};
+pub use run::{Ended, Status, end_of_words, line_of, run_words};

@@ -231,8 +231,24 @@ fn rule_text(rule: Rule) -> &'static str
     }
 }
 
+/// What the words and the source come to, before anything is put. In a race the cast, which has seen nothing, acts beside the
+/// nodes.
+pub fn end_of_words<R: Threads + Wait + Sync, S: Source>(
+    rt: &R,
+    alloc: Global,
+    words: &[Label],
+    source: &mut S,
+    cast: Vec<Cast>,
+) -> Result<Ended, NoMemory>
+    requires unseen { All (λ c. c.notes.entries.items ≡ []) cast.items }
+    ensures ends { IfOk result (λ ended. EndsAs ways (map (player_of (λ c. tells (c.actor.vtable, c.actor.value)) (λ c. told (c.actor.vtable, c.actor.value))) cast.items) (given S.remaining S.faults words.now source.old source.new) ended.status ended.report) }
+    ensures legal { IfOk result (λ ended. IfSome ended.report (λ report. Legal real (newest_first report.history))) }
+{
+    work::<R, Node, S>(rt, alloc, words, source, cast)
+}
+
 /// A line that is no history.
-fn line_of(alloc: Global, status: Status) -> Result<String, AllocError>
+pub fn line_of(alloc: Global, status: Status) -> Result<String, AllocError>
     ensures { IfOk result (λ text. string_bytes text ≡ owed status None) }
 {
     match status {
@@ -315,7 +331,7 @@ pub fn run_words<R: Threads + Wait + Sync, S: Source, K: Sink>(
         → ¬ (Rose (K.faults sink.old) (K.faults sink.new))
         → (result.status ≡ Status.Done) ⊎ (result.status ≡ Status.NoMemory) }
 {
-    let Ok(ended) = work::<R, Node, S>(rt, alloc, words, source, cast) else {
+    let Ok(ended) = end_of_words(rt, alloc, words, source, cast) else {
         return without_report(Status::NoMemory);
     };
     let Ok(text) = owed(alloc, &ended) else {

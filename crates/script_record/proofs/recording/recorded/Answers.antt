@@ -1,0 +1,8 @@
+-- What was played is sound under its premises, by the laws of records.
+use Rattle.std.proofs.Common.{rules}
+use Rattle.node_way_laws.specs.Ways.{ways}
+use Rattle.script_record.proofs.Ends.{recorded_end}
+use Rattle.script_record.proofs.recording.recorded.Goals as goal
+
+pub returns : goal.returns
+returns c cast g e = recorded_end ways cast c.plays_have_sound_records.ensures (c.races_have_sound_records.ensures cast) g c.args.report c.write_record.new.out.items c.requires e (search rules)
