@@ -14,7 +14,6 @@ use Rattle.fairness_laws.proofs.Plan.Places.{apart-there}
 use Rattle.fairness_laws.proofs.Plan.Plans.{plans_are_whole}
 use Rattle.fairness_laws.proofs.Plans.{whole-place}
 use Rattle.fairness_laws.specs.PaymentLaws.{At}
-use Rattle.fairness_laws.specs.PlanRoots.{AllOnRoots}
 use Rattle.fairness_laws.specs.PlanSettings.{IsFair}
 use Rattle.flow_balances.specs.Receipts.{assets_of}
 use Rattle.funding_value.specs.Known.{FactsOf}
@@ -30,7 +29,7 @@ use Rattle.node_share_laws.proofs.Telling.{places_tell_shares}
 use Rattle.node_share_laws.specs.Laws.{KnowsShare}
 use Rattle.node_tables.specs.Stages.{stages}
 use Rattle.reported_node.specs.Endings.{ending_of, EndsWell}
-use Rattle.share_model.specs.Places.{plan}
+use Rattle.signing_laws.specs.Plans.{AllStandOn}
 use Rattle.support_chain.specs.Real.{real}
 use mathlib.Core.Path.{fun_ext}
 
@@ -56,7 +55,7 @@ module _ (s : Signing) (history : List Entry) (journal : List Told) (fair : IsFa
   tellable : HasPlan history (ending_of history s.key journal)
   tellable = record {
     once = distinct-of (channels m.parts) (apart-there s h journal fair.nodes h journal at.front_is);
-    grounded = grounded m.parts (subst (AllOnRoots []) (sym knows.parts) (plans_are_whole s h journal h journal fair.nodes at.front_is).on_roots);
+    grounded = grounded m.parts (subst (AllStandOn []) (sym knows.parts) (plans_are_whole s h journal h journal fair.nodes at.front_is).whole.on_ledgers);
     few = subst (λ (ks : List Known). count_by (has_two real h) ks ≤ 2) (sym first-known) (few-two s h journal fair);
   }
 

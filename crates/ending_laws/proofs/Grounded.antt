@@ -1,41 +1,41 @@
--- In a plan whose ledgers are roots that were opened before, each ledger stands before the parts on it.
+-- In a plan whose ledgers were opened before, each ledger stands before the parts on it.
 use Rattle.std.proofs.Common.{◌≡◌, ℕ, true, ◌&&◌, List, [], ◌∷◌, ◌++◌, inl, inr, refl}
 use Rattle.std.specs.List.{list_all}
 use Rattle.chain_laws.proofs.Tests.{and-both}
 use Rattle.channel_calls.specs.Flows.{is_among}
 use Rattle.fairness_laws.proofs.Plan.Names.{in-among, among-in}
-use Rattle.fairness_laws.specs.PlanRoots.{roots_after, AllOnRoots}
 use Rattle.funding_value.specs.Parts.{own_ledger, ledgers_of}
 use Rattle.funding_value.specs.declared.plan.Part.{Part}
 use Rattle.funding_value.specs.declared.plan.Part.TheVariants.{Root, OnLedger, End, Middle}
 use Rattle.history_check.specs.Plans.{bears, stand_on}
 use Rattle.net_model.proofs.Members.{In-append_left, In-append_right}
 use Rattle.net_model.specs.Journals.{In}
-use Rattle.signing_laws.specs.Plans.{StandsOn}
+use Rattle.signing_laws.specs.Plans.{StandsOn, ledgers_after, AllStandOn}
 
-abbrev Within : (roots before : List (List ℕ)) → Type 0
-Within roots before = (n : List ℕ) → In n roots → In n before
+abbrev Within : (ledgers before : List (List ℕ)) → Type 0
+Within ledgers before = (n : List ℕ) → In n ledgers → In n before
 
-within-after : (roots before : List (List ℕ)) (p : Part) → Within roots before → Within (roots_after roots p) (before ++ bears p)
-within-after roots before (Root c) w n (inl e) = In-append_right n before (c ∷ []) (inl e)
-within-after roots before (Root c) w n (inr i) = In-append_left n before (c ∷ []) (w n i)
-within-after roots before (OnLedger l c) w n i = In-append_left n before (c ∷ []) (w n i)
-within-after roots before (End v) w n i = In-append_left n before (v.channel ∷ []) (w n i)
-within-after roots before (Middle v) w n i = In-append_left n before [] (w n i)
+within-after : (ledgers before : List (List ℕ)) (p : Part) → Within ledgers before → Within (ledgers_after ledgers p) (before ++ bears p)
+within-after ledgers before (Root c) w n (inl e) = In-append_right n before (c ∷ []) (inl e)
+within-after ledgers before (Root c) w n (inr i) = In-append_left n before (c ∷ []) (w n i)
+within-after ledgers before (OnLedger l c) w n i = In-append_left n before (c ∷ []) (w n i)
+within-after ledgers before (End v) w n (inl e) = In-append_right n before (v.channel ∷ []) (inl e)
+within-after ledgers before (End v) w n (inr i) = In-append_left n before (v.channel ∷ []) (w n i)
+within-after ledgers before (Middle v) w n i = In-append_left n before [] (w n i)
 
-on-before : (roots before : List (List ℕ)) (p : Part) → Within roots before → StandsOn roots p → list_all (λ ledger. is_among ledger before) (ledgers_of p) ≡ true
-on-before roots before (Root c) w on = refl
-on-before roots before (OnLedger l c) w on = and-both (is_among l before) true (in-among l before (w l (among-in l roots on))) refl
-on-before roots before (End v) w on = and-both (is_among (own_ledger v) before) true (in-among (own_ledger v) before (w (own_ledger v) (among-in (own_ledger v) roots on))) refl
-on-before roots before (Middle v) w on =
-    and-both (is_among v.ledger_a before) (is_among v.ledger_b before && true) (in-among v.ledger_a before (w v.ledger_a (among-in v.ledger_a roots on.0)))
-    (and-both (is_among v.ledger_b before) true (in-among v.ledger_b before (w v.ledger_b (among-in v.ledger_b roots on.1))) refl)
+on-before : (ledgers before : List (List ℕ)) (p : Part) → Within ledgers before → StandsOn ledgers p → list_all (λ ledger. is_among ledger before) (ledgers_of p) ≡ true
+on-before ledgers before (Root c) w on = refl
+on-before ledgers before (OnLedger l c) w on = and-both (is_among l before) true (in-among l before (w l (among-in l ledgers on))) refl
+on-before ledgers before (End v) w on = and-both (is_among (own_ledger v) before) true (in-among (own_ledger v) before (w (own_ledger v) (among-in (own_ledger v) ledgers on))) refl
+on-before ledgers before (Middle v) w on =
+    and-both (is_among v.ledger_a before) (is_among v.ledger_b before && true) (in-among v.ledger_a before (w v.ledger_a (among-in v.ledger_a ledgers on.0)))
+    (and-both (is_among v.ledger_b before) true (in-among v.ledger_b before (w v.ledger_b (among-in v.ledger_b ledgers on.1))) refl)
 
-all-before : (roots before : List (List ℕ)) (ps : List Part) → Within roots before → AllOnRoots roots ps → stand_on before ps ≡ true
-all-before roots before [] w on = refl
-all-before roots before (p ∷ ps) w on =
-    and-both (list_all (λ ledger. is_among ledger before) (ledgers_of p)) (stand_on (before ++ bears p) ps) (on-before roots before p w on.0)
-    (all-before (roots_after roots p) (before ++ bears p) ps (within-after roots before p w) on.1)
+all-before : (ledgers before : List (List ℕ)) (ps : List Part) → Within ledgers before → AllStandOn ledgers ps → stand_on before ps ≡ true
+all-before ledgers before [] w on = refl
+all-before ledgers before (p ∷ ps) w on =
+    and-both (list_all (λ ledger. is_among ledger before) (ledgers_of p)) (stand_on (before ++ bears p) ps) (on-before ledgers before p w on.0)
+    (all-before (ledgers_after ledgers p) (before ++ bears p) ps (within-after ledgers before p w) on.1)
 
-pub grounded : (ps : List Part) → AllOnRoots [] ps → stand_on [] ps ≡ true
+pub grounded : (ps : List Part) → AllStandOn [] ps → stand_on [] ps ≡ true
 grounded ps on = all-before [] [] ps (λ n i. i) on

@@ -10,6 +10,7 @@ use Rattle.channel_calls.specs.declared.entry.Entry.{Entry}
 use Rattle.channel_name.specs.Digests.{name_of_person}
 use Rattle.fairness_laws.proofs.OpenedParts.{one-fixed}
 use Rattle.fairness_laws.proofs.Opening.Virtuals.{at-end, at-middle}
+use Rattle.fairness_laws.proofs.Plan.ByRoute.{fits-by-route}
 use Rattle.fairness_laws.proofs.Plan.Fitting.{same-people}
 use Rattle.fairness_laws.proofs.Plan.Names.{place-within}
 use Rattle.fairness_laws.proofs.Plan.Parts.{parts_are_known}
@@ -34,8 +35,7 @@ use Rattle.node_model.specs.Openings.{opened_by, place_among, takes_part, virtua
 use Rattle.node_model.specs.Places.{Told, lines_of, mind_at}
 use Rattle.node_model.specs.Playing.{Signing, Plays}
 use Rattle.node_share_laws.proofs.Apart.{apart-back}
-use Rattle.node_tables.proofs.OnlyPlain.{fits-plain}
-use Rattle.node_tables.specs.Fitting.{can_share, is_double_small, is_channel_of, are_channels_of, both_lend, fits_among}
+use Rattle.node_tables.specs.Fitting.{can_share, is_double_small, is_channel_of, app_of, route_lends, are_route_channels, fits_route_among}
 use Rattle.node_tables.specs.Ledgers.{are_same}
 use Rattle.node_tables.specs.Stages.{stages}
 use Rattle.share_laws.proofs.Finality.{opened-there}
@@ -58,13 +58,14 @@ record ArePeople (guarantors : FixedParts × FixedParts) (first middle second : 
 people-of : (people : List (List ℕ)) (f : FixedParts) → is_channel_of 2 people f ≡ true → persons f ≡ people
 people-of people f e = same-people (persons f) people (and-right (f.app == 2) (are_same (persons f) people) e)
 
-among : (f : FactsOf) (ledgers : List ℕ × List ℕ) (guarantors : FixedParts × FixedParts) (joint channel : FixedParts) (asset : ℕ) (ab : ℕ × ℕ) (x y z : List ℕ)
-    → fits_among f ledgers guarantors joint channel asset ab (x ∷ y ∷ z ∷ []) ≡ true → ArePeople guarantors x y z
-among f ledgers guarantors joint channel asset ab x y z e =
+among : (f : FactsOf) (route : Route) (ledgers : List ℕ × List ℕ) (guarantors : FixedParts × FixedParts) (joint channel : FixedParts) (asset : ℕ) (ab : ℕ × ℕ) (x y z : List ℕ)
+    → fits_route_among f route ledgers guarantors joint channel asset ab (x ∷ y ∷ z ∷ []) ≡ true → ArePeople guarantors x y z
+among f route ledgers guarantors joint channel asset ab x y z e =
     let people-ok : Bool = is_among f.me (x ∷ y ∷ z ∷ []) && (can_share x z ab && is_double_small ab) in
-    let fixed-ok : Bool = are_channels_of guarantors joint channel x y z && both_lend f ledgers asset ab x y z in
-    let channels-ok = and-left (are_channels_of guarantors joint channel x y z) (both_lend f ledgers asset ab x y z) (and-right people-ok fixed-ok e) in
-    let both = and-left (is_channel_of 2 (x ∷ y ∷ []) guarantors.0 && is_channel_of 2 (y ∷ z ∷ []) guarantors.1) ((joint.app == 0) && is_channel_of 1 (x ∷ z ∷ []) channel) channels-ok in
+    let channels-fit : Bool = are_route_channels (app_of route) guarantors joint channel x y z in
+    let ledgers-lend : Bool = route_lends f route ledgers asset ab x y z in
+    let channels-ok = and-left channels-fit ledgers-lend (and-right people-ok (channels-fit && ledgers-lend) e) in
+    let both = and-left (is_channel_of 2 (x ∷ y ∷ []) guarantors.0 && is_channel_of 2 (y ∷ z ∷ []) guarantors.1) ((joint.app == 0) && is_channel_of (app_of route) (x ∷ z ∷ []) channel) channels-ok in
     record {
       a = people-of (x ∷ y ∷ []) guarantors.0 (and-left (is_channel_of 2 (x ∷ y ∷ []) guarantors.0) (is_channel_of 2 (y ∷ z ∷ []) guarantors.1) both);
       b = people-of (y ∷ z ∷ []) guarantors.1 (and-right (is_channel_of 2 (x ∷ y ∷ []) guarantors.0) (is_channel_of 2 (y ∷ z ∷ []) guarantors.1) both);
@@ -130,9 +131,9 @@ module _ (s : Signing) (h : List Entry) (journal : List Told) (fair : IsFair s h
       people : ArePeople guarantors e.end.terms.first e.end.terms.middle e.end.terms.second
       people =
           let fit = fitted stages real s h fair.nodes.legal joint front plays command joint took (inr (inr (inl refl))) in
-          among (facts_of fit.0) ledgers guarantors joint channel asset amounts e.end.terms.first e.end.terms.middle e.end.terms.second
-          (subst (λ (ps : List (List ℕ)). fits_among (facts_of fit.0) ledgers guarantors joint channel asset amounts ps ≡ true) (sym (ap persons joint-is) ∙ e.joint.people)
-          (fits-plain (facts_of fit.0) route ledgers guarantors joint channel asset amounts fit.1))
+          among (facts_of fit.0) route ledgers guarantors joint channel asset amounts e.end.terms.first e.end.terms.middle e.end.terms.second
+          (subst (λ (ps : List (List ℕ)). fits_route_among (facts_of fit.0) route ledgers guarantors joint channel asset amounts ps ≡ true) (sym (ap persons joint-is) ∙ e.joint.people)
+          (fits-by-route (facts_of fit.0) route ledgers guarantors joint channel asset amounts fit.1))
 
       -- nobody is in the guarantor of the other end
       not-first : (side : Bool) → side ≡ true → cond side e.end.terms.second e.end.terms.first ≡ name_of_person s.key → In (name_of_person s.key) (persons guarantors.0) → ⊥

@@ -19,7 +19,7 @@ use Rattle.fairness_laws.proofs.Joint.MiddlesKeep.{middles_keep}
 use Rattle.fairness_laws.proofs.Joint.Seats.{same-fixed}
 use Rattle.fairness_laws.proofs.Ledger.Full.{signed-last}
 use Rattle.fairness_laws.proofs.Ledger.Lent.{of-a, of-b, same-name, lent-end, lent-middle, end-there, first-there}
-use Rattle.fairness_laws.proofs.Ledger.Plans.{lent-stands}
+use Rattle.fairness_laws.proofs.Ledger.Plans.{lent-stands, end-is-ledger}
 use Rattle.fairness_laws.proofs.Ledger.Standing.{ledgers_back, known-signed}
 use Rattle.fairness_laws.proofs.OpenedVirtuals.{end-opened, middle-opened}
 use Rattle.fairness_laws.proofs.Outcomes.{alone}
@@ -47,10 +47,9 @@ use Rattle.node_model.specs.Places.{Told, lines_of, mind_at}
 use Rattle.node_model.specs.Playing.{Signing}
 use Rattle.node_share_laws.proofs.Telling.{places_tell_shares}
 use Rattle.node_share_laws.specs.Orders.{orders_of}
-use Rattle.node_tables.specs.Ledgers.{is_root_of}
+use Rattle.fairness_laws.specs.PlanBearers.{bears}
 use Rattle.node_tables.specs.Stages.{stages}
 use Rattle.outcome_targets.specs.Outcomes.{names}
-use Rattle.outcome_targets.specs.Targets.{guarantee}
 use Rattle.share_model.specs.Places.{channels, plan, last_made, outcomes_of}
 use Rattle.stage_rules.specs.Seats.{state_is, has_signed_past, settled_on}
 use Rattle.support_chain.specs.Real.{real}
@@ -183,10 +182,10 @@ module _ (s : Signing) (h : List Entry) (journal : List Told) (fair : IsFair s h
 
       ledger-there : root-is.fixed.app ≡ 0 → is_ledger s.key journal c ≡ true
       ledger-there app =
-          and-both (list_any (λ f. bytes_eq (real.named f) c && (f.app == 0)) (channels L)) (list_any (is_root_of c) (plan (orders_of real s.key journal) L))
+          and-both (list_any (λ f. bytes_eq (real.named f) c && (f.app == 0)) (channels L)) (list_any (bears c) (plan (orders_of real s.key journal) L))
           (any-of (λ f. bytes_eq (real.named f) c && (f.app == 0)) (channels L) root-is.fixed root-is.seat.own.there
           (and-both (bytes_eq (real.named root-is.fixed) c) (root-is.fixed.app == 0) (ap (λ (n : List ℕ). bytes_eq n c) (root-is.named ∙ sym named) ∙ bytes_eq_self c) (zero root-is.fixed.app app)))
-          (any-of (is_root_of c) (plan (orders_of real s.key journal) L) (kinds.Root name) (subst (In (kinds.Root name)) parts-are there) (ap (λ (n : List ℕ). bytes_eq name n) named ∙ bytes_eq_self name))
+          (any-of (bears c) (plan (orders_of real s.key journal) L) (kinds.Root name) (subst (In (kinds.Root name)) parts-are there) (ap (λ (n : List ℕ). bytes_eq name n) named ∙ bytes_eq_self name))
         where
           zero : (n : ℕ) → n ≡ 0 → (n == 0) ≡ true
           zero n e = grind (arith, nat_tests)
@@ -381,6 +380,27 @@ module _ (s : Signing) (h : List Entry) (journal : List Told) (fair : IsFair s h
           quiet = middle-quiet;
         })
 
+    -- ---- the channel of an end
+
+    at-end-channel : (v : Virtual) (there : In (kinds.End v) m.parts) → c ≡ v.channel → ((known (kinds.End v) there).is.fixed.app ≡ 0) ⊎ ((known (kinds.End v) there).is.fixed.app ≡ 1) → Site c
+    at-end-channel v there named (inr app) =
+        let o = known (kinds.End v) there in
+        let own-is = seat-own s h journal fair h journal at k i o.is.fixed _ o.is.end.channel o.is.seat (o.is.named ∙ sym named) in
+        absurd (bare ((ends_share s h journal h journal fair at v o.goal there o.is app).own k.last own-is).1)
+    at-end-channel v there named (inl app) = go (keep.ledgers c k.last signed).quiet
+      where
+        on : is_ledger s.key journal c ≡ true
+        on =
+            let o = known (kinds.End v) there in
+            subst (λ (n : List ℕ). is_ledger s.key journal n ≡ true) (sym named) (end-is-ledger s h journal fair plans_are_whole h journal at.front_is v o.goal there o.is app)
+
+        signed : own c ≡ Some k.last
+        signed = cond-true (is_ledger s.key journal c) (option_map (λ (z : Signed). z.state) (last_made c L)) None on ∙ last-named s h journal fair h journal at k i
+
+        go : (outcomes_of k.last ≡ k.last.outcome ∷ []) ⊎ ((p : Part) × (j : Lent) × In p m.parts × (lends c p ≡ Some j) × IsVoted j k.last) → Site c
+        go (inl e) = absurd (two k.last.outcome e)
+        go (inr w) = inl (record { part = w.0; there = w.2; lent = w.1; is = w.3; last = k.last; signed = signed; voted = w.4 })
+
     -- ---- any channel
 
     site-in : (part : Part) → In part m.parts → In c (joined_of part) → Site c
@@ -397,8 +417,7 @@ module _ (s : Signing) (h : List Entry) (journal : List Told) (fair : IsFair s h
     site-in (kinds.End v) there (inr (inl named)) = at-end-joint v there named
     site-in (kinds.End v) there (inr (inr (inl named))) =
         let o = known (kinds.End v) there in
-        let own-is = seat-own s h journal fair h journal at k i o.is.fixed _ o.is.end.channel o.is.seat (o.is.named ∙ sym named) in
-        absurd (bare ((ends_share s h journal h journal fair at v o.goal there o.is).own k.last own-is).1)
+        at-end-channel v there named (zero-or-one o.is.fixed.app o.is.app)
     site-in (kinds.End v) there (inr (inr (inr j))) = absurd j
     site-in (kinds.Middle v) there (inl named) =
         let o = known (kinds.Middle v) there in

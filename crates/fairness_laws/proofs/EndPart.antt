@@ -6,7 +6,7 @@ use Rattle.std.specs.Str.{bytes_eq}
 use Rattle.nitro_bytes.specs.Outcomes.{IsName, IsOutcome}
 use Rattle.nitro_bytes.specs.Parts.{FixedParts, StateParts, IsState}
 use Rattle.nitro_bytes.specs.declared.value.AssetOutcome.{AssetOutcome}
-use Rattle.nitro_bytes.specs.declared.value.Dest.TheVariants.{Person}
+use Rattle.nitro_bytes.specs.declared.value.Dest.TheVariants.{Person, Channel}
 use Rattle.nitro_bytes.specs.declared.value.Item.{Item}
 use Rattle.chain_laws.proofs.Tests.{some-eq, none-eq, and-left, and-right, clash}
 use Rattle.channel_calls.specs.Flows.{is_among}
@@ -37,8 +37,7 @@ use Rattle.outcome_targets.specs.declared.child.Child.{Child}
 use Rattle.outcome_targets.specs.declared.terms.Terms.{Terms}
 use Rattle.plan_stages.specs.Asked.{wanted_of}
 use Rattle.share_model.specs.Funded.{up_to}
-use Rattle.share_model.specs.Books.{outcome_in}
-use Rattle.share_model.specs.Places.{Order, listed, proposed, plan, counting, outcomes_of}
+use Rattle.share_model.specs.Places.{Order, plan, outcomes_of}
 use Rattle.signing_laws.proofs.Fits.{together_fits}
 use Rattle.signing_laws.specs.Fairly.{Wants}
 use Rattle.signing_laws.specs.Moves.{IsApart, IsTogether}
@@ -54,8 +53,7 @@ use Rattle.virtual_channel.specs.Ends as ends
 use Rattle.virtual_channel.specs.Ends.{End, end_rows}
 use Rattle.virtual_channel.specs.Stages.{stage_of_end, wanted_of_end}
 use Rattle.wish_laws.proofs.Finding.{asked-there, flips, or-left}
-use Rattle.fairness_laws.proofs.Plan.Plans.{plans_are_whole}
-use Rattle.fairness_laws.proofs.Plan.Roots.{root-bare}
+use Rattle.signing_laws.proofs.Alone.{ends_as_it_can}
 use Rattle.fairness_laws.proofs.Plan.Names.{in-among}
 use Rattle.fairness_laws.proofs.Seat.Past.{several, two-people}
 use Rattle.fairness_laws.proofs.Apps.{no-payments}
@@ -64,7 +62,7 @@ use Rattle.fairness_laws.specs.JointKeeping.{EndKeeps, IsOver}
 use Rattle.fairness_laws.specs.LedgerLaws.{LedgersKeep, LedgersStand}
 use Rattle.fairness_laws.specs.LedgerLending.{of_end, lent}
 use Rattle.fairness_laws.specs.OpeningChannels.{SignsOnly}
-use Rattle.fairness_laws.specs.PaymentLaws.{At, IsShared, Shares}
+use Rattle.fairness_laws.specs.PaymentLaws.{At, IsShared, SharesOver}
 use Rattle.fairness_laws.specs.PlanParts.{EndIs}
 use Rattle.fairness_laws.specs.PlanSeats.{SeatIs}
 use Rattle.fairness_laws.specs.PlanSettings.{IsFair}
@@ -83,7 +81,7 @@ use Rattle.fairness_laws.proofs.Ledger.Standing.{known_ledgers_keep}
 use Rattle.fairness_laws.proofs.Ledger.Upright.{ledgers_stand_at_places}
 use Rattle.fairness_laws.proofs.Live.{wants-early, below-not, live-open}
 use Rattle.fairness_laws.proofs.OpenedParts.{SignsFirst}
-use Rattle.fairness_laws.proofs.Payment.Shares.{ends_share}
+use Rattle.fairness_laws.proofs.Ledger.Ended.{ends_share_over}
 use Rattle.fairness_laws.proofs.Plan.Parts.{parts_are_known}
 use Rattle.fairness_laws.proofs.Seat.Wants.{going-there, wants-repeated, wants-final, wants-move}
 use Rattle.fairness_laws.proofs.Seat.Ends.{Ends, ends-top, ends-holds, ends-with, first-round}
@@ -123,8 +121,8 @@ module _ (s : Signing) (h : List Entry) (journal : List Told) (fair : IsFair s h
   pub opened : EndOpened s h journal fair past front at v g e
   opened = end-opened s h journal fair past front at v g there e
 
-  shares : Shares e.fixed v.asset v.total p.channel
-  shares = ends_share s h journal past front fair at v g there e
+  shares : p.closing ≡ true → p.channel.all_final ≡ true → SharesOver e.fixed v.asset v.total p.channel
+  shares closing ended = ends_share_over s h journal past front fair at v g there found e closing ended
 
   sit : (f : FixedParts) (opening : List AssetOutcome) (c : Seat) → SeatIs s.key past lines f opening c → is_final (mode real (real.named f) past) ≡ false → Sits s.key orders past lines f opening c
   sit f opening c seat going = sits s h journal fair past front at f opening c seat going
@@ -229,12 +227,12 @@ module _ (s : Signing) (h : List Entry) (journal : List Told) (fair : IsFair s h
     is : top.outcome ≡ shared e.fixed v.asset ab
     sum : ab.0 + ab.1 ≡ v.total
 
-  shared-now : (ab : ℕ × ℕ) → ends.ends_now p ≡ Some ab → Shared ab
-  shared-now ab now = by p.channel.top refl now
+  shared-now : p.closing ≡ true → p.channel.all_final ≡ true → (ab : ℕ × ℕ) → ends.ends_now p ≡ Some ab → Shared ab
+  shared-now closing ended ab now = by p.channel.top refl now
     where
       by : (c : Option StateParts) → p.channel.top ≡ c → amounts_after t.asset t.first t.second c ≡ Some ab → Shared ab
       by None is a = absurd (none-eq ab a)
-      by (Some top) is a = at-top (shares.top top is).0
+      by (Some top) is a = at-top ((shares closing ended).top top is)
         where
           at-top : IsShared e.fixed v.asset v.total top.outcome → Shared ab
           at-top sh =
@@ -349,7 +347,7 @@ module _ (s : Signing) (h : List Entry) (journal : List Told) (fair : IsFair s h
         ab = parted.0.amounts
 
         sum : ab.0 + ab.1 ≡ v.total
-        sum = (shared-now ab parted.0.now).sum
+        sum = (shared-now closing parted.0.all_final ab parted.0.now).sum
 
     -- ---- the joint channel
 
@@ -378,11 +376,11 @@ module _ (s : Signing) (h : List Entry) (journal : List Told) (fair : IsFair s h
       },
     )
 
-    -- no part stands on its channel
-    lends-nothing : LendsNothing real orders past lines t.asset v.channel
-    lends-nothing taken =
-        let w = plans_are_whole s h journal past front fair.nodes at.front_is in
-        root-bare (plan orders lines) w.on_roots w.whole.apart (parts.End v) in-plan tt (items_in t.asset (outcome_in (counting real past lines) taken v.channel))
+    -- what the channel ends with sets nothing aside
+    lends-nothing : (ab : ℕ × ℕ) → ChannelEnds ab → LendsNothing real orders past lines t.asset v.channel
+    lends-nothing ab c taken q x i w =
+        subst (λ (o : List AssetOutcome). has (items_in t.asset o) (Channel x) ≡ false) (sym (ends_as_it_can real past lines v.channel c.outcome c.ending taken).0)
+        (subst (λ (xs : List Item). has xs (Channel x) ≡ false) (sym (ap (items_in t.asset) c.is ∙ items-shared ab)) refl)
 
     j-base : (top : StateParts) → p.joint.top ≡ Some top → Based s.key orders past lines e.joint.fixed (apart t g.amounts) p.joint j-sits top
     j-base top is = based s.key orders past lines e.joint.fixed (apart t g.amounts) p.joint j-sits (no-payments e.joint.fixed e.joint.app) top is
@@ -430,7 +428,7 @@ module _ (s : Signing) (h : List Entry) (journal : List Told) (fair : IsFair s h
         target : IsTarget real me orders past lines e.joint.fixed (apart t g.amounts) (together t)
         target = record {
           asset = t.asset;
-          moves = wanted.together (parts.End v) in-plan lends-nothing (may g.amounts e.joint.sum (opened-so set young) (full up (inl (stays, young)) set));
+          moves = wanted.together (parts.End v) in-plan (lends-nothing g.amounts (opened-so set young)) (may g.amounts e.joint.sum (opened-so set young) (full up (inl (stays, young)) set));
           list = together-list t ∙ sym (apart-list t g.amounts);
           others = λ a other. same-others t g.amounts a other;
         }
@@ -462,17 +460,17 @@ module _ (s : Signing) (h : List Entry) (journal : List Told) (fair : IsFair s h
         set = keeps.set_up (inl closing)
 
         sh : Shared ab
-        sh = shared-now ab now.now
+        sh = shared-now closing ended ab now.now
 
         has : ChannelEnds ab
         has =
             let x = ends-top s.key orders past lines e.fixed g.opening p.channel x-sits sh.top sh.top_is in
-            let plain = shares.own x.last.state x.own_is in
+            let plain = (shares closing ended).own sh.top x.last.state sh.top_is x.own_is in
             record {
               outcome = x.last.state.outcome;
               ending = subst (λ (n : List ℕ). EndsWith real past lines n x.last.state.outcome) e.named
-                  (ends-with s.key orders past lines e.fixed g.opening p.channel x-sits x x.last.state.outcome (ap (λ (bytes : List ℕ). x.last.state.outcome ∷ listed (proposed bytes)) plain.1));
-              is = (shares.ended ended sh.top x.last.state sh.top_is x.own_is).1 ∙ sh.is;
+                  (ends-with s.key orders past lines e.fixed g.opening p.channel x-sits x x.last.state.outcome plain.1);
+              is = plain.0 ∙ sh.is;
             }
 
         falls : (of_end p).falls ≡ false
@@ -481,7 +479,7 @@ module _ (s : Signing) (h : List Entry) (journal : List Told) (fair : IsFair s h
         target : IsTarget real me orders past lines e.joint.fixed (together t) (apart t ab)
         target = record {
           asset = t.asset;
-          moves = wanted.apart (parts.End v) in-plan lends-nothing (may ab sh.sum has (full (keeps.past (inl closing)) (inr (closing, falls)) set));
+          moves = wanted.apart (parts.End v) in-plan (lends-nothing ab has) (may ab sh.sum has (full (keeps.past (inl closing)) (inr (closing, falls)) set));
           list = apart-list t ab ∙ sym (together-list t);
           others = λ a other. sym (same-others t ab a other);
         }

@@ -2,6 +2,7 @@ pub mod Rows
 pub mod Terms
 pub mod Pays
 pub mod Outcomes
+pub mod Found
 pub mod Core
 pub mod Moves
 pub mod Late

@@ -26,6 +26,11 @@ pub mod Events
 pub mod Fits
 pub mod Full
 pub mod SetUps
+pub mod Form
 pub mod Giving
+pub mod Closes
+pub mod Over
+pub mod Always
+pub mod Ended
 pub mod Standing
 pub mod Upright

@@ -49,7 +49,7 @@ use Rattle.virtual_channel.specs.Stages.{stage_of_middle, wanted_of_middle}
 use Rattle.wish_laws.proofs.Finding.{asked-there, or-left}
 use Rattle.wish_laws.specs.Carried.{OpensWith}
 use Rattle.fairness_laws.proofs.Plan.Plans.{plans_are_whole}
-use Rattle.fairness_laws.proofs.Plan.Roots.{root-bare}
+use Rattle.fairness_laws.proofs.Plan.Bearers.{middle-bare}
 use Rattle.fairness_laws.proofs.Plan.Names.{in-among}
 use Rattle.fairness_laws.proofs.Seat.Past.{several}
 use Rattle.fairness_laws.proofs.Apps.{no-payments}
@@ -67,7 +67,7 @@ use Rattle.fairness_laws.specs.PlanSeats.{SeatIs}
 use Rattle.fairness_laws.specs.PlanSettings.{IsFair}
 use Rattle.fairness_laws.specs.SeatSitting.{Sits}
 use Rattle.fairness_laws.proofs.Joint.MiddlesKeep.{middles_keep}
-use Rattle.fairness_laws.proofs.Ledger.Giving.{found-sum}
+use Rattle.fairness_laws.proofs.Joint.Found.{found-sum}
 use Rattle.fairness_laws.proofs.Joint.Outcomes.{terms-of, together-asset, apart-asset, found-apart}
 use Rattle.fairness_laws.proofs.Joint.Rows.{MiddleWants, guarantees_a, guarantees_b, splits, ups_a, ups_b, joins, parts as parts_back, downs_a, downs_b, middle-wants}
 use Rattle.fairness_laws.proofs.Joint.Pays.{apart-list, together-list, same-others, guarantee-list, AreTerms, apart-outcome, together-outcome, between-fits}
@@ -350,7 +350,7 @@ module _ (s : Signing) (h : List Entry) (journal : List Told) (fair : IsFair s h
     lends-nothing : LendsNothing real orders past lines t.asset v.channel
     lends-nothing taken =
         let w = plans_are_whole s h journal past front fair.nodes at.front_is in
-        root-bare (plan orders lines) w.on_roots w.whole.apart (parts.Middle v) in-plan tt (items_in t.asset (outcome_in (counting real past lines) taken v.channel))
+        middle-bare (plan orders lines) w.whole v in-plan (items_in t.asset (outcome_in (counting real past lines) taken v.channel))
 
     j-base : (top : StateParts) → p.joint.top ≡ Some top → Based s.key orders past lines e.joint.fixed (apart t g.amounts) p.joint j-sits top
     j-base top is = based s.key orders past lines e.joint.fixed (apart t g.amounts) p.joint j-sits (no-payments e.joint.fixed e.joint.app) top is

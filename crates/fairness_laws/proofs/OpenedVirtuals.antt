@@ -1,30 +1,36 @@
 -- What the channels of a virtual channel open with, and what is signed in its guarantors, by the command that opened its part.
-use Rattle.std.proofs.Common.{◌≡◌, ℕ, Bool, true, false, cond, List, [], ◌∷◌, inl, inr, refl, sym, ◌∙◌, ap, subst}
+use Rattle.std.proofs.Common.{◌≡◌, ℕ, ◌+◌, ◌≤◌, Bool, true, false, cond, List, [], ◌∷◌, inl, inr, refl, sym, ◌∙◌, ap, subst, arith}
 use Rattle.std.specs.Prelude.{Some}
 use Rattle.nitro_bytes.specs.Outcomes.{IsName}
 use Rattle.nitro_bytes.specs.Parts.{FixedParts}
 use Rattle.nitro_bytes.specs.declared.value.AssetOutcome.{AssetOutcome}
 use Rattle.channel_name.specs.Digests.{name_of_person}
+use Rattle.channel_calls.specs.Flows.{is_among}
 use Rattle.channel_calls.specs.declared.entry.Entry.{Entry}
-use Rattle.funding_value.specs.Parts.{own_channel, own_guarantor}
+use Rattle.channel_model.specs.Rules.{people}
+use Rattle.funding_value.specs.Parts.{own_channel, own_guarantor, ledgers_of}
 use Rattle.funding_value.specs.declared.plan.Goal.{Goal}
 use Rattle.funding_value.specs.declared.plan.Part.{Part}
 use Rattle.funding_value.specs.declared.plan.Part.TheVariants as parts
 use Rattle.funding_value.specs.declared.plan.Virtual.{Virtual}
+use Rattle.net_model.specs.Held.{held}
 use Rattle.net_model.specs.Journals.{In}
 use Rattle.net_party.specs.declared.command.Command.{Command}
 use Rattle.net_party.specs.declared.command.Command.TheVariants as commands
 use Rattle.net_party.specs.declared.command.Route.{Route}
+use Rattle.node_laws.proofs.Reaching.{Reaches}
 use Rattle.node_model.specs.Minds.{Mind, facts_of}
 use Rattle.node_model.specs.Openings.{opened_by, parts_of, shared, takes_part, virtual}
 use Rattle.node_model.specs.Places.{Told, lines_of, mind_at}
 use Rattle.node_model.specs.Playing.{Signing}
 use Rattle.fairness_laws.proofs.NamesAreNames.{names_are_names}
-use Rattle.fairness_laws.proofs.Opening.Ends.{EndAt, end-at, ends_open, guarantor-named, guarantor-inside}
+use Rattle.fairness_laws.proofs.Opening.Ends.{EndAt, end-at, ends_open, guarantor-named, guarantor-inside, posted-starts}
 use Rattle.fairness_laws.proofs.Opening.Guarantors.{ends_sign, middles_sign}
 use Rattle.fairness_laws.proofs.Opening.Middles.{MiddleAt, middle-at, middles_open}
 use Rattle.fairness_laws.proofs.Opening.Seated.{seated}
-use Rattle.fairness_laws.proofs.Opening.Virtuals.{GoalIs, goal-is, Differ, names-differ}
+use Rattle.fairness_laws.proofs.Opening.Virtuals.{GoalIs, goal-is, Differ, names-differ, at-end}
+use Rattle.fairness_laws.proofs.Plan.Places.{plays-there}
+use Rattle.fairness_laws.proofs.Seat.Past.{two-people}
 use Rattle.fairness_laws.proofs.OpenedParts.{SignsFirst, end-signs, PartCommand, part-command, later-took, one-fixed}
 use Rattle.fairness_laws.specs.OpeningChannels.{guarantor_of, SignsOnly}
 use Rattle.fairness_laws.specs.PaymentLaws.{At}
@@ -39,6 +45,7 @@ use Rattle.support_chain.specs.Real.{real}
 use Rattle.support_chain.specs.Steps.{persons}
 use Rattle.virtual_channel.specs.Stages.{terms_for, own_end}
 use Rattle.wish_laws.proofs.Commanded.{IsGoalOf}
+use Rattle.wish_laws.proofs.Firsts as firsts
 use Rattle.wish_laws.specs.Carried.{OpensWith}
 use Rattle.wish_laws.specs.Opens.{Took}
 
@@ -150,6 +157,8 @@ module _ (s : Signing) (h : List Entry) (journal : List Told) (fair : IsFair s h
     pub splits : OpensWith e.joint.fixed (apart e.end.terms g.amounts) (lines_of s.key journal)
     pub opens : OpensWith e.fixed g.opening (lines_of s.key journal)
     pub first : SignsFirst e.fixed g.opening (lines_of s.key journal)
+    -- where a part stands on its channel it is held past its set-up
+    pub borne : (q : Part) → In q m.parts → is_among v.channel (ledgers_of q) ≡ true → Reaches real e.fixed 3 (held real e.fixed past (lines_of s.key front))
 
   pub end-opened : (v : Virtual) (g : Goal) → In (parts.End v) m.parts → (e : EndIs s.key past (lines_of s.key front) (facts_of m) v g) → EndOpened v g e
   end-opened v g i e = by
@@ -202,6 +211,25 @@ module _ (s : Signing) (h : List Entry) (journal : List Told) (fair : IsFair s h
       opening-is : shared o.channel o.asset o.amounts ≡ g.opening
       opening-is = sym o.goal.opening ∙ (sym (seated m v.channel ea.g.opening e.end.channel ea.last).opening_is ∙ ap (λ (x : Seat). x.opening) e.seat.is)
 
+      borne-so : (q : Part) → In q m.parts → is_among v.channel (ledgers_of q) ≡ true → Reaches real e.fixed 3 (held real e.fixed past (lines_of s.key front))
+      borne-so q j among =
+          subst (λ (x : FixedParts). Reaches real x 3 (held real x past (lines_of s.key front))) (sym channel-is)
+          ((firsts.lent s h journal fair.nodes.legal fair.nodes.plays command (parts.End w) o.channel (shared o.channel o.asset o.amounts) 3 took (inr (inr (inr (inl refl))))
+          (at-end s.key o.route o.ledgers o.guarantors o.joint o.channel o.asset o.amounts o.takes)
+          (posted-starts s.key o.route o.ledgers o.guarantors o.joint o.channel o.asset o.amounts t told distinct (few (people o.channel) many)) (some (people o.channel) many)
+          at.front_is.newer front at.front_is.events (plays-there s h journal fair.nodes past front at.front_is) at.front_is.later past at.front_is.entries at.front_is.before q j
+          (subst (λ (n : List ℕ). is_among n (ledgers_of q) ≡ true) (ap (λ (x : Virtual). x.channel) o.is) among)).1
+          (subst (λ (x : Virtual). In (parts.End x) m.parts) o.is i))
+        where
+          many : people o.channel ≡ 2
+          many = ap people (sym channel-is) ∙ two-people e.fixed t.first t.second e.people
+
+          few : (n : ℕ) → n ≡ 2 → n ≤ 3 + 1
+          few n k = omega arith
+
+          some : (n : ℕ) → n ≡ 2 → 1 ≤ n
+          some n k = omega arith
+
       by : EndOpened v g e
       by =
           let opens = ends_open s h journal fair.nodes.legal fair.nodes.plays o.route o.ledgers o.guarantors o.joint o.channel o.asset o.amounts t took o.takes told in
@@ -211,6 +239,7 @@ module _ (s : Signing) (h : List Entry) (journal : List Told) (fair : IsFair s h
                 (ends_sign s h journal fair.nodes.legal fair.nodes.plays o.route o.ledgers o.guarantors o.joint o.channel o.asset o.amounts t took o.takes told);
             splits = there Opens o.joint e.joint.fixed (apart t o.amounts) (apart t g.amounts) joint-is split-is opens.joint_opens;
             opens = there Opens o.channel e.fixed (shared o.channel w.asset o.amounts) g.opening channel-is opening-is opens.channel_opens;
+            borne = borne-so;
             first = there First o.channel e.fixed (shared o.channel w.asset o.amounts) g.opening channel-is opening-is
                 (end-signs s h journal fair.nodes.legal fair.nodes.plays o.route o.ledgers o.guarantors o.joint o.channel o.asset o.amounts t took o.takes told);
           }

@@ -1,13 +1,22 @@
 -- With which outcomes a state can end.
-use Rattle.std.proofs.Common.{◌≡◌, ℕ, Bool, true, false, cond, ◌&&◌, List, [], ◌∷◌, inl, inr, refl, ◌∙◌, ap, subst, arith}
+use Rattle.std.proofs.Common.{◌≡◌, ℕ, ◌^◌, ◌<◌, Bool, true, false, cond, ◌&&◌, List, [], ◌∷◌, inl, inr, refl, ◌∙◌, ap, subst, arith}
 use Rattle.std.proofs.lemmas.Bool.Decides.{nat_tests}
 use Rattle.std.specs.Prelude.{◌==◌, nat_le, nat_lt, is_ok, Some, None}
+use Rattle.std.specs.List.{AllByRecursion}
+use Rattle.nitro_bytes.specs.Outcomes.{is_same, IsItem, IsShape, IsAssetOutcome}
 use Rattle.nitro_bytes.specs.Parts.{StateParts}
 use Rattle.nitro_bytes.specs.Reading.{outcome_of}
 use Rattle.nitro_bytes.specs.declared.value.AssetOutcome.{AssetOutcome}
+use Rattle.nitro_bytes.specs.declared.value.Dest.{Dest}
+use Rattle.nitro_bytes.specs.declared.value.Item.{Item}
+use Rattle.nitro_bytes.specs.declared.value.Shape.{Shape}
+use Rattle.nitro_bytes.specs.declared.value.Shape.TheVariants.{Allocation, Guarantee}
 use Rattle.app_rules.specs.Ballots.{ballot_of}
 use Rattle.app_rules.specs.Toward.{has_no_votes}
 use Rattle.chain_laws.proofs.Tests.{clash, and-left}
+use Rattle.channel_calls.specs.Dues.{shape_in}
+use Rattle.channel_model.specs.Amounts.{amt}
+use Rattle.funding_value.specs.Shapes.{items_of, items_in}
 use Rattle.net_model.specs.Journals.{In}
 use Rattle.share_model.specs.Places.{listed, proposed, outcomes_of}
 use Rattle.fairness_laws.specs.OpeningChannels.{IsExactly}
@@ -28,6 +37,27 @@ only s o e x i = by (subst (In x) e i)
     by : In x (o ∷ []) → x ≡ o
     by (inl same) = same
     by (inr j) = absurd j
+
+-- what a destination has in an outcome is an amount
+pub amount-small : (os : List AssetOutcome) → AllByRecursion IsAssetOutcome os → (asset : ℕ) (d : Dest) → amt (items_in asset os) d < 2 ^ 64
+amount-small [] all asset d = omega arith
+amount-small (o ∷ os) all asset d = go (o.asset == asset) (amount-small os all.1 asset d)
+  where
+    in-items : (items : List Item) → AllByRecursion IsItem items → amt items d < 2 ^ 64
+    in-items [] each = omega arith
+    in-items (x ∷ xs) each = by (is_same x.to d) (in-items xs each.1)
+      where
+        by : (b : Bool) → amt xs d < 2 ^ 64 → cond b x.amount (amt xs d) < 2 ^ 64
+        by true rest = each.0.1
+        by false rest = rest
+
+    in-shape : (z : Shape) → IsShape z → amt (items_of (Some z)) d < 2 ^ 64
+    in-shape (Allocation items) is = in-items items is.1.each
+    in-shape (Guarantee target list) is = omega arith
+
+    go : (b : Bool) → amt (items_in asset os) d < 2 ^ 64 → amt (items_of (cond b (Some o.shape) (shape_in os asset))) d < 2 ^ 64
+    go true rest = in-shape o.shape all.0.1
+    go false rest = rest
 
 -- no votes, no data
 pub bare-data : (n : ℕ) (bytes : List ℕ) → has_no_votes (ballot_of n bytes) ≡ true → bytes ≡ []

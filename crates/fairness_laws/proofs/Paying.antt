@@ -1,6 +1,6 @@
 -- Where a payment waits a chain is held of its channel, which is a payment channel.
 use Rattle.std.proofs.Common.{◌≡◌, ℕ, ◌+◌, ◌<◌, ◌≤◌, Bool, true, false, List, [], ◌∷◌, inl, inr, length, refl, sym, ◌∙◌, ap, subst, arith}
-use Rattle.std.specs.Prelude.{Some}
+use Rattle.std.specs.Prelude.{nat_le, Some, None}
 use Rattle.chain_laws.proofs.Lists.{In-get, get-within}
 use Rattle.funding_value.specs.declared.plan.Part.TheVariants.{Root, OnLedger, End}
 use Rattle.share_laws.proofs.Finality.{opened-there}
@@ -22,7 +22,7 @@ use Rattle.wish_laws.proofs.Commanded.{fitted, stand, took-later}
 use Rattle.wish_laws.proofs.Opening.{root-starts}
 use Rattle.std.proofs.lemmas.Bool.Decides.{nat_tests}
 use Rattle.std.specs.Str.{bytes_eq}
-use Rattle.chain_laws.proofs.Tests.{none-eq, some-eq}
+use Rattle.chain_laws.proofs.Tests.{none-eq, some-eq, cond-true}
 use Rattle.nitro_bytes.specs.Parts.{FixedParts}
 use Rattle.nitro_bytes.specs.declared.value.AssetOutcome.{AssetOutcome}
 use Rattle.channel_calls.proofs.Names.{bytes_eq_self}
@@ -42,9 +42,11 @@ use Rattle.node_model.specs.Playing.{Signing, pending}
 use Rattle.node_tables.specs.Stages.{stages}
 use Rattle.fairness_laws.proofs.Payment.Made.{young-next}
 use Rattle.fairness_laws.specs.PaymentLaws.{At}
+use Rattle.fairness_laws.specs.PlanSeats.{SeatIs}
 use Rattle.fairness_laws.proofs.Plan.Holding.{Holds}
 use Rattle.fairness_laws.specs.PlanSettings.{IsFair}
 use Rattle.signing_laws.specs.Signatures.{IsOwn}
+use Rattle.stage_rules.specs.Seats.{Seat, state_is, holds}
 use Rattle.support_chain.specs.Real.{real}
 use Rattle.view_laws.specs.Laws.{IsKeptAt}
 use Rattle.wish_laws.proofs.Firsts.{Starts, Opener, opener, waits, paid-app}
@@ -83,6 +85,21 @@ module _ (s : Signing) (h : List Entry) (journal : List Told) (fair : IsFair s h
           let up : turn ≤ full.top.turn = full.up in
           let next : next_of k ≡ full.top.turn + 1 = next-is in
           absurd (omega (arith, enough))
+
+  -- so is its seat
+  pub reaches-holds : (f : FixedParts) (opening : List AssetOutcome) (c : Seat) → SeatIs s.key past (lines_of s.key front) f opening c → (turn : ℕ) → people f ≤ turn + 1
+      → Reaches real f turn (held real f past (lines_of s.key front)) → holds turn c ≡ true
+  reaches-holds f opening c seat turn enough full =
+      ap (state_is (λ s. nat_le turn s.turn)) top-is ∙ low-le turn full.top.turn full.up
+    where
+      top-is : c.top ≡ Some full.top
+      top-is =
+          ap (λ (z : Seat). z.top) seat.is
+          ∙ (cond-true (is_held seat.kept) (newest seat.kept.chain.states) None (reaches-held f seat.kept seat.at turn enough full)
+          ∙ (ap (λ (w : Marked). newest w.states) (some-eq (marked_of seat.kept.chain) full.w (sym seat.at.chain ∙ full.is)) ∙ full.ends))
+
+      low-le : (a b : ℕ) → a ≤ b → nat_le a b ≡ true
+      low-le a b h = grind (arith, nat_tests)
 
   module _ (f : FixedParts) (k : Kept) (own : IsOwn real (lines_of s.key front) f) (kept : IsKeptAt real past (lines_of s.key front) f k) (command : Command) (took : Took command front)
       (inside : In f (opened_by command)) (by : Started s.key command f) (asset amount : ℕ) (paying : pending front ≡ Some (commands.Pay (real.named f) asset amount)) where

@@ -3,7 +3,8 @@ pub mod Known
 pub mod Holding
 pub mod Fitting
 pub mod Goals
-pub mod Roots
+pub mod Bearers
+pub mod ByRoute
 pub mod Places
 pub mod Parts
 pub mod Asked

@@ -1,4 +1,4 @@
--- What is known of a node's payments, of the set-ups of its ledgers, and of what goes back from them, where it acts.
+-- What is known of a node's payments, and of the set-ups of its ledgers, where it acts.
 use Rattle.std.specs.Prelude.{◌≡◌, ◌≤◌, ◌*◌, ℕ, true, false, List, length, Some, None, ◌⊎◌}
 use Rattle.nitro_bytes.specs.Outcomes.{IsName}
 use Rattle.nitro_bytes.specs.Parts.{FixedParts, StateParts, IsState}
@@ -13,11 +13,12 @@ use Rattle.node_model.specs.Places.{Told, lines_of, mind_at}
 use Rattle.node_model.specs.Playing.{Signing, pending}
 use Rattle.node_share_laws.specs.Laws.{IsFront}
 use Rattle.fairness_laws.specs.PaymentLaws.{ActsNext}
-use Rattle.fairness_laws.specs.PlanParts.{RootIs}
+use Rattle.fairness_laws.specs.PlanBearers.{bears}
+use Rattle.fairness_laws.specs.PlanSeats.{SeatIs}
 use Rattle.share_model.specs.Places.{channels, outcomes_of}
-use Rattle.stage_rules.specs.Seats.{repeats}
+use Rattle.stage_rules.specs.Gathered.{goal_in}
+use Rattle.stage_rules.specs.Seats.{Seat, repeats}
 use Rattle.support_chain.specs.Real.{real}
-use Rattle.fairness_laws.specs.LedgerLaws.{GivesBack}
 use Rattle.fairness_laws.specs.LedgerLending.{Lent}
 use Rattle.fairness_laws.specs.LedgerPlaces.{is_ledger, own_at, parts_at, lends_at}
 
@@ -32,16 +33,12 @@ PaymentsRun s h journal =
 -- what the set-up of a ledger wants repeats an outcome with which it could end, or is the first state, while nothing stands on it
 abbrev pub SetUpsStart : Signing → (h : List Entry) → (journal : List Told) → Type 0
 SetUpsStart s h journal =
-    (past : List Entry) (x : Told) (front : List Told) → ActsNext s h journal past x front → (r : List ℕ) (g : Goal) → In (kinds.Root r) (parts_at s past front) → is_ledger s.key journal r ≡ true
-    → (root : RootIs s.key past (lines_of s.key front) (facts_of (mind_at real s.key past front)) r g) (from until : ℕ) (state : StateParts) → IsState state
-    → until ≤ 2 * length root.direct.channel.people → repeats from until root.direct.channel ≡ Some state
+    (past : List Entry) (x : Told) (front : List Told) → ActsNext s h journal past x front
+    → (b : Part) (r : List ℕ) (g : Goal) → In b (parts_at s past front) → bears r b ≡ true → goal_in (facts_of (mind_at real s.key past front)) r ≡ Some g → is_ledger s.key journal r ≡ true
+    → (f : FixedParts) (c : Seat) → SeatIs s.key past (lines_of s.key front) f g.opening c → real.named f ≡ r → (from until : ℕ) (state : StateParts) → IsState state
+    → until ≤ 2 * length c.people → repeats from until c ≡ Some state
     → ((last : StateParts) × (own_at s.key journal front r ≡ Some last) × In state.outcome (outcomes_of last))
     ⊎ ((own_at s.key journal front r ≡ None) × ((p : Part) (k : Lent) → In p (parts_at s past front) → lends_at s past front r p ≡ Some k → ⊥))
-
--- what a part wants on a ledger once it closes gives back what was set aside
-abbrev pub GivesBackAt : Signing → (h : List Entry) → (journal : List Told) → Type 0
-GivesBackAt s h journal =
-    (past : List Entry) (x : Told) (front : List Told) → ActsNext s h journal past x front → GivesBack (facts_of (mind_at real s.key past front))
 
 -- names of channels are names
 abbrev pub NamesAreNames : Type 0

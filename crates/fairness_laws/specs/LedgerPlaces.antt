@@ -16,19 +16,19 @@ use Rattle.node_model.specs.Minds.{facts_of}
 use Rattle.node_model.specs.Places.{Told, lines_of, mind_at}
 use Rattle.node_model.specs.Playing.{Signing}
 use Rattle.node_share_laws.specs.Orders.{orders_of}
-use Rattle.node_tables.specs.Ledgers.{is_root_of}
 use Rattle.fairness_laws.specs.PaymentLaws.{At, ActsNext}
+use Rattle.fairness_laws.specs.PlanBearers.{bears}
 use Rattle.fairness_laws.specs.PlanSettings.{IsFair}
 use Rattle.share_model.specs.Places.{channels, plan, last_made, outcomes_of}
 use Rattle.support_chain.specs.Real.{real}
 use Rattle.fairness_laws.specs.LedgerKeeping.{Lends, AllKeep, ChildrenApart, Drifts, Opens, Closes, Moves}
 use Rattle.fairness_laws.specs.LedgerLending.{Lent, lent}
 
--- a consensus channel that is a root of the node's plan
+-- a consensus channel that is the own channel of a part of the node's plan on which others may stand
 abbrev pub is_ledger : (key : List ℕ) → List Told → List ℕ → Bool
 is_ledger key journal l =
     list_any (λ f. bytes_eq (real.named f) l && (f.app == 0)) (channels (lines_of key journal))
-    && list_any (is_root_of l) (plan (orders_of real key journal) (lines_of key journal))
+    && list_any (bears l) (plan (orders_of real key journal) (lines_of key journal))
 
 -- what the node signed last in such a channel
 abbrev pub own_at : (key : List ℕ) → (journal front : List Told) → List ℕ → Option StateParts

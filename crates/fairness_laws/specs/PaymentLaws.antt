@@ -15,7 +15,8 @@ use Rattle.node_share_laws.specs.Laws.{IsFront}
 use Rattle.fairness_laws.specs.PlanParts.{OnLedgerIs, EndIs}
 use Rattle.fairness_laws.specs.PlanSeats.{SeatIs}
 use Rattle.fairness_laws.specs.PlanSettings.{IsFair}
-use Rattle.share_model.specs.Places.{IsPlace}
+use Rattle.share_model.specs.Places.{IsPlace, outcomes_of}
+use Rattle.stage_rules.specs.Gathered.{goal_in}
 use Rattle.stage_rules.specs.Seats.{Seat}
 use Rattle.support_chain.specs.Real.{real}
 
@@ -61,8 +62,22 @@ abbrev pub EndsShare : Type 0
 EndsShare =
     (s : Signing) (h : List Entry) (journal : List Told) (past : List Entry) (front : List Told) → IsFair s h journal
     → At s h journal past front → (v : Virtual) (g : Goal) → In (parts.End v) (mind_at real s.key past front).parts
-    → (e : EndIs s.key past (lines_of s.key front) (facts_of (mind_at real s.key past front)) v g)
+    → (e : EndIs s.key past (lines_of s.key front) (facts_of (mind_at real s.key past front)) v g) → e.fixed.app ≡ 1
     → Shares e.fixed v.asset v.total e.end.channel
+
+-- The latest state does, and the state that the participant signed last has its outcome, alone.
+pub record SharesOver (f : FixedParts) (asset all : ℕ) (c : Seat) : Type 0 where
+  pub top : (t : StateParts) → c.top ≡ Some t → IsShared f asset all t.outcome
+  pub own : (t own : StateParts) → c.top ≡ Some t → c.own ≡ Some own → (own.outcome ≡ t.outcome) × (outcomes_of own ≡ own.outcome ∷ [])
+
+-- So it is in the channel of an end, be that a payment channel or a ledger, once it closes and all that is held there is final.
+abbrev pub EndsShareOver : Type 0
+EndsShareOver =
+    (s : Signing) (h : List Entry) (journal : List Told) (past : List Entry) (front : List Told) → IsFair s h journal
+    → At s h journal past front → (v : Virtual) (g : Goal) → In (parts.End v) (mind_at real s.key past front).parts
+    → goal_in (facts_of (mind_at real s.key past front)) v.channel ≡ Some g
+    → (e : EndIs s.key past (lines_of s.key front) (facts_of (mind_at real s.key past front)) v g) → e.end.closing ≡ true
+    → e.end.channel.all_final ≡ true → SharesOver e.fixed v.asset v.total e.end.channel
 
 -- Where all states that are held of a channel are final, the latest one and the last own one stay final, with the same outcomes.
 -- All of them do with two people; with more a newer chain can begin with another state, that its mover signed besides.

@@ -1,5 +1,5 @@
 -- What the parts of a node's plan are at each place of its journal.
-use Rattle.std.specs.Prelude.{◌≡◌, ℕ, List, [], Some}
+use Rattle.std.specs.Prelude.{◌≡◌, ℕ, List, Some}
 use Rattle.std.specs.Str.{bytes_eq}
 use Rattle.nitro_bytes.specs.Outcomes.{AreApart}
 use Rattle.channel_calls.specs.declared.entry.Entry.{Entry}
@@ -19,7 +19,6 @@ use Rattle.signing_laws.specs.Plans.{IsPlan}
 use Rattle.stage_rules.specs.Gathered.{goal_in}
 use Rattle.support_chain.specs.Real.{real}
 use Rattle.fairness_laws.specs.PlanParts.{PartIs}
-use Rattle.fairness_laws.specs.PlanRoots.{AllOnRoots}
 use Rattle.fairness_laws.specs.PlanSettings.{IsNodes}
 
 -- the goal of a part, and what the part is
@@ -34,11 +33,10 @@ PartsAreKnown =
     (s : Signing) (h : List Entry) (journal : List Told) (past : List Entry) (front : List Told) → IsNodes s h journal
     → IsFront h journal past front → (p : Part) → In p (mind_at real s.key past front).parts → PartAt s past front p
 
--- What a plan of a node's orders is: each channel stands once, ledgers are roots that were opened before, and no part rests on a
--- payment channel.
+-- What a plan of a node's orders is: each channel stands once, each ledger is a root, or the channel of an end, that was opened
+-- before, and no part rests on a payment channel.
 pub record PlanIs (s : Signing) (orders : ℕ → Order) (front : List Told) : Type 0 where
   pub whole : IsPlan (plan orders (lines_of s.key front))
-  pub on_roots : AllOnRoots [] (plan orders (lines_of s.key front))
   pub channels_differ : AreApart bytes_eq (names real (channels (lines_of s.key front)))
   pub rests : RestsOnNoPayments real orders (lines_of s.key front)
 

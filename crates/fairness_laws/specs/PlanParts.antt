@@ -27,7 +27,7 @@ use Rattle.virtual_channel.specs.Middles.{Middle}
 use Rattle.virtual_channel.specs.Stages.{end_in, middle_in}
 use Rattle.fairness_laws.specs.PlanSeats.{SeatIs}
 
--- ---- a consensus channel of two people that is a root
+-- ---- a consensus channel of two people on which a part stands
 
 pub record LedgerIs (key : List ℕ) (past : List Entry) (front : List Line) (first second name : List ℕ) (c : Seat) : Type 0 where
   pub fixed : FixedParts
@@ -103,7 +103,7 @@ pub record EndIs (key : List ℕ) (past : List Entry) (front : List Line) (f : F
   pub guarantor : GuarantorIs key past front v end.terms (name_of_person key) (own_guarantor v) end.guarantor
   pub fixed : FixedParts
   pub named : real.named fixed ≡ v.channel
-  pub app : fixed.app ≡ 1
+  pub app : fixed.app ≤ 1
   pub people : persons fixed ≡ end.terms.first ∷ end.terms.second ∷ []
   pub opening : g.opening ≡ shared fixed v.asset g.amounts
   pub seat : SeatIs key past front fixed g.opening end.channel

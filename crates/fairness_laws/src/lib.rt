@@ -11,7 +11,7 @@ ghost use Rattle.fairness_laws.specs.LedgerMoving.{DownIsOutcome, DownIsUpBefore
 ghost use Rattle.fairness_laws.specs.LedgerPlaces.{LedgersKeepAtPlaces, StepsKeep};
 ghost use Rattle.fairness_laws.specs.LedgerWanting.{EndWantsOn, FundedRuns, FundedUnfinished, FundedWants, FundedWantsOn, MiddleWantsOn, WantsMove};
 ghost use Rattle.fairness_laws.specs.OpeningChannels.{ChildrenOpenWith, EndsOpenWith, EndsSignGuarantees, MiddlesOpenWith, MiddlesSignGuarantees};
-ghost use Rattle.fairness_laws.specs.PaymentLaws.{ChildrenShare, EndedChannelsStay, EndsShare};
+ghost use Rattle.fairness_laws.specs.PaymentLaws.{ChildrenShare, EndedChannelsStay, EndsShare, EndsShareOver};
 ghost use Rattle.fairness_laws.specs.PlanLaws.{PartsAreKnown, PlansAreWhole};
 ghost use Rattle.fairness_laws.specs.SeatLaws.{FinalsAreFair, MovesAreFair, PassesAreFair, PaymentsAreFair, RepeatsAreFair};
 
@@ -92,9 +92,14 @@ pub fn children_share()
     ensures { ChildrenShare }
 {}
 
-/// So does the payment channel of a virtual channel, at its ends.
+/// So does the channel of a virtual channel, at its ends, where it is a payment channel.
 pub fn ends_share()
     ensures { EndsShare }
+{}
+
+/// And, once it is over, the channel of a virtual channel at its ends, be it a payment channel or a ledger.
+pub fn ends_share_over()
+    ensures { EndsShareOver }
 {}
 
 /// Where all that is held of a channel is final its latest state and the node's last one stay final, with the same outcomes; of

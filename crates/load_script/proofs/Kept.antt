@@ -30,7 +30,7 @@ use Rattle.load_script.specs.Load.{key_seed, digest_of, are_two, person, channel
 use Rattle.load_script.proofs.Draws.{few_steps}
 
 -- one part behind another
-checked_append : (c : Context) (xs ys : List Step) → AreChecked c xs → AreChecked (fold after c xs) ys → AreChecked c (xs ++ ys)
+pub checked_append : (c : Context) (xs ys : List Step) → AreChecked c xs → AreChecked (fold after c xs) ys → AreChecked c (xs ++ ys)
 checked_append c [] ys h k = k
 checked_append c (x ∷ xs) ys h k = (h.0, checked_append (after c x) xs ys h.1 k)
 

@@ -7,8 +7,9 @@ use Rattle.nitro_bytes.specs.Parts.{FixedParts}
 use Rattle.channel_calls.specs.Flows.{is_among}
 use Rattle.channel_calls.proofs.Names.{same_bytes}
 use Rattle.funding_value.specs.Known.{FactsOf}
+use Rattle.net_party.specs.declared.command.Route.{Route}
 use Rattle.node_knowledge.specs.Taking.{CanShare}
-use Rattle.node_tables.specs.Fitting.{stake, can_share, fits_between, fits_on_ledger, is_channel_of, are_channels_of, is_double_small, both_lend, fits_among, fits_virtual}
+use Rattle.node_tables.specs.Fitting.{stake, can_share, fits_between, fits_on_ledger, is_channel_of, is_double_small, app_of, route_lends, are_route_channels, fits_route_among, fits_route}
 use Rattle.node_tables.specs.Ledgers.{are_same, lends}
 use Rattle.support_chain.specs.Steps.{persons}
 use Rattle.node_refusals.proofs.Tests.{left_true, right_true, not_true}
@@ -56,26 +57,26 @@ share_alike (a ∷ b ∷ others) first second ab e share =
       within = share.within;
     }
 
-shares_among : (f : FactsOf) (ledgers : List ℕ × List ℕ) (guarantors : FixedParts × FixedParts) (joint channel : FixedParts) (asset : ℕ) (ab : ℕ × ℕ) (people : List (List ℕ))
-    → fits_among f ledgers guarantors joint channel asset ab people ≡ true → Share (persons channel) ab
-shares_among f ledgers guarantors joint channel asset ab [] e = absurd cc
-shares_among f ledgers guarantors joint channel asset ab (first ∷ []) e = absurd cc
-shares_among f ledgers guarantors joint channel asset ab (first ∷ middle ∷ []) e = absurd cc
-shares_among f ledgers guarantors joint channel asset ab (first ∷ middle ∷ second ∷ []) e =
+shares_among : (f : FactsOf) (route : Route) (ledgers : List ℕ × List ℕ) (guarantors : FixedParts × FixedParts) (joint channel : FixedParts) (asset : ℕ) (ab : ℕ × ℕ) (people : List (List ℕ))
+    → fits_route_among f route ledgers guarantors joint channel asset ab people ≡ true → Share (persons channel) ab
+shares_among f route ledgers guarantors joint channel asset ab [] e = absurd cc
+shares_among f route ledgers guarantors joint channel asset ab (first ∷ []) e = absurd cc
+shares_among f route ledgers guarantors joint channel asset ab (first ∷ middle ∷ []) e = absurd cc
+shares_among f route ledgers guarantors joint channel asset ab (first ∷ middle ∷ second ∷ []) e =
     let people : Bool = is_among f.me (first ∷ middle ∷ second ∷ []) in
     let sizes : Bool = can_share first second ab && is_double_small ab in
-    let kinds : Bool = are_channels_of guarantors joint channel first middle second in
-    let lent : Bool = both_lend f ledgers asset ab first middle second in
+    let kinds : Bool = are_route_channels (app_of route) guarantors joint channel first middle second in
+    let lent : Bool = route_lends f route ledgers asset ab first middle second in
     let guarantees : Bool = is_channel_of 2 (first ∷ middle ∷ []) guarantors.0 && is_channel_of 2 (middle ∷ second ∷ []) guarantors.1 in
     let share : Share (first ∷ second ∷ []) ab = shares_if first second ab (left_true (can_share first second ab) (is_double_small ab) (right_true people sizes (left_true (people && sizes) (kinds && lent) e))) in
-    let pays : is_channel_of 1 (first ∷ second ∷ []) channel ≡ true =
-    right_true (joint.app == 0) (is_channel_of 1 (first ∷ second ∷ []) channel)
-    (right_true guarantees ((joint.app == 0) && is_channel_of 1 (first ∷ second ∷ []) channel) (left_true kinds lent (right_true (people && sizes) (kinds && lent) e))) in
-    share_alike (persons channel) first second ab (right_true (channel.app == 1) (are_same (persons channel) (first ∷ second ∷ [])) pays) share
-shares_among f ledgers guarantors joint channel asset ab (first ∷ middle ∷ second ∷ fourth ∷ others) e = absurd cc
+    let pays : is_channel_of (app_of route) (first ∷ second ∷ []) channel ≡ true =
+    right_true (joint.app == 0) (is_channel_of (app_of route) (first ∷ second ∷ []) channel)
+    (right_true guarantees ((joint.app == 0) && is_channel_of (app_of route) (first ∷ second ∷ []) channel) (left_true kinds lent (right_true (people && sizes) (kinds && lent) e))) in
+    share_alike (persons channel) first second ab (right_true (channel.app == app_of route) (are_same (persons channel) (first ∷ second ∷ [])) pays) share
+shares_among f route ledgers guarantors joint channel asset ab (first ∷ middle ∷ second ∷ fourth ∷ others) e = absurd cc
 
-pub shares_in_virtual : (f : FactsOf) (ledgers : List ℕ × List ℕ) (guarantors : FixedParts × FixedParts) (joint channel : FixedParts) (asset : ℕ) (ab : ℕ × ℕ)
-    → fits_virtual f ledgers guarantors joint channel asset ab ≡ true → CanShare channel ab
-shares_in_virtual f ledgers guarantors joint channel asset ab e =
-    let share : Share (persons channel) ab = shares_among f ledgers guarantors joint channel asset ab (persons joint) e in
+pub shares_in_virtual : (f : FactsOf) (route : Route) (ledgers : List ℕ × List ℕ) (guarantors : FixedParts × FixedParts) (joint channel : FixedParts) (asset : ℕ) (ab : ℕ × ℕ)
+    → fits_route f route ledgers guarantors joint channel asset ab ≡ true → CanShare channel ab
+shares_in_virtual f route ledgers guarantors joint channel asset ab e =
+    let share : Share (persons channel) ab = shares_among f route ledgers guarantors joint channel asset ab (persons joint) e in
     record { apart = share.apart; within = share.within }

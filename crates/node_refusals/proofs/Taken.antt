@@ -12,7 +12,6 @@ use Rattle.node_model.specs.Openings.{opened_by, ledgers_for}
 use Rattle.node_model.specs.Refusing.{has_left, not_open, unfinished, are_new, can_open, are_planned, open_refusal, command_refusal}
 use Rattle.node_model.specs.Tables.{Tables}
 use Rattle.node_knowledge.specs.Taking.{CanTake, CanOpen}
-use Rattle.node_tables.proofs.OnlyPlain.{fits-plain}
 use Rattle.node_tables.specs.Fitting.{fits}
 use Rattle.node_tables.specs.Stages.{stages}
 use Rattle.support_chain.specs.Real.{real}
@@ -62,8 +61,8 @@ accepted_fits limit used m (OpenOn ledger f asset amounts) e = (
 )
 accepted_fits limit used m (OpenVirtual route ledgers guarantors joint channel asset amounts) e = (
   can_join stages m (OpenVirtual route ledgers guarantors joint channel asset amounts) e (omega arith),
-  shares_in_virtual (facts_of m) ledgers guarantors joint channel asset amounts
-      (fits-plain (facts_of m) route ledgers guarantors joint channel asset amounts (fitting m (OpenVirtual route ledgers guarantors joint channel asset amounts) e)),
+  shares_in_virtual (facts_of m) route ledgers guarantors joint channel asset amounts
+      (fitting m (OpenVirtual route ledgers guarantors joint channel asset amounts) e),
 )
 accepted_fits limit used m (Pay channel asset amount) e = tt
 accepted_fits limit used m (Close channel) e = tt

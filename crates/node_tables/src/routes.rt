@@ -1,7 +1,7 @@
 //! Whether a channel through an intermediary fits what a node knows, by its route.
 
 ghost use Rattle.std.specs.Prelude.{◌≡◌};
-ghost use Rattle.node_tables.specs.Routes as told;
+ghost use Rattle.node_tables.specs.Fitting as told;
 
 use crate::fitting::{both_lend, can_share, is_among, is_channel_of, is_double_small, stake};
 use crate::ledgers::{affords_in, is_between, lends};
@@ -136,7 +136,7 @@ fn are_route_channels(
 
 /// Whether the fixed parts, the people and the amounts of such an opening fit, and its ledgers lend what it needs. That its
 /// channels are new, and that the ledgers are in the plan, is asked elsewhere.
-pub fn fits_route(
+pub(crate) fn fits_route(
     facts: &Facts,
     route: Route,
     ledgers: &(Name, Name),

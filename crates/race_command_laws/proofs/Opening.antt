@@ -149,7 +149,7 @@ module _ (n : Names) (last : AllLast n.channels) where
   step_good (steps.Open who channel opening) fits race = bind_good (fixed_by n.channels channel) _ (λ f e. (last, λ g i. one f g (named_lasts channel f e) i))
   step_good (steps.OpenOn who ledger channel asset amounts) fits race =
       bind_good (fixed_by n.channels ledger) _ (λ on d. bind_good (fixed_by n.channels channel) _ (λ f e. (last, λ g i. one f g (named_lasts channel f e) i)))
-  step_good (steps.OpenVirtual who ledgers guarantors joint channel asset amounts) fits race =
+  step_good (steps.OpenVirtual who route ledgers guarantors joint channel asset amounts) fits race =
       bind_good (names_by n.channels ledgers) _ (λ on a. bind_good (both_by n.channels guarantors) _ (λ by b.
       bind_good (fixed_by n.channels joint) _ (λ j c. bind_good (fixed_by n.channels channel) _ (λ f d.
       let two = both_last guarantors by b in

@@ -17,12 +17,15 @@ abbrev pub deed_lines : Option Load → Report → List ℕ
 deed_lines None r = flat_map (entry_line r.labels) r.history ++ command_lines r.labels (all_refused r.journals)
 deed_lines (Some load) r = load_line load
 
-abbrev pub text_of : Report → List ℕ
-text_of r =
-    deed_lines r.load r
-    ++ end_line r.history
+-- what stands behind those
+abbrev pub tail_of : Report → List ℕ
+tail_of r =
+    end_line r.history
     ++ balance_lines r.labels (flows_of r.history)
     ++ flat_map (person_lines r.labels (flows_of r.history) r.shares r.exits) r.premises
+
+abbrev pub text_of : Report → List ℕ
+text_of r = deed_lines r.load r ++ tail_of r
 
 -- the record of the run, for somebody who checks it
 abbrev pub record_from : Report → Record

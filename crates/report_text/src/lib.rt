@@ -11,5 +11,5 @@ mod report;
 mod text;
 
 pub use flows::assets_of;
-pub use report::{Judged, Load, Report, Share, record_from, text_of};
+pub use report::{Judged, Load, Report, Share, record_from, tail_of, text_of};
 pub use text::balances_of;

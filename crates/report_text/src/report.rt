@@ -3,9 +3,9 @@
 ghost use Rattle.std.specs.Prelude.{◌≡◌, IfOk};
 ghost use Rattle.channel_calls.specs.History.{Legal, newest_first};
 ghost use Rattle.support_chain.specs.Real.{real};
-ghost use Rattle.report_text.specs.Report.{text_of, record_from};
+ghost use Rattle.report_text.specs.Report.{tail_of, text_of, record_from};
 
-use crate::text::report_text;
+use crate::text::{append_tail, report_text};
 use channel_calls::Entry;
 use nitro_bytes::{Dest, Label, Listed, Name, NoMemory};
 use premises::Journal;
@@ -60,6 +60,17 @@ pub fn text_of(report: &Report) -> Result<Vec<u8>, NoMemory>
     ensures { IfOk result (λ text. text.items ≡ text_of report.now) }
 {
     let text = report_text(report.history.allocator(), report)?;
+    Ok(text.into_bytes())
+}
+
+/// What stands in the text of a report behind the entries and the refused commands.
+pub fn tail_of(report: &Report) -> Result<Vec<u8>, NoMemory>
+    requires { Legal real (newest_first report.now.history) }
+    ensures { IfOk result (λ text. text.items ≡ tail_of report.now) }
+{
+    let alloc = report.history.allocator();
+    let mut text = String::new(alloc);
+    append_tail(alloc, &mut text, report)?;
     Ok(text.into_bytes())
 }
 

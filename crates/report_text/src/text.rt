@@ -7,7 +7,7 @@ ghost use Rattle.support_chain.specs.Real.{real};
 ghost use Rattle.flow_balances.specs.Receipts.{assets_of};
 ghost use Rattle.report_lines.specs.Text.{entry_line, asset_line, held_line, paid_line, balance_lines};
 ghost use Rattle.report_text.specs.Shares.{person_lines};
-ghost use Rattle.report_text.specs.Report.{load_line, deed_lines, text_of};
+ghost use Rattle.report_text.specs.Report.{load_line, deed_lines, tail_of, text_of};
 
 use crate::commands::append_commands;
 use crate::flows::flows_of;
@@ -173,17 +173,24 @@ fn append_deeds(alloc: Global, text: &mut String, report: &Report) -> Result<(),
     Ok(())
 }
 
+/// Appends what stands behind the entries and the refused commands.
+pub(crate) fn append_tail(alloc: Global, text: &mut String, report: &Report) -> Result<(), NoMemory>
+    requires { Legal real (newest_first report.now.history) }
+    ensures { OnOk result (string_bytes text.new ≡ string_bytes text.old ++ tail_of report.now) }
+{
+    let history = report.history.as_slice();
+    let end = end_line(alloc, history.len(), now_of(history))?;
+    text.push_str(end.as_str())?;
+    append_sums(alloc, text, report.labels.as_slice(), report)
+}
+
 /// The text of a report. Its labels are the names in the order of declaration.
 pub(crate) fn report_text(alloc: Global, report: &Report) -> Result<String, NoMemory>
     requires { Legal real (newest_first report.now.history) }
     ensures { IfOk result (λ text. string_bytes text ≡ text_of report.now) }
 {
-    let history = report.history.as_slice();
-    let labels = report.labels.as_slice();
-    let end = end_line(alloc, history.len(), now_of(history))?;
     let mut text = String::new(alloc);
     append_deeds(alloc, &mut text, report)?;
-    text.push_str(end.as_str())?;
-    append_sums(alloc, &mut text, labels, report)?;
+    append_tail(alloc, &mut text, report)?;
     Ok(text)
 }

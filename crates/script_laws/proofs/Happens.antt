@@ -560,8 +560,8 @@ step_goes c n before (steps.OpenOn who ledger channel asset amounts) m k st =
     always c n before s (
     goes c (before ++ s ∷ []) (fixed_by n.channels ledger) _ (known_channel c n before m ledger a.0) (λ on is.
     goes c (before ++ s ∷ []) (fixed_by n.channels channel) _ (known_channel c n before m channel a.1) (λ f was. quiet c n before s m)))
-step_goes c n before (steps.OpenVirtual who ledgers guarantors joint channel asset amounts) m k st =
-    let s = steps.OpenVirtual who ledgers guarantors joint channel asset amounts in
+step_goes c n before (steps.OpenVirtual who route ledgers guarantors joint channel asset amounts) m k st =
+    let s = steps.OpenVirtual who route ledgers guarantors joint channel asset amounts in
     let a = behind_lists (list_all (λ x. context.is_node c x) who) (list_all (λ x. context.is_channel c x) ledgers) (list_all (λ x. context.is_channel c x) guarantors) (context.is_channel c joint)
     (context.is_channel c channel) (named_known c s k) in
     let both = first (length ledgers == 2 && length guarantors == 2) (nat_lt asset (2 ^ 32)) k.fit in

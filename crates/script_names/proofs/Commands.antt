@@ -11,7 +11,6 @@ use Rattle.channel_calls.specs.declared.call.Op.{Op}
 use Rattle.channel_calls.specs.declared.call.Op.TheVariants as ops
 use Rattle.net_party.specs.declared.command.Command.{Command}
 use Rattle.net_party.specs.declared.command.Command.TheVariants as commands
-use Rattle.net_party.specs.declared.command.Route.TheVariants.{Plain}
 use Rattle.script_rules.specs.Digests.{key_of}
 use Rattle.named_states.specs.Chains.{or_none}
 use Rattle.named_states.specs.declared.chains.NamedState.{NamedState}
@@ -165,7 +164,7 @@ IsQuiet (steps.Person name seed h node watchers) = ⊥
 IsQuiet (steps.Channel name people nonce app duration) = ⊥
 IsQuiet (steps.Open who channel opening) = ⊥
 IsQuiet (steps.OpenOn who ledger channel asset amounts) = ⊥
-IsQuiet (steps.OpenVirtual who ledgers guarantors joint channel asset amounts) = ⊥
+IsQuiet (steps.OpenVirtual who route ledgers guarantors joint channel asset amounts) = ⊥
 IsQuiet (steps.Pay who channel asset amount) = ⊥
 IsQuiet (steps.Close who channel) = ⊥
 IsQuiet (steps.Exit who) = ⊥
@@ -205,7 +204,7 @@ stays n (steps.Person name seed h node watchers) is = absurd is
 stays n (steps.Channel name people nonce app duration) is = absurd is
 stays n (steps.Open who channel opening) is = absurd is
 stays n (steps.OpenOn who ledger channel asset amounts) is = absurd is
-stays n (steps.OpenVirtual who ledgers guarantors joint channel asset amounts) is = absurd is
+stays n (steps.OpenVirtual who route ledgers guarantors joint channel asset amounts) is = absurd is
 stays n (steps.Pay who channel asset amount) is = absurd is
 stays n (steps.Close who channel) is = absurd is
 stays n (steps.Exit who) is = absurd is
@@ -245,13 +244,13 @@ module _ (n m : Names) (same : AreAlike n m) where
       whole-both n m _ _ same
       (after-both (fixed_by n.channels ledger) (fixed_by m.channels ledger) _ _ (fixed-alike ledger) (λ on.
       after-both (fixed_by n.channels channel) (fixed_by m.channels channel) _ _ (fixed-alike channel) (λ f. tells n m who who (commands.OpenOn (name_of on) f asset amounts) same)))
-  meaning_alike (steps.OpenVirtual who ledgers guarantors joint channel asset amounts) =
+  meaning_alike (steps.OpenVirtual who route ledgers guarantors joint channel asset amounts) =
       whole-both n m _ _ same
       (after-both (names_by n.channels ledgers) (names_by m.channels ledgers) _ _ (ap (λ (channels : List NamedChannel). names_by channels ledgers) same.channels) (λ on.
       after-both (both_by n.channels guarantors) (both_by m.channels guarantors) _ _ (ap (λ (channels : List NamedChannel). both_by channels guarantors) same.channels) (λ by.
       after-both (fixed_by n.channels joint) (fixed_by m.channels joint) _ _ (fixed-alike joint) (λ j.
       after-both (fixed_by n.channels channel) (fixed_by m.channels channel) _ _ (fixed-alike channel) (λ f.
-      tells n m who who (commands.OpenVirtual Plain on by j f asset amounts) same)))))
+      tells n m who who (commands.OpenVirtual route on by j f asset amounts) same)))))
   meaning_alike (steps.Pay who channel asset amount) =
       whole-both n m _ _ same
       (after-both (fixed_by n.channels channel) (fixed_by m.channels channel) _ _ (fixed-alike channel) (λ f. tells n m (who ∷ []) (who ∷ []) (commands.Pay (name_of f) asset amount) same))

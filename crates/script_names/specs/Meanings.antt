@@ -14,7 +14,6 @@ use Rattle.channel_calls.specs.declared.call.Call.TheVariants as calls
 use Rattle.channel_calls.specs.declared.call.Op.TheVariants as ops
 use Rattle.net_party.specs.declared.command.Command.{Command}
 use Rattle.net_party.specs.declared.command.Command.TheVariants as commands
-use Rattle.net_party.specs.declared.command.Route.TheVariants.{Plain}
 use Rattle.named_states.specs.Chains.{state_by, listed, chain_of}
 use Rattle.named_states.specs.declared.chains.NamedState.{NamedState}
 use Rattle.script_rules.specs.Digests.{key_of, fresh, person_name}
@@ -186,12 +185,12 @@ meant n (steps.OpenOn who ledger channel asset amounts) = do
   on ← fixed_by n.channels ledger
   f ← fixed_by n.channels channel
   Some (telling n who (commands.OpenOn (name_of on) f asset amounts))
-meant n (steps.OpenVirtual who ledgers guarantors joint channel asset amounts) = do
+meant n (steps.OpenVirtual who route ledgers guarantors joint channel asset amounts) = do
   on ← names_by n.channels ledgers
   by ← both_by n.channels guarantors
   j ← fixed_by n.channels joint
   f ← fixed_by n.channels channel
-  Some (telling n who (commands.OpenVirtual Plain on by j f asset amounts))
+  Some (telling n who (commands.OpenVirtual route on by j f asset amounts))
 meant n (steps.Pay who channel asset amount) = do
   f ← fixed_by n.channels channel
   Some (telling n (who ∷ []) (commands.Pay (name_of f) asset amount))

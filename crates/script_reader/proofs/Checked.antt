@@ -2,6 +2,7 @@
 use Rattle.std.proofs.Common.{◌≡◌, ℕ, ◌+◌, List, [], ◌∷◌, ◌++◌, length, refl, sym, subst, ◌∙◌, ap, Result, Ok, Err, append_assoc, append-nil, true, false}
 use Rattle.std.specs.Prelude.{Bool, ◌&&◌}
 use Rattle.serde_json.specs.Data.{Data, Items, no_items, item}
+use Rattle.net_party.specs.declared.command.Route.TheVariants.{Plain}
 use Rattle.script_rules.specs.Rules.{◌>>=◌, holds}
 use Rattle.script_rules.specs.Conditions.{after, sign_uses, open_uses, open_on_uses, open_virtual_uses, are_known, is_named, fits, has_fixed, is_new_person, is_new_channel, distinct_channel, distinct}
 use Rattle.script_rules.specs.Context.{is_new}
@@ -65,9 +66,9 @@ resolved_named c (written.OpenOn k) s e r =
     let all : is_named c (steps.OpenOn k.who k.ledger k.channel k.asset a.0) ≡ true = and_true (are_known c (open_on_uses k.who k.ledger k.channel)) e in
     subst (λ (x : Step). is_named c x ≡ true) same all
 resolved_named c (written.OpenVirtual k) s e r =
-    let a = bind_ok (pair_in k.amounts) (λ p. Ok (steps.OpenVirtual k.who k.ledgers k.guarantors k.joint k.channel k.asset p)) s r in
-    let same : steps.OpenVirtual k.who k.ledgers k.guarantors k.joint k.channel k.asset a.0 ≡ s = cc in
-    let all : is_named c (steps.OpenVirtual k.who k.ledgers k.guarantors k.joint k.channel k.asset a.0) ≡ true = and_true (are_known c (open_virtual_uses k.who k.ledgers k.guarantors k.joint k.channel)) e in
+    let a = bind_ok (pair_in k.amounts) (λ p. Ok (steps.OpenVirtual k.who Plain k.ledgers k.guarantors k.joint k.channel k.asset p)) s r in
+    let same : steps.OpenVirtual k.who Plain k.ledgers k.guarantors k.joint k.channel k.asset a.0 ≡ s = cc in
+    let all : is_named c (steps.OpenVirtual k.who Plain k.ledgers k.guarantors k.joint k.channel k.asset a.0) ≡ true = and_true (are_known c (open_virtual_uses k.who k.ledgers k.guarantors k.joint k.channel)) e in
     subst (λ (x : Step). is_named c x ≡ true) same all
 
 -- where a digest is its own, nothing more is told
@@ -94,7 +95,7 @@ distinct_none c (steps.Transfer channel state asset index) x e = refl
 distinct_none c (steps.Claim guarantor state target target_state asset position) x e = refl
 distinct_none c (steps.Open who channel outcome) x e = refl
 distinct_none c (steps.OpenOn who ledger channel asset amounts) x e = refl
-distinct_none c (steps.OpenVirtual who ledgers guarantors joint channel asset amounts) x e = refl
+distinct_none c (steps.OpenVirtual who route ledgers guarantors joint channel asset amounts) x e = refl
 distinct_none c (steps.Pay who channel asset amount) x e = refl
 distinct_none c (steps.Close who channel) x e = refl
 distinct_none c (steps.Exit who) x e = refl

@@ -1,6 +1,7 @@
 -- Where the names of an outcome lead, by what earlier steps declared.
 use Rattle.std.specs.Prelude.{◌&&◌, ◌^◌, ℕ, List, [], ◌∷◌, ◌++◌, Bool, nat_lt, is_ok, Option, Some, None, Result, Ok, Err}
 use Rattle.std.specs.List.{list_all}
+use Rattle.net_party.specs.declared.command.Route.TheVariants.{Plain}
 use Rattle.nitro_bytes.specs.declared.value.Dest.{Dest}
 use Rattle.nitro_bytes.specs.declared.value.Dest.TheVariants as dests
 use Rattle.nitro_bytes.specs.declared.value.Item.{Item}
@@ -107,7 +108,7 @@ opened_on k = do
 abbrev pub opened_virtual : OpenVirtualKeys → Result Step Rule
 opened_virtual k = do
   amounts ← pair_in k.amounts
-  Ok (steps.OpenVirtual k.who k.ledgers k.guarantors k.joint k.channel k.asset amounts)
+  Ok (steps.OpenVirtual k.who Plain k.ledgers k.guarantors k.joint k.channel k.asset amounts)
 
 -- the step with the outcomes that its names give, and with its two amounts
 abbrev pub resolved : Context → Written → Result Step Rule

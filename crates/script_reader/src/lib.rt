@@ -5,5 +5,5 @@ mod reading;
 mod resolve;
 mod script;
 
-pub use script::{Script, ScriptFault, read_script, read_script_with_signers};
+pub use script::{Script, ScriptFault, read_script, read_script_with_signers, start};
 pub use script_rules::{Channel, Context, NameList, Person, Rule, Step, id_of};

@@ -6,6 +6,7 @@ ghost use Rattle.script_rules.specs.Rules.{Gives};
 ghost use Rattle.script_reader.specs.Resolved.{knows_shape, knows_outcome, dest_of, item_of, each, shape_in, asset_in, outcome_in, pair_in, signed, opened, opened_on, opened_virtual, resolved};
 ghost use Rattle.script_rules.specs.Context.{knows};
 
+use net_party::Route;
 use nitro_bytes::{AssetOutcome, ByteFault, Dest, Item, Label, Listed, Outcome, Shape};
 use script_rules::{Context, Kind, Rule, Step, StepFault};
 use std::alloc::Global;
@@ -206,6 +207,7 @@ fn opened_virtual(keys: OpenVirtualKeys) -> Result<Step, StepFault>
     let amounts = pair_in(keys.amounts.as_slice())?;
     Ok(Step::OpenVirtual {
         who: keys.who,
+        route: Route::Plain,
         ledgers: keys.ledgers,
         guarantors: keys.guarantors,
         joint: keys.joint,

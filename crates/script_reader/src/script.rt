@@ -76,7 +76,8 @@ fn fault_at(step: u32, fault: StepFault) -> ScriptFault
     }
 }
 
-fn start(alloc: Global, race: bool) -> Context
+/// What is declared before the first step.
+pub fn start(alloc: Global, race: bool) -> Context
     ensures { result ≡ start race }
 {
     Context {

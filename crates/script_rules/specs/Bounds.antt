@@ -18,7 +18,7 @@ Fits (steps.Conclude channel chain) = length chain ≤ 4
 Fits (steps.Transfer channel state asset index) = (asset < 2 ^ 32) × (index < 2 ^ 8)
 Fits (steps.Claim guarantor state target target_state asset position) = (asset < 2 ^ 32) × (position < 2 ^ 8)
 Fits (steps.OpenOn who ledger channel asset amounts) = asset < 2 ^ 32
-Fits (steps.OpenVirtual who ledgers guarantors joint channel asset amounts) = asset < 2 ^ 32
+Fits (steps.OpenVirtual who route ledgers guarantors joint channel asset amounts) = asset < 2 ^ 32
 Fits (steps.Pay who channel asset amount) = asset < 2 ^ 32
 Fits step = Unit {0}
 

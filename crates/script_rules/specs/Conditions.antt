@@ -48,7 +48,7 @@ uses_of_nodes (steps.Send to state) = one_name kinds.Node to ∷ one_name kinds.
 uses_of_nodes (steps.Drop to) = one_name kinds.Node to ∷ []
 uses_of_nodes (steps.Open who channel outcome) = open_uses who channel
 uses_of_nodes (steps.OpenOn who ledger channel asset amounts) = open_on_uses who ledger channel
-uses_of_nodes (steps.OpenVirtual who ledgers guarantors joint channel asset amounts) = open_virtual_uses who ledgers guarantors joint channel
+uses_of_nodes (steps.OpenVirtual who route ledgers guarantors joint channel asset amounts) = open_virtual_uses who ledgers guarantors joint channel
 uses_of_nodes (steps.Pay who channel asset amount) = one_name kinds.Node who ∷ one_name kinds.Channel channel ∷ []
 uses_of_nodes (steps.Close who channel) = open_uses who channel
 uses_of_nodes (steps.Exit who) = (kinds.Node, who) ∷ []
@@ -100,7 +100,7 @@ is_able h node watchers = (h == 5 || h == 10) && (if node then within watchers 1
 abbrev pub fits_nodes : Context → Step → Bool
 fits_nodes c (steps.Catch name from channel turn) = nat_lt turn (2 ^ 48)
 fits_nodes c (steps.OpenOn who ledger channel asset amounts) = nat_lt asset (2 ^ 32)
-fits_nodes c (steps.OpenVirtual who ledgers guarantors joint channel asset amounts) = length ledgers == 2 && length guarantors == 2 && nat_lt asset (2 ^ 32)
+fits_nodes c (steps.OpenVirtual who route ledgers guarantors joint channel asset amounts) = length ledgers == 2 && length guarantors == 2 && nat_lt asset (2 ^ 32)
 fits_nodes c (steps.Pay who channel asset amount) = nat_lt asset (2 ^ 32)
 fits_nodes c (steps.Rounds count) = within count 1 64 && nat_le (c.rounds + count) 4096
 fits_nodes c s = true

@@ -4,6 +4,7 @@ ghost use Rattle.std.specs.Prelude.{◌≡◌};
 ghost use Rattle.script_rules.specs.Messages.{rule_words};
 ghost use Rattle.script_rules.specs.declared.step.StepFault.TheVariants.{NoMemory as NoMemoryLeft};
 
+use net_party::Route;
 use nitro_bytes::{Label, Listed, NoMemory, Outcome};
 use std::alloc::{AllocError, AllocFailed};
 use std::error::Error;
@@ -153,9 +154,10 @@ pub enum Step {
         asset: u64,
         amounts: (u64, u64),
     },
-    /// Two ledgers and two guarantors; `asset` is below 2^32.
+    /// Two ledgers and two guarantors; `asset` is below 2^32. A script that is read has the plain route.
     OpenVirtual {
         who: Listed<Label>,
+        route: Route,
         ledgers: Listed<Label>,
         guarantors: Listed<Label>,
         joint: Label,

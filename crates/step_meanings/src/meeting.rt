@@ -129,6 +129,7 @@ pub fn meet(known: &mut Names, step: &Step, signer: Option<Signer>) -> Result<Ef
         ),
         Step::OpenVirtual {
             who,
+            route,
             ledgers,
             guarantors,
             joint,
@@ -138,6 +139,7 @@ pub fn meet(known: &mut Names, step: &Step, signer: Option<Signer>) -> Result<Ef
         } => telling::open_virtual(
             known,
             who.as_slice(),
+            *route,
             ledgers.as_slice(),
             guarantors.as_slice(),
             joint,

@@ -155,6 +155,7 @@ fn both_by(known: &Names, names: &[Label]) -> Result<Option<(Fixed, Fixed)>, NoM
 pub(crate) fn open_virtual(
     known: &Names,
     who: &[Label],
+    route: Route,
     ledgers: &[Label],
     guarantors: &[Label],
     joint: &Label,
@@ -162,7 +163,7 @@ pub(crate) fn open_virtual(
     asset: u32,
     amounts: (u64, u64),
 ) -> Result<Effect, NoMemory>
-    ensures { IfOk result (λ e. doing known.now e ≡ meaning known.now (steps.OpenVirtual who.now ledgers.now guarantors.now joint.now channel.now asset amounts)) }
+    ensures { IfOk result (λ e. doing known.now e ≡ meaning known.now (steps.OpenVirtual who.now route ledgers.now guarantors.now joint.now channel.now asset amounts)) }
 {
     let Some(ledgers) = names_by(known, ledgers) else {
         return Ok(Effect::Nothing);
@@ -180,7 +181,7 @@ pub(crate) fn open_virtual(
         known,
         who,
         Command::OpenVirtual {
-            route: Route::Plain,
+            route,
             ledgers,
             guarantors,
             joint,

@@ -7,7 +7,7 @@ use Rattle.nitro_bytes.specs.declared.chain.Signed.{Signed}
 use Rattle.chain_laws.proofs.Tests.{some-eq, none-eq, clash}
 use Rattle.channel_calls.specs.Flows.{is_among}
 use Rattle.channel_calls.specs.declared.entry.Entry.{Entry}
-use Rattle.funding_value.specs.Parts.{channels_of_virtual, running}
+use Rattle.funding_value.specs.Parts.{channels_of_virtual, ledgers_of, running}
 use Rattle.funding_value.specs.declared.plan.Goal.{Goal}
 use Rattle.funding_value.specs.declared.plan.Part.{Part}
 use Rattle.funding_value.specs.declared.plan.Part.TheVariants as kinds
@@ -30,7 +30,7 @@ use Rattle.fairness_laws.specs.PlanSettings.{IsFair}
 use Rattle.fairness_laws.proofs.Plan.Asked.{one-of-parts, part-at}
 use Rattle.fairness_laws.proofs.Joint.Core.{Late, Settled, Core, core-signs, core-closes, core-new}
 use Rattle.fairness_laws.proofs.Joint.Ends.{EndCore, core-carries, settled-carries, end-carries}
-use Rattle.fairness_laws.proofs.Joint.EndSteps.{joint-no-ledger, channel-no-ledger, joint-not-channel, wants-in, settled-quiet, signing-joint, signing-channel, runs-here}
+use Rattle.fairness_laws.proofs.Joint.EndSteps.{joint-no-ledger, joint-not-channel, wants-channel, borne-late, wants-in, settled-quiet, signing-joint, signing-channel, runs-here}
 use Rattle.fairness_laws.proofs.Joint.Events.{watched-pays, last-next, last-now, GoalNext, goal-next, goal-same, paid-here, none-waits, why-signed, made-other, paid-is, no-joint-pays as no-payments-there, NewPart, part-next}
 use Rattle.fairness_laws.proofs.Seat.Held.{last-of}
 use Rattle.fairness_laws.proofs.EventPlaces.{before-event, before-entry, watched-made}
@@ -199,9 +199,11 @@ module _ (s : Signing) (h : List Entry) (journal : List Told) (fair : IsFair s h
 
           settled : a.end.closing ≡ false → 2 ≤ n.state.turn → IsWished stages (pending front) m v.channel n.state → Settled a.end.terms (last-of v.joint L)
           settled stays high (inl paid) = was.waits paid.asset paid.amount (paid-is s h journal fair past x front at then len v.channel paid)
-          settled stays high (inr e) =
-              signing-channel s h journal fair past front at v i g a (pending front) was stays n.state high
-              (wants-in s h journal fair past front at v i g a v.channel (channel-among v) (channel-no-ledger s h journal fair past front at v i g a) n.state e)
+          settled stays high (inr e) = by (wants-channel s h journal fair past front at v i g a n.state e)
+            where
+              by : EndWants a.end v.channel n.state ⊎ ((q : Part) × In q m.parts × (is_among v.channel (ledgers_of q) ≡ true)) → Settled a.end.terms (last-of v.joint L)
+              by (inl w) = signing-channel s h journal fair past front at v i g a (pending front) was stays n.state high w
+              by (inr (q, j, on)) = was.opened stays (borne-late s h journal fair past front at v i g a q j on)
 
       end-next : EndCore v b.end M (pending (x ∷ front))
       end-next = go (made_in v.joint x.deed) (made_in v.channel x.deed) refl refl

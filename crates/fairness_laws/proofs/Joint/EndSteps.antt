@@ -1,16 +1,18 @@
 -- What an event makes of the joint channel at an end.
-use Rattle.std.proofs.Common.{◌≡◌, ℕ, ◌+◌, ◌^◌, ◌<◌, ◌≤◌, Bool, true, false, ◌&&◌, List, [], ◌⊎◌, inl, inr, refl, sym, ◌∙◌, ap, subst, arith}
+use Rattle.std.proofs.Common.{◌≡◌, ℕ, ◌+◌, ◌*◌, ◌^◌, ◌<◌, ◌≤◌, true, false, ◌&&◌, List, [], ◌⊎◌, inl, inr, refl, sym, ◌∙◌, ap, subst, arith}
 use Rattle.std.specs.Prelude.{◌==◌, nat_le, nat_lt, Option, Some, None}
 use Rattle.std.specs.Option.{option_map}
 use Rattle.std.specs.Str.{bytes_eq}
 use Rattle.nitro_bytes.specs.Outcomes.{IsName}
-use Rattle.nitro_bytes.specs.Parts.{FixedParts, StateParts, state_with}
+use Rattle.nitro_bytes.specs.Parts.{StateParts, state_with}
 use Rattle.nitro_bytes.specs.declared.value.AssetOutcome.{AssetOutcome}
+use Rattle.nitro_bytes.specs.declared.value.Dest.TheVariants.{Person}
 use Rattle.chain_laws.proofs.Tests.{some-eq, none-eq, clash, and-left, and-right, eqb-true, lt-true}
-use Rattle.channel_calls.proofs.Names.{same_bytes}
+use Rattle.channel_calls.proofs.Names.{same_bytes, bytes_eq_self}
 use Rattle.channel_calls.specs.Flows.{is_among}
 use Rattle.channel_calls.specs.declared.entry.Entry.{Entry}
-use Rattle.funding_value.specs.Parts.{own_ledger, channels_of_virtual, running}
+use Rattle.channel_model.specs.Rules.{people}
+use Rattle.funding_value.specs.Parts.{own_ledger, own_guarantor, channels_of_virtual, ledgers_of, running}
 use Rattle.funding_value.specs.declared.plan.Goal.{Goal}
 use Rattle.funding_value.specs.declared.plan.Part.{Part}
 use Rattle.funding_value.specs.declared.plan.Part.TheVariants as kinds
@@ -22,14 +24,21 @@ use Rattle.node_model.specs.Places.{Told, lines_of, mind_at}
 use Rattle.node_model.specs.Playing.{Signing}
 use Rattle.node_tables.specs.Stages.{stages}
 use Rattle.fairness_laws.specs.JointKeeping.{IsOver}
-use Rattle.fairness_laws.specs.PaymentLaws.{At, HasShared}
+use Rattle.fairness_laws.specs.PaymentLaws.{At}
 use Rattle.fairness_laws.specs.PlanParts.{EndIs}
 use Rattle.fairness_laws.specs.PlanSettings.{IsFair}
 use Rattle.fairness_laws.proofs.Joint.Core as cores
-use Rattle.fairness_laws.proofs.Joint.Core.{Settled, Core}
+use Rattle.fairness_laws.proofs.Joint.Core.{Settled, Core, Late}
 use Rattle.fairness_laws.proofs.Joint.Ends.{EndCore}
-use Rattle.fairness_laws.proofs.Plan.Asked.{OnLedger, ledger-named as named-ledger, asked-is}
-use Rattle.fairness_laws.proofs.Seat.Held.{last-of}
+use Rattle.fairness_laws.proofs.OpenedVirtuals.{end-opened}
+use Rattle.fairness_laws.proofs.Outcomes.{amount-small}
+use Rattle.fairness_laws.proofs.Paying.{reaches-holds}
+use Rattle.fairness_laws.proofs.Plan.Asked.{OnLedger, ledger-named as named-ledger, asked-is, asked-or, plan-is}
+use Rattle.fairness_laws.proofs.Plan.Bearers.{end-apart}
+use Rattle.fairness_laws.proofs.Joint.Late.{late-of}
+use Rattle.fairness_laws.proofs.Joint.Terms.{channel-among, channel-no_ledger}
+use Rattle.fairness_laws.proofs.Seat.Past.{two-people}
+use Rattle.fairness_laws.proofs.Seat.Held.{last-of, tops, top-valid, held-past}
 use Rattle.fairness_laws.proofs.Joint.Moves.{toward-is, repeats-so, joins-so, parts-so}
 use Rattle.fairness_laws.proofs.Joint.Pays.{AreTerms}
 use Rattle.fairness_laws.proofs.Joint.Rows as rows
@@ -37,19 +46,17 @@ use Rattle.fairness_laws.proofs.Joint.Rows.{EndWants, end-wants}
 use Rattle.fairness_laws.proofs.Joint.Seats.{other-apps as apps, opens, three, consensus, no-ledger, has-name, terms-are, core-named, settled-here, settled-there, late-settled}
 use Rattle.fairness_laws.proofs.NamesAreNames.{names_are_names}
 use Rattle.fairness_laws.proofs.Stages.{EndRuns, end-runs}
-use Rattle.fairness_laws.proofs.Payment.Shares.{ends_share}
-use Rattle.fairness_laws.proofs.Shared.{shared-amounts}
 use Rattle.outcome_targets.specs.Limits.{is_valid}
 use Rattle.outcome_targets.specs.Outcomes.{amounts_in}
 use Rattle.outcome_targets.specs.Targets.{apart}
 use Rattle.plan_stages.specs.Asked as asked
-use Rattle.share_model.specs.Places.{channels}
 use Rattle.stage_rules.specs.Rows.{stage_in}
 use Rattle.stage_rules.specs.Seats.{Seat, holds, repeats, toward, is_turn, settled_on, amounts_after}
 use Rattle.support_chain.specs.Real.{real}
 use Rattle.virtual_channel.specs.Ends as ends
 use Rattle.virtual_channel.specs.Ends.{End, end_rows}
 use Rattle.virtual_channel.specs.Stages.{stage_of_end, wanted_of_end}
+use Rattle.wish_laws.proofs.Finding.{flips}
 use Rattle.wish_laws.proofs.Roots.{when-some}
 
 -- ---- at a place
@@ -65,36 +72,22 @@ module _ (s : Signing) (h : List Entry) (journal : List Told) (fair : IsFair s h
   abbrev p : End
   p = a.end
 
-  -- a channel has one application
-  other-apps : (f k : FixedParts) → In f (channels L) → In k (channels L) → real.named f ≡ real.named k → (n o : ℕ) → f.app ≡ n → k.app ≡ o → (n ≡ o → ⊥) → ⊥
-  other-apps f k j l e n o b c differ = apps s h journal fair past front at f k j l e n o b c differ
-
   two-zero : ◌≡◌ {A = ℕ} 2 0 → ⊥
   two-zero e = absurd cc
 
-  one-zero : ◌≡◌ {A = ℕ} 1 0 → ⊥
-  one-zero e = absurd cc
+  -- its channels have names of their own
+  differs : (bytes_eq v.channel v.joint ≡ false) × (bytes_eq v.channel (own_guarantor v) ≡ false)
+  differs = end-apart m.parts (plan-is s h journal fair past front at) v i
 
-  two-one : ◌≡◌ {A = ℕ} 2 1 → ⊥
-  two-one e = absurd cc
+  other-name : (name : List ℕ) → bytes_eq v.channel name ≡ false → name ≡ v.channel → ⊥
+  other-name name differ same = clash (bytes_eq v.channel name) (subst (λ (n : List ℕ). bytes_eq v.channel n ≡ true) (sym same) (bytes_eq_self v.channel)) differ
 
-  zero-one : ◌≡◌ {A = ℕ} 0 1 → ⊥
-  zero-one e = absurd cc
-
-  -- neither channel is a ledger
+  -- the joint channel is no ledger
   pub joint-no-ledger : OnLedger L v.joint → ⊥
   joint-no-ledger = no-ledger s h journal fair past front at v g p.terms p.joint a.joint
 
-  pub channel-no-ledger : OnLedger L v.channel → ⊥
-  channel-no-ledger l = other-apps l.fixed a.fixed l.there a.seat.own.there (l.named ∙ sym a.named) 0 1 l.app a.app zero-one
-
   pub joint-not-channel : bytes_eq v.joint v.channel ≡ false
-  joint-not-channel = go (bytes_eq v.joint v.channel) refl
-    where
-      go : (b : Bool) → bytes_eq v.joint v.channel ≡ b → b ≡ false
-      go true e =
-          absurd (other-apps a.joint.fixed a.fixed a.joint.seat.own.there a.seat.own.there (a.joint.named ∙ (same_bytes v.joint v.channel e ∙ sym a.named)) 0 1 a.joint.app a.app zero-one)
-      go false e = refl
+  joint-not-channel = flips v.channel v.joint differs.0
 
   -- the seats that have other names
   abbrev Named : Seat → List ℕ → Type 0
@@ -109,6 +102,21 @@ module _ (s : Signing) (h : List Entry) (journal : List Told) (fair : IsFair s h
   channel-named : (name : List ℕ) → Named p.channel name → real.named a.fixed ≡ name
   channel-named name e = sym (ap (λ (z : Seat). z.name) a.seat.is) ∙ same_bytes p.channel.name name e
 
+  -- the channel is named
+  is-channel : real.named a.fixed ≡ v.joint → ⊥
+  is-channel e = other-name v.joint differs.0 (sym e ∙ a.named)
+
+  is-joint : real.named a.joint.fixed ≡ v.channel → ⊥
+  is-joint e = other-name v.joint differs.0 (sym a.joint.named ∙ e)
+
+  is-guarantor : real.named a.guarantor.fixed ≡ v.channel → ⊥
+  is-guarantor e = other-name (own_guarantor v) differs.1 (sym a.guarantor.named ∙ e)
+
+  is-lender : Named p.ledger v.channel → ⊥
+  is-lender e =
+      other-name (own_ledger v) (channel-no_ledger s h journal fair past front at.front_is (facts_of m) v g a)
+      (sym a.on.named ∙ (sym (ap (λ (z : Seat). z.name) a.on.seat.is) ∙ same_bytes p.ledger.name v.channel e))
+
   ledger-named : (name : List ℕ) → Named p.ledger name → OnLedger L name
   ledger-named name e = named-ledger s.key past L p.child.first p.child.second (own_ledger v) p.ledger a.on name e
 
@@ -117,20 +125,19 @@ module _ (s : Signing) (h : List Entry) (journal : List Told) (fair : IsFair s h
   names : p.terms.asset < 2 ^ 32 → AreTerms p.terms
   names = terms-are s h journal fair past front at v g p.terms p.joint a.joint (subst IsName a.named (names_are_names a.fixed))
 
-  -- what the payment channel says makes up the total
-  ends-sum : (cd : ℕ × ℕ) → ends.ends_now p ≡ Some cd → cd.0 + cd.1 ≡ p.terms.total
-  ends-sum cd e = go p.channel.top refl e
+  -- what the channel says the ends get are amounts
+  ends-small : (cd : ℕ × ℕ) → ends.ends_now p ≡ Some cd → (cd.0 < 2 ^ 64) × (cd.1 < 2 ^ 64)
+  ends-small cd e = go p.channel.top refl e
     where
-      of-shared : (u : StateParts) → HasShared a.fixed v.asset v.total u → amounts_in p.terms.asset p.terms.first p.terms.second u.outcome ≡ cd → cd.0 + cd.1 ≡ p.terms.total
-      of-shared u shares is =
-          let same : amounts_in p.terms.asset p.terms.first p.terms.second u.outcome ≡ shares.0.amounts =
-          ap (λ (n : ℕ). amounts_in n p.terms.first p.terms.second u.outcome) a.joint.asset
-          ∙ (ap (amounts_in v.asset p.terms.first p.terms.second) shares.0.is ∙ shared-amounts a.fixed v.asset p.terms.first p.terms.second a.people shares.0.amounts a.joint.ends) in
-          ap (λ (x : ℕ × ℕ). x.0 + x.1) (sym is ∙ same) ∙ (shares.0.sum ∙ sym a.joint.total)
-
-      go : (o : Option StateParts) → p.channel.top ≡ o → amounts_after p.terms.asset p.terms.first p.terms.second o ≡ Some cd → cd.0 + cd.1 ≡ p.terms.total
+      go : (o : Option StateParts) → p.channel.top ≡ o → amounts_after p.terms.asset p.terms.first p.terms.second o ≡ Some cd → (cd.0 < 2 ^ 64) × (cd.1 < 2 ^ 64)
       go None is e = absurd (none-eq cd e)
-      go (Some u) is e = of-shared u ((ends_share s h journal past front fair at v g i a).top u is) (some-eq (amounts_in p.terms.asset p.terms.first p.terms.second u.outcome) cd e)
+      go (Some u) is e =
+          let w = tops s h journal fair past front at a.fixed g.opening p.channel a.seat u is in
+          let valid = top-valid s h journal fair past front at a.fixed g.opening p.channel a.seat u w in
+          let same = some-eq (amounts_in p.terms.asset p.terms.first p.terms.second u.outcome) cd e in (
+            subst (λ (z : ℕ × ℕ). z.0 < 2 ^ 64) same (amount-small u.outcome valid.outcome.1.each p.terms.asset (Person p.terms.first)),
+            subst (λ (z : ℕ × ℕ). z.1 < 2 ^ 64) same (amount-small u.outcome valid.outcome.1.each p.terms.asset (Person p.terms.second)),
+          )
 
   -- ---- what it wants
 
@@ -143,6 +150,37 @@ module _ (s : Signing) (h : List Entry) (journal : List Told) (fair : IsFair s h
           let it-is : q ≡ kinds.End v = asked-is s h journal fair past front at name (kinds.End v) q i has none is in
           end-wants p name state
           (subst (λ (o : Option End). wanted_of_end name o ≡ Some state) a.is (subst (λ (z : Part). asked.wanted_of (facts_of m) name (Some z) ≡ Some state) it-is e))
+
+  -- in its channel, or what a part that stands on that wants
+  pub wants-channel : (state : StateParts) → stages.wanted (facts_of m) v.channel ≡ Some state → EndWants p v.channel state ⊎ ((q : Part) × In q m.parts × (is_among v.channel (ledgers_of q) ≡ true))
+  wants-channel state e = go (asked.asked_in (facts_of m) v.channel) refl e
+    where
+      go : (o : Option Part) → asked.asked_in (facts_of m) v.channel ≡ o → asked.wanted_of (facts_of m) v.channel o ≡ Some state
+          → EndWants p v.channel state ⊎ ((q : Part) × In q m.parts × (is_among v.channel (ledgers_of q) ≡ true))
+      go None is e = absurd (none-eq state e)
+      go (Some q) is e = by (asked-or s h journal fair past front at v.channel (kinds.End v) q i (channel-among v) is)
+        where
+          by : (q ≡ kinds.End v) ⊎ (In q m.parts × (is_among v.channel (ledgers_of q) ≡ true)) → EndWants p v.channel state ⊎ ((q : Part) × In q m.parts × (is_among v.channel (ledgers_of q) ≡ true))
+          by (inr w) = inr (q, w.0, w.1)
+          by (inl it-is) =
+              inl (end-wants p v.channel state
+              (subst (λ (o : Option End). wanted_of_end v.channel o ≡ Some state) a.is (subst (λ (z : Part). asked.wanted_of (facts_of m) v.channel (Some z) ≡ Some state) it-is e)))
+
+  -- where a part stands on its channel the end signed past the set-up of that
+  pub borne-late : (q : Part) → In q m.parts → is_among v.channel (ledgers_of q) ≡ true → Late 2 (last-of v.channel L)
+  borne-late q j on =
+      late-of s h journal fair past front at a.fixed g.opening p.channel a.seat 2 two v.channel a.named
+      (held-past s h journal fair past front at a.fixed g.opening p.channel a.seat 3 (twice (people a.fixed) two)
+      (reaches-holds s h journal fair past front at a.fixed g.opening p.channel a.seat 3 (few (people a.fixed) two) ((end-opened s h journal fair past front at v g i a).borne q j on)))
+    where
+      two : people a.fixed ≡ 2
+      two = two-people a.fixed p.terms.first p.terms.second a.people
+
+      twice : (n : ℕ) → n ≡ 2 → 2 * n ≤ 3 + 1
+      twice n e = omega arith
+
+      few : (n : ℕ) → n ≡ 2 → n ≤ 3 + 1
+      few n e = omega arith
 
   module _ (waiting-for : Option Command) (was : EndCore v p L waiting-for) where
     -- by what is known of its seat
@@ -164,15 +202,16 @@ module _ (s : Signing) (h : List Entry) (journal : List Told) (fair : IsFair s h
 
         by : EndWants p v.joint state → ⊥
         by (rows.guarantees going unset e f) =
-            other-apps a.guarantor.fixed a.joint.fixed a.guarantor.seat.own.there a.joint.seat.own.there (guarantor-named v.joint e ∙ sym a.joint.named) 2 0 a.guarantor.app a.joint.app two-zero
+            apps s h journal fair past front at a.guarantor.fixed a.joint.fixed a.guarantor.seat.own.there a.joint.seat.own.there (guarantor-named v.joint e ∙ sym a.joint.named) 2 0 a.guarantor.app
+            a.joint.app two-zero
         by (rows.splits from until small going (inl early) risen e f) = clash (ends.are_set_up p) set early.1
         by (rows.splits from until small going (inr late) risen e f) = clash (holds 5 p.joint) five late.1
         by (rows.opens from until small early e f) =
-            other-apps a.fixed a.joint.fixed a.seat.own.there a.joint.seat.own.there (channel-named v.joint e ∙ sym a.joint.named) 1 0 a.app a.joint.app one-zero
+            is-channel (channel-named v.joint e)
         by (rows.ups going set up e f) = joint-no-ledger (ledger-named v.joint e)
         by (rows.joins going set up five unsettled e f) = clash (settled_on (ends.target_together p) p.joint) joined unsettled
         by (rows.finals closed unended e f) =
-            other-apps a.fixed a.joint.fixed a.seat.own.there a.joint.seat.own.there (channel-named v.joint e ∙ sym a.joint.named) 1 0 a.app a.joint.app one-zero
+            is-channel (channel-named v.joint e)
         by (rows.parts closed final unsettled e f) = clash p.closing closed going
         by (rows.downs closed final settled up e f) = joint-no-ledger (ledger-named v.joint e)
 
@@ -198,21 +237,22 @@ module _ (s : Signing) (h : List Entry) (journal : List Told) (fair : IsFair s h
         back closed final None is e = let x = toward-is None p.joint state e in absurd (none-eq x.goal x.goal_is)
         back closed final (Some cd) is e =
             parts-so p.terms p.joint.opening p.closing (ends.are_set_up p) (holds 5 p.joint) (IsOver p) g.amounts (opens s h journal fair past front at v g p.terms p.joint a.joint) p.joint s h journal fair past front at a.joint.fixed (apart p.terms g.amounts) a.joint.seat
-            (consensus s h journal fair past front at v g p.terms p.joint a.joint) (three s h journal fair past front at v g p.terms p.joint a.joint) names core-here apart-back closed cd (ends-sum cd is) (record { amounts = cd; now = is; all_final = final; is = refl }) state e
+            (consensus s h journal fair past front at v g p.terms p.joint a.joint) (three s h journal fair past front at v g p.terms p.joint a.joint) names core-here apart-back closed cd (λ n. ends-small cd is) (record { amounts = cd; now = is; all_final = final; is = refl }) state e
 
         by : EndWants p v.joint state → S state
         by (rows.guarantees going unset e f) =
-            absurd (other-apps a.guarantor.fixed a.joint.fixed a.guarantor.seat.own.there a.joint.seat.own.there (guarantor-named v.joint e ∙ sym a.joint.named) 2 0 a.guarantor.app a.joint.app two-zero)
+            absurd (apps s h journal fair past front at a.guarantor.fixed a.joint.fixed a.guarantor.seat.own.there a.joint.seat.own.there (guarantor-named v.joint e ∙ sym a.joint.named) 2 0
+            a.guarantor.app a.joint.app two-zero)
         by (rows.splits from until small going early risen e f) =
             repeats-so p.terms p.joint.opening p.closing (ends.are_set_up p) (holds 5 p.joint) (IsOver p) g.amounts (opens s h journal fair past front at v g p.terms p.joint a.joint) p.joint going refl from until (early-or until early) state f
         by (rows.opens from until small early e f) =
-            absurd (other-apps a.fixed a.joint.fixed a.seat.own.there a.joint.seat.own.there (channel-named v.joint e ∙ sym a.joint.named) 1 0 a.app a.joint.app one-zero)
+            absurd (is-channel (channel-named v.joint e))
         by (rows.ups going set up e f) = absurd (joint-no-ledger (ledger-named v.joint e))
         by (rows.joins going set up five unsettled e f) =
             joins-so p.terms p.joint.opening p.closing (ends.are_set_up p) (holds 5 p.joint) (IsOver p) g.amounts (opens s h journal fair past front at v g p.terms p.joint a.joint) p.joint s h journal fair past front at a.joint.fixed (apart p.terms g.amounts) a.joint.seat
             (consensus s h journal fair past front at v g p.terms p.joint a.joint) (three s h journal fair past front at v g p.terms p.joint a.joint) names core-here going set five state f
         by (rows.finals closed unended e f) =
-            absurd (other-apps a.fixed a.joint.fixed a.seat.own.there a.joint.seat.own.there (channel-named v.joint e ∙ sym a.joint.named) 1 0 a.app a.joint.app one-zero)
+            absurd (is-channel (channel-named v.joint e))
         by (rows.parts closed final unsettled e f) = back closed final (ends.ends_now p) refl f
         by (rows.downs closed final settled up e f) = absurd (joint-no-ledger (ledger-named v.joint e))
 
@@ -233,18 +273,18 @@ module _ (s : Signing) (h : List Entry) (journal : List Told) (fair : IsFair s h
 
         by : EndWants p v.channel state → Settled p.terms (last-of v.joint L)
         by (rows.guarantees going unset e f) =
-            absurd (other-apps a.guarantor.fixed a.fixed a.guarantor.seat.own.there a.seat.own.there (guarantor-named v.channel e ∙ sym a.named) 2 1 a.guarantor.app a.app two-one)
+            absurd (is-guarantor (guarantor-named v.channel e))
         by (rows.splits from until small going early risen e f) =
-            absurd (other-apps a.joint.fixed a.fixed a.joint.seat.own.there a.seat.own.there (joint-named v.channel e ∙ sym a.named) 0 1 a.joint.app a.app zero-one)
+            absurd (is-joint (joint-named v.channel e))
         by (rows.opens from until small (inl low) e f) = absurd (repeated from until low f)
         by (rows.opens from until small (inr done) e f) = (settled going done.1).0
-        by (rows.ups going set up e f) = absurd (channel-no-ledger (ledger-named v.channel e))
+        by (rows.ups going set up e f) = absurd (is-lender e)
         by (rows.joins going set up five unsettled e f) =
-            absurd (other-apps a.joint.fixed a.fixed a.joint.seat.own.there a.seat.own.there (joint-named v.channel e ∙ sym a.named) 0 1 a.joint.app a.app zero-one)
+            absurd (is-joint (joint-named v.channel e))
         by (rows.finals closed unended e f) = absurd (clash p.closing closed going)
         by (rows.parts closed final unsettled e f) =
-            absurd (other-apps a.joint.fixed a.fixed a.joint.seat.own.there a.seat.own.there (joint-named v.channel e ∙ sym a.named) 0 1 a.joint.app a.app zero-one)
-        by (rows.downs closed final settled up e f) = absurd (channel-no-ledger (ledger-named v.channel e))
+            absurd (is-joint (joint-named v.channel e))
+        by (rows.downs closed final settled up e f) = absurd (is-lender e)
 
     -- it runs
     pub runs-here : (stages.stage (facts_of m) (kinds.End v) == running (kinds.End v)) ≡ true → EndRuns p × Settled p.terms (last-of v.joint L)

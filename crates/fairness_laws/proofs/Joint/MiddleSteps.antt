@@ -22,8 +22,8 @@ use Rattle.fairness_laws.specs.JointKeeping.{IsSplit}
 use Rattle.fairness_laws.specs.PaymentLaws.{At}
 use Rattle.fairness_laws.specs.PlanParts.{MiddleIs}
 use Rattle.fairness_laws.specs.PlanSettings.{IsFair}
-use Rattle.fairness_laws.proofs.Ledger.Giving.{found-sum}
-use Rattle.fairness_laws.proofs.Joint.Pays.{AreTerms}
+use Rattle.fairness_laws.proofs.Joint.Found.{found-sum}
+use Rattle.fairness_laws.proofs.Joint.Pays.{AreTerms, parts-small}
 use Rattle.fairness_laws.proofs.Plan.Asked.{OnLedger, ledger-named, asked-is}
 use Rattle.fairness_laws.proofs.Joint.Core as cores
 use Rattle.fairness_laws.proofs.Joint.Core.{Settled, Core}
@@ -124,7 +124,7 @@ module _ (s : Signing) (h : List Entry) (journal : List Told) (fair : IsFair s h
         back closed (Some cd) is e =
             parts-so p.terms p.joint.opening p.closing (middles.are_set_up p) (holds 5 p.joint) (IsSplit p.terms) g.amounts (opens s h journal fair past front at v g p.terms p.joint a.joint) p.joint
             s h journal fair past front at a.joint.fixed (apart p.terms g.amounts) a.joint.seat (consensus s h journal fair past front at v g p.terms p.joint a.joint)
-            (three s h journal fair past front at v g p.terms p.joint a.joint) names core-here apart-back closed cd (found-sum p.terms p.joint.top cd is)
+            (three s h journal fair past front at v g p.terms p.joint a.joint) names core-here apart-back closed cd (λ n. parts-small cd.0 cd.1 p.terms.total (2 ^ 64) (found-sum p.terms p.joint.top cd is) n.total)
             (record { amounts = cd; is = refl; sum = found-sum p.terms p.joint.top cd is }) state e
 
         by : MiddleWants p v.joint state → S state

@@ -17,7 +17,7 @@ use Rattle.node_model.specs.Playing as playing
 use Rattle.fairness_laws.specs.PaymentLaws.{At}
 use Rattle.fairness_laws.specs.PlanSeats.{SeatIs}
 use Rattle.fairness_laws.specs.PlanSettings.{IsFair}
-use Rattle.fairness_laws.proofs.Joint.Pays.{AreTerms, apart-outcome, together-outcome}
+use Rattle.fairness_laws.proofs.Joint.Pays.{AreTerms, apart-read, together-outcome}
 use Rattle.fairness_laws.proofs.Joint.Core.{Core, Signing}
 use Rattle.fairness_laws.proofs.Seat.Held.{last-of, Tops, tops, top-could, top-valid, top-last, top-far}
 use Rattle.fairness_laws.proofs.Joint.Outcomes.{together-asset, apart-asset}
@@ -173,8 +173,8 @@ module _ (t : Terms) (opening : List AssetOutcome) (closing set five : Bool) (Ba
       now-back top w = core.parts closed w.last.state top.outcome (last-is top w) (could top w)
 
       -- from Close on, amounts for the ends
-      pub parts-so : (cd : ℕ × ℕ) → cd.0 + cd.1 ≡ t.total → Back (apart t cd) → (state : StateParts) → toward (Some (apart t cd)) c ≡ Some state → Signing t opening closing set five Back state
-      parts-so cd sum back state e = record {
+      pub parts-so : (cd : ℕ × ℕ) → (AreTerms t → (cd.0 < 2 ^ 64) × (cd.1 < 2 ^ 64)) → Back (apart t cd) → (state : StateParts) → toward (Some (apart t cd)) c ≡ Some state → Signing t opening closing set five Back state
+      parts-so cd small back state e = record {
         sets = λ why. core.set_up (inl closed);
         far = λ closed. far-turn x.top state w (next-turn (length c.people) x.goal x.top c.own state x.wanted);
         low = λ low. absurd (late state.turn (far-turn x.top state w (next-turn (length c.people) x.goal x.top c.own state x.wanted)) low);
@@ -199,7 +199,7 @@ module _ (t : Terms) (opening : List AssetOutcome) (closing set five : Bool) (Ba
           asset (inr b) = let r = apart-back x.top.outcome b in apart-asset t r.0 (subst IsOutcome r.1 (valid-top x.top w))
 
           target-is : IsOutcome (apart t cd)
-          target-is = apart-outcome t (named (asset (now-back x.top w))) cd sum (subst (λ (g : List AssetOutcome). is_valid g ≡ true) (sym goal-is) x.valid)
+          target-is = apart-read t (named (asset (now-back x.top w))) cd (small (named (asset (now-back x.top w)))) (subst (λ (g : List AssetOutcome). is_valid g ≡ true) (sym goal-is) x.valid)
 
           by : (q : List AssetOutcome) → (q ≡ x.top.outcome) ⊎ (q ≡ apart t cd) → (q ≡ together t) ⊎ Back q
           by q (inl same) = subst (λ (z : List AssetOutcome). (z ≡ together t) ⊎ Back z) (sym same) (now-back x.top w)

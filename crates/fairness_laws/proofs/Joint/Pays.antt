@@ -76,13 +76,14 @@ pub record AreTerms (t : Terms) : Type 0 where
   pub middle : IsName t.middle
   pub second : IsName t.second
 
-parts-small : (a b n m : ℕ) → a + b ≡ n → n < m → (a < m) × (b < m)
+pub parts-small : (a b n m : ℕ) → a + b ≡ n → n < m → (a < m) × (b < m)
 parts-small a b n m sum small = (omega arith, omega arith)
 
+pub apart-read : (t : Terms) → AreTerms t → (ab : ℕ × ℕ) → (ab.0 < 2 ^ 64) × (ab.1 < 2 ^ 64) → is_valid (apart t ab) ≡ true → IsOutcome (apart t ab)
+apart-read t n ab small valid = read-is (apart t ab) ((n.asset, ((n.first, small.0), ((n.second, small.1), ((n.middle, n.total), tt)))), tt) valid
+
 pub apart-outcome : (t : Terms) → AreTerms t → (ab : ℕ × ℕ) → ab.0 + ab.1 ≡ t.total → is_valid (apart t ab) ≡ true → IsOutcome (apart t ab)
-apart-outcome t n ab sum valid =
-    let small = parts-small ab.0 ab.1 t.total (2 ^ 64) sum n.total in
-    read-is (apart t ab) ((n.asset, ((n.first, small.0), ((n.second, small.1), ((n.middle, n.total), tt)))), tt) valid
+apart-outcome t n ab sum valid = apart-read t n ab (parts-small ab.0 ab.1 t.total (2 ^ 64) sum n.total) valid
 
 pub together-outcome : (t : Terms) → AreTerms t → is_valid (together t) ≡ true → IsOutcome (together t)
 together-outcome t n valid = read-is (together t) ((n.asset, ((n.channel, n.total), ((n.middle, n.total), tt))), tt) valid

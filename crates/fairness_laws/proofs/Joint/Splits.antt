@@ -24,11 +24,11 @@ use Rattle.fairness_laws.proofs.Joint.MiddleKept.{middles-core}
 use Rattle.fairness_laws.proofs.Joint.Middles.{MiddleCore}
 use Rattle.fairness_laws.proofs.EventPlaces.{before-event, before-entry}
 use Rattle.fairness_laws.proofs.Joint.Terms.{joint-among, terms-one}
-use Rattle.fairness_laws.proofs.Payment.Shares.{ends_share}
+use Rattle.fairness_laws.proofs.Ledger.Ended.{ends_share_over}
 use Rattle.fairness_laws.proofs.Plans.{whole-place}
 use Rattle.fairness_laws.proofs.Shared.{shared-amounts}
 use Rattle.fairness_laws.specs.JointKeeping.{IsSplit, IsOver, SignsSplits, EndsSplit, MiddlesSplit}
-use Rattle.fairness_laws.specs.PaymentLaws.{At, IsShared, Shares}
+use Rattle.fairness_laws.specs.PaymentLaws.{At, IsShared, SharesOver}
 use Rattle.fairness_laws.specs.PlanLaws.{PartAt}
 use Rattle.fairness_laws.specs.PlanParts.{JointIs, EndIs}
 use Rattle.fairness_laws.specs.PlanSettings.{IsFair}
@@ -43,6 +43,7 @@ use Rattle.outcome_targets.specs.Targets.{apart, together}
 use Rattle.outcome_targets.specs.declared.terms.Terms.{Terms}
 use Rattle.share_model.specs.Places.{channels, last_made, outcomes_of}
 use Rattle.stage_rules.specs.Seats.{Seat, holds, amounts_after}
+use Rattle.stage_rules.specs.Gathered.{goal_in}
 use Rattle.support_chain.specs.Real.{real}
 use Rattle.wish_laws.proofs.Over.{AtEvent, IsKept, looked}
 
@@ -116,17 +117,17 @@ module _ (s : Signing) (h : List Entry) (journal : List Told) (fair : IsFair s h
 -- ---- at an end
 
 over-split : (s : Signing) (h : List Entry) (journal : List Told) (fair : IsFair s h journal) (past : List Entry) (front : List Told) (at : At s h journal past front) (v : Virtual) (g : Goal)
-    → In (kinds.End v) (mind_at real s.key past front).parts → (e : EndIs s.key past (lines_of s.key front) (facts_of (mind_at real s.key past front)) v g)
-    → (o : List AssetOutcome) → IsOver e.end o → IsSplit e.end.terms o
-over-split s h journal fair past front at v g i e o is-over = by e.end.channel.top refl
+    → In (kinds.End v) (mind_at real s.key past front).parts → goal_in (facts_of (mind_at real s.key past front)) v.channel ≡ Some g
+    → (e : EndIs s.key past (lines_of s.key front) (facts_of (mind_at real s.key past front)) v g) → e.end.closing ≡ true → (o : List AssetOutcome) → IsOver e.end o → IsSplit e.end.terms o
+over-split s h journal fair past front at v g i found e closing o is-over = by e.end.channel.top refl
   where
-    shares : Shares e.fixed v.asset v.total e.end.channel
-    shares = ends_share s h journal past front fair at v g i e
+    shares : SharesOver e.fixed v.asset v.total e.end.channel
+    shares = ends_share_over s h journal past front fair at v g i found e closing is-over.all_final
 
     by : (top : Option StateParts) → e.end.channel.top ≡ top → IsSplit e.end.terms o
     by None is = absurd (none-eq is-over.amounts (sym (ap (amounts_after e.end.terms.asset e.end.terms.first e.end.terms.second) is) ∙ is-over.now))
     by (Some top) is =
-        let sh : IsShared e.fixed v.asset v.total top.outcome = (shares.top top is).0 in
+        let sh : IsShared e.fixed v.asset v.total top.outcome = shares.top top is in
         let same : sh.amounts ≡ is-over.amounts =
         some-eq sh.amounts is-over.amounts
         (sym (ap (λ (y : ℕ × ℕ). Some y)
@@ -169,13 +170,13 @@ ends_split s h journal fair v g i e x n o j made k =
             (q ∙ ap (λ (z : Seat). z.opening) a.is.joint.seat.is))
         before (inr q) = inl q.0
 
-        after : (o ≡ together a.is.end.terms) ⊎ IsOver a.is.end o → (o ≡ together a.is.end.terms) ⊎ IsSplit a.is.end.terms o
-        after (inl q) = inl q
-        after (inr q) = inr (over-split s h journal fair past front at v a.goal l a.is o q)
+        after : a.is.end.closing ≡ true → (o ≡ together a.is.end.terms) ⊎ IsOver a.is.end o → (o ≡ together a.is.end.terms) ⊎ IsSplit a.is.end.terms o
+        after closed (inl q) = inl q
+        after closed (inr q) = inr (over-split s h journal fair past front at v a.goal l a.found a.is closed o q)
 
         go : (b : Bool) → a.is.end.closing ≡ b → (o ≡ together e.end.terms) ⊎ IsSplit e.end.terms o
         go false stays = back (before (known.core.joins stays last o is m))
-        go true closed = back (after (known.core.parts closed last o is m))
+        go true closed = back (after closed (known.core.parts closed last o is m))
 
 -- ---- at the intermediary
 

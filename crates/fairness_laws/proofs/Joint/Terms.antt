@@ -1,11 +1,11 @@
 -- The terms of a virtual channel, and the people of its joint channel.
-use Rattle.std.proofs.Common.{◌≡◌, ℕ, Bool, List, [], ◌∷◌, length, true, false, refl, sym, ◌∙◌, ap, subst, inl, inr}
+use Rattle.std.proofs.Common.{◌≡◌, ℕ, Bool, List, [], ◌∷◌, length, true, false, cond, refl, sym, ◌∙◌, ap, subst, inl, inr}
 use Rattle.std.specs.Str.{bytes_eq}
 use Rattle.channel_calls.proofs.Names.{same_bytes, bytes_eq_self}
 use Rattle.channel_calls.specs.Flows.{is_among}
 use Rattle.channel_calls.specs.declared.entry.Entry.{Entry}
 use Rattle.channel_model.specs.Rules.{people}
-use Rattle.funding_value.specs.Parts.{channels_of_virtual}
+use Rattle.funding_value.specs.Parts.{channels_of_virtual, own_ledger}
 use Rattle.funding_value.specs.declared.plan.Goal.{Goal}
 use Rattle.funding_value.specs.declared.plan.Virtual.{Virtual}
 use Rattle.net_model.specs.Journals.{Line}
@@ -16,8 +16,9 @@ use Rattle.node_model.specs.Playing.{Signing}
 use Rattle.node_share_laws.specs.Laws.{IsFront}
 use Rattle.fairness_laws.proofs.Plan.Names.{in-among}
 use Rattle.fairness_laws.specs.PlanSettings.{IsFair}
-use Rattle.fairness_laws.specs.PlanParts.{JointIs, MiddleIs}
+use Rattle.fairness_laws.specs.PlanParts.{JointIs, EndIs, MiddleIs}
 use Rattle.fairness_laws.proofs.Seat.Past.{as-many, one-fixed}
+use Rattle.outcome_targets.specs.declared.child.Child.{Child}
 use Rattle.outcome_targets.specs.declared.terms.Terms.{Terms}
 use Rattle.stage_rules.specs.Seats.{Seat}
 use Rattle.support_chain.specs.Steps.{persons}
@@ -84,3 +85,30 @@ ledgers-differ s h journal fair past front place f v g y = go (bytes_eq v.ledger
         let same : y.middle.terms.first ≡ y.middle.terms.middle =
         sym y.child_a.one ∙ (ap head-of (sym y.on_a.people ∙ (ap persons one ∙ y.on_b.people)) ∙ y.child_b.one) in
         absurd (clash (bytes_eq y.middle.terms.first y.middle.terms.middle) (subst (λ (n : List ℕ). bytes_eq y.middle.terms.first n ≡ true) same (bytes_eq_self y.middle.terms.first)) y.joint.first)
+
+-- the intermediary is in an end's ledger, and not in its channel
+pub channel-no_ledger : (s : Signing) (h : List Entry) (journal : List Told) (fair : IsFair s h journal) (past : List Entry) (front : List Told) (place : IsFront h journal past front) (f : FactsOf) (v : Virtual) (g : Goal)
+    → EndIs s.key past (lines_of s.key front) f v g → bytes_eq v.channel (own_ledger v) ≡ false
+channel-no_ledger s h journal fair past front place f v g y = go (bytes_eq v.channel (own_ledger v)) refl
+  where
+    t : Terms
+    t = y.end.terms
+
+    k : Child
+    k = y.end.child
+
+    same-people : bytes_eq v.channel (own_ledger v) ≡ true → t.first ∷ t.second ∷ [] ≡ k.first ∷ k.second ∷ []
+    same-people e =
+        let one : y.fixed ≡ y.on.fixed =
+        one-fixed s h journal fair past front place past front place y.fixed y.on.fixed y.seat.own.there y.on.seat.own.there
+        (y.named ∙ (same_bytes v.channel (own_ledger v) e ∙ sym y.on.named)) in
+        sym y.people ∙ (ap persons one ∙ y.on.people)
+
+    never : (b : Bool) → k.first ≡ cond b t.middle t.first → k.second ≡ cond b t.second t.middle → t.first ∷ t.second ∷ [] ≡ k.first ∷ k.second ∷ [] → ⊥
+    never false p q same =
+        clash (bytes_eq t.second t.middle) (subst (λ (n : List ℕ). bytes_eq t.second n ≡ true) (ap (λ (xs : List (List ℕ)). head-of (rest-of xs)) same ∙ q) (bytes_eq_self t.second)) y.joint.second
+    never true p q same = clash (bytes_eq t.first t.middle) (subst (λ (n : List ℕ). bytes_eq t.first n ≡ true) (ap head-of same ∙ p) (bytes_eq_self t.first)) y.joint.first
+
+    go : (b : Bool) → bytes_eq v.channel (own_ledger v) ≡ b → b ≡ false
+    go false e = refl
+    go true e = absurd (never v.side_b y.child.one y.child.other (same-people e))

@@ -1,5 +1,5 @@
 -- A ledger on which a part is opened affords it.
-use Rattle.std.proofs.Common.{◌≡◌, ◌≢◌, ℕ, ◌≤◌, Bool, true, false, cond, ◌&&◌, List, [], ◌∷◌, length, refl, sym, ◌∙◌, ap, subst}
+use Rattle.std.proofs.Common.{◌≡◌, ℕ, ◌≤◌, Bool, true, false, cond, ◌&&◌, ◌||◌, List, [], ◌∷◌, length, refl, sym, ◌∙◌, ap, subst}
 use Rattle.std.specs.Prelude.{◌==◌, nat_le, nat_lt, Option, Some, None, map, slice_index_or}
 use Rattle.std.specs.Option.{option_map}
 use Rattle.nitro_bytes.specs.Parts.{FixedParts, StateParts}
@@ -9,57 +9,38 @@ use Rattle.nitro_bytes.specs.declared.value.Dest.TheVariants.{Person, Channel}
 use Rattle.chain_laws.proofs.Tests.{some-eq, none-eq, clash, and-left, and-right, le-true}
 use Rattle.channel_calls.specs.declared.entry.Entry.{Entry}
 use Rattle.channel_calls.specs.declared.held_chain.HeldChain.{HeldChain}
-use Rattle.channel_calls.specs.declared.held_chain.Place.{Place}
 use Rattle.channel_model.specs.Amounts.{amt, has}
 use Rattle.channel_model.specs.Rules.{newest}
+use Rattle.channel_store.specs.Keeping.{is_held}
 use Rattle.funding_value.specs.Known.{FactsOf}
 use Rattle.funding_value.specs.Shapes.{items_of, items_in}
-use Rattle.funding_value.specs.declared.plan.Goal.{Goal}
-use Rattle.funding_value.specs.declared.plan.Part.TheVariants as kinds
-use Rattle.ledger_channel.specs.Roots.{Direct}
-use Rattle.ledger_channel.specs.Stages.{direct_of, direct_in}
 use Rattle.net_model.specs.Journals.{In}
 use Rattle.node_model.specs.Minds.{facts_of}
 use Rattle.node_model.specs.Places.{Told, lines_of, mind_at}
 use Rattle.node_model.specs.Playing.{Signing}
-use Rattle.node_tables.specs.Fitting.{stake}
+use Rattle.node_tables.specs.Fitting.{stake, is_running_end, lends_virtual, either_lends}
 use Rattle.node_tables.specs.declared.stake.Stake.{Stake}
 use Rattle.node_tables.specs.Ledgers.{covers, affords_after, affords_in, is_between, is_running_root, lends}
 use Rattle.fairness_laws.proofs.Apps.{no-payments}
 use Rattle.fairness_laws.proofs.Outcomes.{only}
-use Rattle.fairness_laws.specs.PlanLaws.{PartAt, PartsAreKnown}
-use Rattle.fairness_laws.specs.PlanParts.{RootIs}
+use Rattle.fairness_laws.specs.PlanLaws.{PartsAreKnown}
+use Rattle.fairness_laws.specs.PlanSeats.{SeatIs, seat_of}
 use Rattle.fairness_laws.specs.PlanSettings.{IsFair}
 use Rattle.share_model.specs.Places.{channels, last_made, outcomes_of}
-use Rattle.stage_rules.specs.Gathered.{place_in, chain_in, top_of, goal_in, seat_for, seat_at, seat_if, are_few}
+use Rattle.stage_rules.specs.Gathered.{place_in, chain_in, top_of}
 use Rattle.stage_rules.specs.Seats.{Seat}
 use Rattle.support_chain.specs.Real.{real}
 use Rattle.support_chain.specs.Steps.{persons}
 use Rattle.node_model.specs.Openings.{shared}
 use Rattle.outcome_targets.specs.declared.child.Child.{Child}
 use Rattle.fairness_laws.specs.LedgerMoving.{HaveItems, Afford}
-use Rattle.fairness_laws.proofs.Seat.Past.{one-fixed}
+use Rattle.fairness_laws.proofs.Plan.Holding.{Holds, chain-holds, seat-is}
 use Rattle.fairness_laws.proofs.Plan.Known.{OfLedger}
-use Rattle.fairness_laws.proofs.Plan.Places.{lent-at, knows-there, plays-there}
+use Rattle.fairness_laws.proofs.Plan.Places.{lent-at, knows-there, plays-there, legal-there, grown-there}
 use Rattle.fairness_laws.specs.LedgerPlaces.{is_ledger, own_at}
 use Rattle.fairness_laws.specs.PaymentLaws.{At}
 use Rattle.fairness_laws.proofs.Seat.Held.{Tops, tops, top-could}
-
--- the latest state of a root is that of its held chain
-direct-top : (f : FactsOf) (name : List ℕ) (g : Goal) (d : Direct) → goal_in f name ≡ Some g → direct_in f name ≡ Some d → d.channel.top ≡ top_of (chain_in name f.chains)
-direct-top f name g d goal is = by-place (place_in name f.places) (sym (ap (λ (o : Option Goal). direct_of f name (seat_for f name o) o) goal) ∙ is)
-  where
-    by-few : (b : Bool) (c : Seat) → c.top ≡ top_of (chain_in name f.chains) → direct_of f name (seat_if b c) (Some g) ≡ Some d → d.channel.top ≡ top_of (chain_in name f.chains)
-    by-few true c t e = ap (λ (o : Option Direct). channel-top o) (sym e) ∙ t
-      where
-        channel-top : Option Direct → Option StateParts
-        channel-top None = None
-        channel-top (Some x) = x.channel.top
-    by-few false c t e = absurd (none-eq d e)
-
-    by-place : (o : Option Place) → direct_of f name (seat_at f name g.opening o) (Some g) ≡ Some d → d.channel.top ≡ top_of (chain_in name f.chains)
-    by-place None e = absurd (none-eq d e)
-    by-place (Some p) e = by-few (are_few p.people) _ refl e
+use Rattle.fairness_laws.proofs.Signing.{kept-of}
 
 -- both people have items of at least these amounts
 pub record Covered (asset : ℕ) (first second : List ℕ) (ab : ℕ × ℕ) (o : List AssetOutcome) : Type 0 where
@@ -74,8 +55,15 @@ record Lending (f : FactsOf) (l : List ℕ) (asset : ℕ) (first second : List �
   held : top_of (chain_in l f.chains) ≡ Some top
   covered : Covered asset first second ab top.outcome
 
-lending : (f : FactsOf) (l : List ℕ) (asset : ℕ) (a b : List ℕ) (ab : ℕ × ℕ) → lends f l (stake asset a b ab) ≡ true → Lending f l asset a b ab
-lending f l asset a b ab lent = go (chain_in l f.chains) refl (and-right (is_running_root f l && is_between k (place_in l f.places)) (affords_in k (chain_in l f.chains)) lent)
+either-affords : (f : FactsOf) (l : List ℕ) (k : Stake) → either_lends f l k ≡ true → affords_in k (chain_in l f.chains) ≡ true
+either-affords f l k e = go (lends f l k) refl e
+  where
+    go : (b : Bool) → lends f l k ≡ b → (b || lends_virtual f l k) ≡ true → affords_in k (chain_in l f.chains) ≡ true
+    go true is h = and-right (is_running_root f l && is_between k (place_in l f.places)) (affords_in k (chain_in l f.chains)) is
+    go false is h = and-right (is_running_end f l && is_between k (place_in l f.places)) (affords_in k (chain_in l f.chains)) h
+
+lending : (f : FactsOf) (l : List ℕ) (asset : ℕ) (a b : List ℕ) (ab : ℕ × ℕ) → either_lends f l (stake asset a b ab) ≡ true → Lending f l asset a b ab
+lending f l asset a b ab lent = go (chain_in l f.chains) refl (either-affords f l k lent)
   where
     k : Stake
     k = stake asset a b ab
@@ -105,7 +93,7 @@ lending f l asset a b ab lent = go (chain_in l f.chains) refl (and-right (is_run
 module _ (s : Signing) (h : List Entry) (journal : List Told) (fair : IsFair s h journal) (known : PartsAreKnown)
     (past : List Entry) (front : List Told) (here : At s h journal past front) where
   -- it covers them by what the node signed last, where that has no votes
-  pub covers-last : (l : List ℕ) (asset : ℕ) (first second : List ℕ) (ab : ℕ × ℕ) → lends (facts_of (mind_at real s.key past front)) l (stake asset first second ab) ≡ true
+  pub covers-last : (l : List ℕ) (asset : ℕ) (first second : List ℕ) (ab : ℕ × ℕ) → either_lends (facts_of (mind_at real s.key past front)) l (stake asset first second ab) ≡ true
       → (last : StateParts) → own_at s.key journal front l ≡ Some last → outcomes_of last ≡ last.outcome ∷ [] → Covered asset first second ab last.outcome
   covers-last l asset first second ab lent last signed alone = subst (Covered asset first second ab) (only last last.outcome alone y.top.outcome (subst (In y.top.outcome) (ap outcomes_of same) could)) y.covered
     where
@@ -117,27 +105,34 @@ module _ (s : Signing) (h : List Entry) (journal : List Told) (fair : IsFair s h
           lent-at s h journal fair.nodes past front here.front_is.few here.front_is.later here.front_is.entries (plays-there s h journal fair.nodes past front here.front_is) here.front_is.before
           (knows-there s h journal fair.nodes past front here.front_is) l first second asset ab lent
 
-      at : PartAt s past front (kinds.Root l)
-      at = known s h journal past front fair.nodes here.front_is (kinds.Root l) ledger.root
+      held : Holds s.key past (lines_of s.key front) (mind_at real s.key past front) ledger.fixed
+      held = kept-of s h journal fair past front here ledger.fixed ledger.there
 
-      root : RootIs s.key past (lines_of s.key front) (facts_of (mind_at real s.key past front)) l at.goal
-      root = at.is
+      c : Seat
+      c = seat_of ledger.fixed [] held.kept
 
-      other : root.fixed.app ≢ 1
-      other = no-payments root.fixed (ap (λ (f : FixedParts). f.app) same-fixed ∙ ledger.app)
+      seat : SeatIs s.key past (lines_of s.key front) ledger.fixed [] c
+      seat =
+          seat-is s.key past front (legal-there s h journal fair.nodes past front here.front_is) here.front_is.few (grown-there s h journal fair.nodes past front here.front_is)
+          ledger.fixed ledger.there held []
+
+      -- its latest state is that of its held chain
+      top-is : c.top ≡ Some y.top
+      top-is = tops-same (is_held held.kept) ∙ (ap top_of (sym (chain-holds s.key past front (legal-there s h journal fair.nodes past front here.front_is) here.front_is.few
+          (grown-there s h journal fair.nodes past front here.front_is) ledger.fixed held l ledger.named)) ∙ y.held)
         where
-          same-fixed : root.fixed ≡ ledger.fixed
-          same-fixed = one-fixed s h journal fair past front here.front_is past front here.front_is root.fixed ledger.fixed root.seat.own.there ledger.there (root.named ∙ sym ledger.named)
+          tops-same : (b : Bool) → cond b (newest held.kept.chain.states) None ≡ top_of (cond b (Some (record { channel = held.kept.channel; chain = held.kept.chain })) None)
+          tops-same true = refl
+          tops-same false = refl
 
-      w : Tops s h journal fair past front here root.fixed at.goal.opening root.direct.channel root.seat y.top
-      w = tops s h journal fair past front here root.fixed at.goal.opening root.direct.channel root.seat y.top
-          (direct-top (facts_of (mind_at real s.key past front)) l at.goal root.direct at.found root.is ∙ y.held)
+      w : Tops s h journal fair past front here ledger.fixed [] c seat y.top
+      w = tops s h journal fair past front here ledger.fixed [] c seat y.top top-is
 
       could : In y.top.outcome (outcomes_of w.last.state)
-      could = top-could s h journal fair past front here root.fixed at.goal.opening root.direct.channel root.seat other y.top w
+      could = top-could s h journal fair past front here ledger.fixed [] c seat (no-payments ledger.fixed ledger.app) y.top w
 
       made : last_made l (lines_of s.key front) ≡ Some w.last
-      made = subst (λ (n : List ℕ). last_made n (lines_of s.key front) ≡ Some w.last) root.named w.is
+      made = subst (λ (n : List ℕ). last_made n (lines_of s.key front) ≡ Some w.last) ledger.named w.is
 
       same : w.last.state ≡ last
       same = go (is_ledger s.key journal l) signed

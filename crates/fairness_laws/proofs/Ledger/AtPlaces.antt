@@ -99,19 +99,16 @@ pub own-looked : (s : Signing) (journal : List Told) (x : Told) (front : List To
 own-looked s journal x front w l =
     ap (λ (o : Option Signed). cond (is_ledger s.key journal l) (option_map (λ s. s.state) (option_or o (last_made l (lines_of s.key front)))) None) (watched-made x.deed w l)
 
-module _ (s : Signing) (h : List Entry) (journal : List Told) (fair : IsFair s h journal) (steps : StepsAtPlaces s h journal) where
-  -- where it is a place
-  abbrev AtPlace : List Entry → List Told → Type 0
-  AtPlace past front = At s h journal past front → KeepAt s journal past front
-
-  none-signed : (front : List Told) (l : List ℕ) → front ≡ [] → own_at s.key journal front l ≡ None
+-- by the steps of its events and entries
+module _ (s : Signing) (h : List Entry) (journal : List Told) (fair : IsFair s h journal) where
+  pub none-signed : (front : List Told) (l : List ℕ) → front ≡ [] → own_at s.key journal front l ≡ None
   none-signed front l e = go (is_ledger s.key journal l)
     where
       go : (b : Bool) → cond b (option_map (λ s. s.state) (last_made l (lines_of s.key front))) None ≡ None
       go true = subst (λ (z : List Told). option_map (λ s. s.state) (last_made l (lines_of s.key z)) ≡ None) (sym e) refl
       go false = refl
 
-  begins : (past : List Entry) → At s h journal past [] → KeepAt s journal past []
+  pub begins : (past : List Entry) → At s h journal past [] → KeepAt s journal past []
   begins past at = record {
     ledgers = λ l last e. absurd (none-eq last (sym (none-signed [] l refl) ∙ e));
     one = λ p q i m v w. absurd (nothing p i);
@@ -122,18 +119,22 @@ module _ (s : Signing) (h : List Entry) (journal : List Told) (fair : IsFair s h
       nothing : (p : Part) → In p (parts_at s past []) → ⊥
       nothing p i = subst (In p) (places_tell_shares stages real s h journal past [] fair.nodes.legal fair.nodes.plays at.front_is).parts i
 
-  looks : (past : List Entry) (x : Told) (front : List Told) → is_watched x.deed ≡ true → AtPlace past front → AtPlace past (x ∷ front)
-  looks past x front w was at =
+  pub looks : (past : List Entry) (x : Told) (front : List Told) → is_watched x.deed ≡ true → KeepAt s journal past front → KeepAt s journal past (x ∷ front)
+  looks past x front w was =
       subst (λ (m : Mind). AllKeep m.parts (lent (facts_of m)) (own_at s.key journal (x ∷ front))) (sym same)
-      (own-as (parts_at s past front) (lends_at s past front) (own_at s.key journal front) (own_at s.key journal (x ∷ front)) (own-looked s journal x front w)
-      (was (before-event s h journal past x front (inl w) at)))
+      (own-as (parts_at s past front) (lends_at s past front) (own_at s.key journal front) (own_at s.key journal (x ∷ front)) (own-looked s journal x front w) was)
     where
       same : mind_at real s.key past (x ∷ front) ≡ mind_at real s.key past front
       same = mind-watched real s.key past x front (looked real x.deed x.command w)
 
+module _ (s : Signing) (h : List Entry) (journal : List Told) (fair : IsFair s h journal) (steps : StepsAtPlaces s h journal) where
+  -- where it is a place
+  abbrev AtPlace : List Entry → List Told → Type 0
+  AtPlace past front = At s h journal past front → KeepAt s journal past front
+
   acts : (past : List Entry) (x : Told) (front : List Told) → AtEvent stages real s h journal past x front → AtPlace past front → At s h journal past (x ∷ front)
       → (is_watched x.deed ≡ true) ⊎ (is_watched x.deed ≡ false) → KeepAt s journal past (x ∷ front)
-  acts past x front event was at (inl w) = looks past x front w was at
+  acts past x front event was at (inl w) = looks s h journal fair past x front w (was (before-event s h journal past x front (inl w) at))
   acts past x front event was at (inr w) =
       let before = before-event s h journal past x front (inr event.len) at in
       steps_keep (parts_at s past front) (lends_at s past front) (own_at s.key journal front) (parts_at s past (x ∷ front)) (lends_at s past (x ∷ front)) (own_at s.key journal (x ∷ front))
@@ -141,9 +142,9 @@ module _ (s : Signing) (h : List Entry) (journal : List Told) (fair : IsFair s h
 
   at-places : IsKept stages real s h journal AtPlace
   at-places = record {
-    first = begins;
+    first = begins s h journal fair;
     event = λ past x front event was at. acts past x front event was at (either (is_watched x.deed));
-    look = looks;
+    look = λ past x front w was at. looks s h journal fair past x front w (was (before-event s h journal past x front (inl w) at));
     entry = λ past e front seen was at.
         let before = before-entry s h journal past e front seen at in
         steps_keep (parts_at s past front) (lends_at s past front) (own_at s.key journal front) (parts_at s (e ∷ past) front) (lends_at s (e ∷ past) front) (own_at s.key journal front)

@@ -1,8 +1,8 @@
 -- Each event and each entry of a node is a step of its ledgers, so they back what stands on them at each place.
-use Rattle.std.proofs.Common.{◌≡◌, ℕ, List, ◌∷◌, refl, ◌∙◌, ap, subst}
+use Rattle.std.proofs.Common.{◌≡◌, ℕ, true, List, ◌∷◌, refl, sym, ◌∙◌, ap, subst}
 use Rattle.std.specs.Prelude.{Option, Some, None, Result, Ok, Err}
 use Rattle.nitro_bytes.specs.declared.fault.ByteFault.{ByteFault}
-use Rattle.chain_laws.proofs.Tests.{clash}
+use Rattle.chain_laws.proofs.Tests.{clash, none-eq}
 use Rattle.channel_calls.specs.Reading.{message_of}
 use Rattle.channel_calls.specs.Spelling.{Message}
 use Rattle.channel_calls.specs.declared.entry.Entry.{Entry}
@@ -13,7 +13,8 @@ use Rattle.net_model.specs.Journals.{made_in, is_watched}
 use Rattle.net_party.specs.declared.command.Command.{Command}
 use Rattle.net_party.specs.declared.command.Command.TheVariants as commands
 use Rattle.node_laws.proofs.Bridging.{plays-at}
-use Rattle.node_model.specs.Minds.{Mind, did, noted_message}
+use Rattle.nitro_bytes.specs.Parts.{StateParts}
+use Rattle.node_model.specs.Minds.{Mind, facts_of, did, noted_message}
 use Rattle.node_model.specs.Places.{Told, mind_at}
 use Rattle.node_model.specs.Playing.{Signing, Plays, pending, signings, Allowed}
 use Rattle.node_tables.specs.Stages.{stages}
@@ -22,17 +23,19 @@ use Rattle.fairness_laws.specs.PaymentLaws.{ActsNext}
 use Rattle.fairness_laws.specs.PlanLaws.{PartsAreKnown, PlansAreWhole}
 use Rattle.fairness_laws.specs.PlanSettings.{IsFair}
 use Rattle.support_chain.specs.Real.{real}
-use Rattle.fairness_laws.specs.LedgerEvents.{SetUpsStart, GivesBackAt}
-use Rattle.fairness_laws.specs.LedgerPlaces.{KeepAt, StepAt, StepsAtPlaces}
+use Rattle.fairness_laws.specs.LedgerEvents.{SetUpsStart}
+use Rattle.fairness_laws.specs.LedgerLaws.{GivesBack}
+use Rattle.fairness_laws.specs.LedgerPlaces.{is_ledger, own_at, KeepAt, StepAt}
 use Rattle.fairness_laws.proofs.Ledger.Opening.{open-step, on-step, virtual-step}
 use Rattle.fairness_laws.proofs.Ledger.Closing.{close-step}
 use Rattle.fairness_laws.proofs.Ledger.Payments.{payments_run}
-use Rattle.fairness_laws.proofs.Ledger.Quiet.{entry-step, happens, quiet-step}
-use Rattle.fairness_laws.proofs.Ledger.Signing.{signing-step}
+use Rattle.fairness_laws.proofs.Ledger.Quiet.{happens, quiet-step, own-quiet}
+use Rattle.fairness_laws.proofs.Ledger.Signing.{FirstBy, signing-step, signing-first}
 
 module _ (s : Signing) (h : List Entry) (journal : List Told) (fair : IsFair s h journal) (known : PartsAreKnown) (whole : PlansAreWhole) (ends : EndsKeep) (middles : MiddlesKeep)
-    (starting : SetUpsStart s h journal) (gives : GivesBackAt s h journal) where
-  module _ (past : List Entry) (x : Told) (front : List Told) (next : ActsNext s h journal past x front) (keeps : KeepAt s journal past front) where
+    (starting : SetUpsStart s h journal) where
+  module _ (past : List Entry) (x : Told) (front : List Told) (next : ActsNext s h journal past x front) (keeps : KeepAt s journal past front)
+      (gives : GivesBack (facts_of (mind_at real s.key past front))) where
     abbrev m : Mind
     m = mind_at real s.key past front
 
@@ -80,7 +83,7 @@ module _ (s : Signing) (h : List Entry) (journal : List Told) (fair : IsFair s h
 
         go : (d : Deed) → x.deed ≡ d → StepAt s journal past past front (x ∷ front)
         go (deeds.Signed channel state signature) e =
-            signing-step s h journal fair known whole ends middles (payments_run s h journal fair known ends middles) starting gives past x front next channel state signature e keeps
+            signing-step s h journal fair known whole ends middles (payments_run s h journal fair known ends middles) starting past x front next gives channel state signature e keeps
         go (deeds.Commanded step None) e = commanded step x.command e refl (subst (λ (d : Deed). Allowed stages real s past m (signings front) (pending front) d x.command) e allowed)
         go (deeds.Commanded step (Some refusal)) e = refused step refusal e x.command refl
         go (deeds.Handled bytes None) e = let z = same-parts (message_of bytes) in quiet (deeds.Handled bytes None) x.command e refl (λ c. refl) z.0 z.1
@@ -89,8 +92,19 @@ module _ (s : Signing) (h : List Entry) (journal : List Told) (fair : IsFair s h
         go (deeds.Called call) e = quiet (deeds.Called call) x.command e refl (λ c. refl) refl refl
         go (deeds.Watched watcher calls) e = absurd (clash (is_watched x.deed) (ap is_watched e) next.acts)
 
-  pub steps-at : StepsAtPlaces s h journal
-  steps-at = record {
-    events = λ past x front next keeps. event-step past x front next keeps;
-    entries = λ past e front at then keeps. entry-step s h journal fair known ends middles past e front at then;
-  }
+    -- the first state of a ledger repeats the opening outcome of the part whose channel it is
+    pub event-first : (l : List ℕ) → is_ledger s.key journal l ≡ true → own_at s.key journal front l ≡ None → (first : StateParts) → own_at s.key journal (x ∷ front) l ≡ Some first → FirstBy s past front l first
+    event-first l on none first signed = go x.deed refl
+      where
+        never : (d : Deed) → x.deed ≡ d → ((c : List ℕ) → made_in c d ≡ None) → FirstBy s past front l first
+        never d e unsigned =
+            absurd (none-eq first (sym none ∙ (sym (own-quiet s h journal fair known ends middles past x front next (λ c. ap (made_in c) e ∙ unsigned c) l) ∙ signed)))
+
+        go : (d : Deed) → x.deed ≡ d → FirstBy s past front l first
+        go (deeds.Signed channel state signature) e =
+            signing-first s h journal fair known whole ends middles (payments_run s h journal fair known ends middles) starting past x front next gives channel state signature e keeps l on none first signed
+        go (deeds.Commanded step refusal) e = never (deeds.Commanded step refusal) e (λ c. refl)
+        go (deeds.Handled bytes refusal) e = never (deeds.Handled bytes refusal) e (λ c. refl)
+        go (deeds.SignedChallenge channel state who signature) e = never (deeds.SignedChallenge channel state who signature) e (λ c. refl)
+        go (deeds.Called call) e = never (deeds.Called call) e (λ c. refl)
+        go (deeds.Watched watcher calls) e = never (deeds.Watched watcher calls) e (λ c. refl)

@@ -1,13 +1,13 @@
 -- The ledgers on which a part stands: they are held, they are open while they weren't commanded to close, and what they set
 -- aside with no votes is there in full.
-use Rattle.std.proofs.Common.{◌≡◌, ℕ, ◌+◌, ◌*◌, ◌-◌, ◌<◌, ◌≤◌, Bool, true, false, ◌||◌, ◌==◌, List, ◌⊎◌, inl, refl, sym, ◌∙◌, ap, subst, arith}
+use Rattle.std.proofs.Common.{◌≡◌, ℕ, ◌+◌, ◌*◌, ◌-◌, ◌<◌, ◌≤◌, true, false, ◌==◌, List, ◌⊎◌, inl, refl, sym, ◌∙◌, ap, subst, arith}
 use Rattle.std.specs.Prelude.{Option, Some, None}
 use Rattle.std.specs.Option.{option_map}
 use Rattle.nitro_bytes.specs.Parts.{FixedParts, StateParts}
 use Rattle.nitro_bytes.specs.declared.chain.Signed.{Signed}
 use Rattle.nitro_bytes.specs.declared.value.AssetOutcome.{AssetOutcome}
-use Rattle.chain_laws.proofs.Tests.{cond-true}
-use Rattle.channel_calls.proofs.Names.{bytes_eq_self}
+use Rattle.chain_laws.proofs.Tests.{cond-true, clash}
+use Rattle.channel_calls.proofs.Names.{same_bytes}
 use Rattle.channel_calls.specs.Flows.{is_among}
 use Rattle.channel_calls.specs.History.{mode}
 use Rattle.channel_calls.specs.Marked.{marked_of}
@@ -19,7 +19,8 @@ use Rattle.deadline_clock.specs.Mode.{is_final}
 use Rattle.funding_value.specs.Parts.{ledgers_of, closed}
 use Rattle.funding_value.specs.declared.plan.Goal.{Goal}
 use Rattle.funding_value.specs.declared.plan.Part.{Part}
-use Rattle.funding_value.specs.declared.plan.Part.TheVariants.{Root}
+use Rattle.funding_value.specs.declared.plan.Part.TheVariants.{Root, OnLedger, End, Middle}
+use Rattle.funding_value.specs.declared.plan.Virtual.{Virtual}
 use Rattle.ledger_channel.specs.Roots.{Direct, root_rows}
 use Rattle.ledger_channel.specs.Stages.{stage_of_root}
 use Rattle.net_model.specs.Held.{held}
@@ -30,17 +31,15 @@ use Rattle.node_model.specs.Minds.{Mind, facts_of}
 use Rattle.node_model.specs.Places.{Told, lines_of, mind_at}
 use Rattle.node_model.specs.Playing.{Signing}
 use Rattle.node_model.specs.Refusing.{is_open, stands_in, not_open}
-use Rattle.node_share_laws.proofs.Telling.{places_tell_shares}
 use Rattle.node_share_laws.specs.Orders.{orders_of}
 use Rattle.node_tables.specs.Stages.{stages}
-use Rattle.fairness_laws.proofs.Seat.Past.{several}
+use Rattle.fairness_laws.proofs.Seat.Past.{several, two-people, one-fixed}
 use Rattle.fairness_laws.proofs.Live.{below-not, live-open}
 use Rattle.fairness_laws.proofs.Rows.{at-most}
 use Rattle.fairness_laws.proofs.Paying.{reaches-held}
 use Rattle.fairness_laws.proofs.Plan.Places.{plays-there}
-use Rattle.fairness_laws.proofs.OpenedParts.{later-took, RootOpened, root-opened}
+use Rattle.fairness_laws.proofs.OpenedParts.{later-took, root-opened}
 use Rattle.fairness_laws.proofs.Plan.Parts.{parts_are_known}
-use Rattle.fairness_laws.proofs.Plan.Plans.{plans_are_whole}
 use Rattle.fairness_laws.proofs.Seat.Sitting.{could}
 use Rattle.fairness_laws.proofs.Payment.Made.{held-ends}
 use Rattle.fairness_laws.proofs.Signing.{sits, opens-not_final}
@@ -48,24 +47,32 @@ use Rattle.fairness_laws.specs.LedgerLaws.{LedgersKeep, LedgersStand, StandsOn}
 use Rattle.fairness_laws.specs.LedgerLending.{Lent, lent}
 use Rattle.fairness_laws.specs.PaymentLaws.{At}
 use Rattle.fairness_laws.specs.PlanLaws.{PartAt}
-use Rattle.fairness_laws.specs.PlanParts.{RootIs, LedgerIs}
+use Rattle.fairness_laws.specs.PlanParts.{LedgerIs}
 use Rattle.fairness_laws.specs.PlanSeats.{SeatIs}
 use Rattle.fairness_laws.specs.PlanSettings.{IsFair}
 use Rattle.fairness_laws.specs.SeatSitting.{HeldEnds, Sits}
-use Rattle.share_model.specs.Places.{Order, plan}
-use Rattle.fairness_laws.proofs.Plan.Roots.{ledger-root}
+use Rattle.share_model.specs.Places.{Order}
+use Rattle.fairness_laws.proofs.OpenedVirtuals.{end-opened}
+use Rattle.fairness_laws.proofs.Plan.Asked.{bearer-at}
+use Rattle.fairness_laws.proofs.Plan.Bearers.{Bearer, bears-joined}
+use Rattle.fairness_laws.specs.PlanBearers.{bears}
 use Rattle.signing_laws.specs.Settled.{EndsWith, InFull}
 use Rattle.stage_rules.specs.Gathered.{goal_in}
 use Rattle.stage_rules.specs.Rows.{stage_in}
 use Rattle.stage_rules.specs.Seats.{Seat}
 use Rattle.support_chain.specs.Real.{real}
+use Rattle.virtual_channel.specs.Ends.{End as Ending, end_rows}
+use Rattle.virtual_channel.specs.Stages.{stage_of_end}
 use Rattle.wish_laws.proofs.Firsts as firsts
 use Rattle.wish_laws.proofs.Opening.{root-starts}
-use Rattle.wish_laws.specs.Opens.{Took}
 
 -- a root that wasn't commanded to close isn't closed
 early-root : (d : Direct) → d.closing ≡ false → stage_in (root_rows d) < 6
 early-root d stays = let l : stage_in (root_rows d) ≤ 3 = at-most (root_rows d) 3 stays in omega (arith, l)
+
+-- nor is an end
+early-end : (d : Ending) → d.closing ≡ false → stage_in (end_rows d) < 9
+early-end d stays = let l : stage_in (end_rows d) ≤ 5 = at-most (end_rows d) 5 stays in omega (arith, l)
 
 module _ (s : Signing) (h : List Entry) (journal : List Told) (fair : IsFair s h journal) (past : List Entry) (front : List Told) (at : At s h journal past front)
     (p : Part) (planned : In p (mind_at real s.key past front).parts) (l : List ℕ) (on : is_among l (ledgers_of p) ≡ true) where
@@ -78,28 +85,30 @@ module _ (s : Signing) (h : List Entry) (journal : List Told) (fair : IsFair s h
   abbrev orders : ℕ → Order
   orders = orders_of real s.key journal
 
-  root-in : In (Root l) m.parts
-  root-in =
-      subst (In (Root l)) (sym parts-are)
-      (ledger-root (plan orders lines) (plans_are_whole s h journal past front fair.nodes at.front_is).on_roots p (subst (In p) parts-are planned) l on)
-    where
-      parts-are : m.parts ≡ plan orders lines
-      parts-are = (places_tell_shares stages real s h journal past front fair.nodes.legal fair.nodes.plays at.front_is).parts
+  -- the part whose channel it is
+  bearer : Bearer m.parts l
+  bearer = bearer-at s h journal fair past front at l p planned on
 
-  root : PartAt s past front (Root l)
-  root = parts_are_known s h journal past front fair.nodes at.front_is (Root l) root-in
+  known : (q : Part) → In q m.parts → PartAt s past front q
+  known q i = parts_are_known s h journal past front fair.nodes at.front_is q i
 
-  root-is : RootIs s.key past lines (facts_of m) l root.goal
-  root-is = root.is
+  -- that isn't closed where it doesn't close
+  early : ((g : Goal) → goal_in (facts_of m) l ≡ Some g → g.closing ≡ false) → (q : Part) → bears l q ≡ true → PartAt s past front q → (stages.stage (facts_of m) q == closed q) ≡ false
+  early stays (Root c) e y =
+      ap (λ (d : Option Direct). stage_of_root d == 6) y.is.is
+      ∙ below-not (stage_in (root_rows y.is.direct)) 6
+      (early-root y.is.direct (y.is.closing ∙ stays y.goal (subst (λ (n : List ℕ). goal_in (facts_of m) n ≡ Some y.goal) (same_bytes c l e) y.found)))
+  early stays (OnLedger n c) e y = absurd (clash false e refl)
+  early stays (End v) e y =
+      ap (λ (d : Option Ending). stage_of_end d == 9) y.is.is
+      ∙ below-not (stage_in (end_rows y.is.end)) 9
+      (early-end y.is.end (y.is.closing ∙ stays y.goal (subst (λ (n : List ℕ). goal_in (facts_of m) n ≡ Some y.goal) (same_bytes v.channel l e) y.found)))
+  early stays (Middle v) e y = absurd (clash false e refl)
 
   -- open
   pub ledger-open : not_open stages (facts_of m) ≡ None → ((g : Goal) → goal_in (facts_of m) l ≡ Some g → g.closing ≡ false) → is_open (stands_in (facts_of m) l) ≡ true
-  ledger-open live stays = live-open (facts_of m) (Root l) l live root-in early (ap (λ (b : Bool). b || false) (bytes_eq_self l))
-    where
-      early : (stages.stage (facts_of m) (Root l) == closed (Root l)) ≡ false
-      early =
-          ap (λ (d : Option Direct). stage_of_root d == 6) root-is.is
-          ∙ below-not (stage_in (root_rows root-is.direct)) 6 (early-root root-is.direct (root-is.closing ∙ stays root.goal root.found))
+  ledger-open live stays =
+      live-open (facts_of m) bearer.part l live bearer.there (early stays bearer.part bearer.is (known bearer.part bearer.there)) (bears-joined l bearer.part bearer.is)
 
   pub ledger-going : not_open stages (facts_of m) ≡ None → ((g : Goal) → goal_in (facts_of m) l ≡ Some g → g.closing ≡ false) → is_final (mode real l past) ≡ false
   ledger-going live stays =
@@ -107,19 +116,32 @@ module _ (s : Signing) (h : List Entry) (journal : List Told) (fair : IsFair s h
 
   -- held past its set-up
   pub ledger-reaches : (f : FixedParts) (opening : List AssetOutcome) (c : Seat) → SeatIs s.key past lines f opening c → real.named f ≡ l → Reaches real f (2 * people f - 1) (held real f past lines)
-  ledger-reaches f opening c seat named = reaches
+  ledger-reaches f opening c seat named = by bearer.part bearer.there bearer.is
     where
-      ro : RootOpened s h journal fair past front at f root.goal
-      ro = root-opened s h journal fair past front at l root.goal root-in root.found f seat.own.there named
-
-      took-in : Took (commands.Open f ro.outcome) journal
-      took-in = later-took s h journal fair past front at (commands.Open f ro.outcome) ro.took
-
-      reaches : Reaches real f (2 * people f - 1) (held real f past lines)
-      reaches =
-          (firsts.lent s h journal fair.nodes.legal fair.nodes.plays (commands.Open f ro.outcome) (Root (real.named f)) f ro.outcome (2 * people f - 1) took-in (inl refl) (inl refl) (root-starts f ro.outcome) (several s.key past lines f opening c seat)
+      of-root : (n : List ℕ) → In (Root n) m.parts → n ≡ l → PartAt s past front (Root n) → Reaches real f (2 * people f - 1) (held real f past lines)
+      of-root n i same y =
+          let ro = root-opened s h journal fair past front at n y.goal i y.found f seat.own.there (named ∙ sym same) in
+          (firsts.lent s h journal fair.nodes.legal fair.nodes.plays (commands.Open f ro.outcome) (Root (real.named f)) f ro.outcome (2 * people f - 1)
+          (later-took s h journal fair past front at (commands.Open f ro.outcome) ro.took) (inl refl) (inl refl) (root-starts f ro.outcome) (several s.key past lines f opening c seat)
           at.front_is.newer front at.front_is.events (plays-there s h journal fair.nodes past front at.front_is) at.front_is.later past at.front_is.entries at.front_is.before p planned
-          (subst (λ (n : List ℕ). is_among n (ledgers_of p) ≡ true) (sym named) on)).1 (subst (λ (n : List ℕ). In (Root n) m.parts) (sym named) root-in)
+          (subst (λ (n : List ℕ). is_among n (ledgers_of p) ≡ true) (sym named) on)).1 (subst (λ (z : List ℕ). In (Root z) m.parts) (same ∙ sym named) i)
+
+      of-end : (v : Virtual) → In (End v) m.parts → v.channel ≡ l → PartAt s past front (End v) → Reaches real f (2 * people f - 1) (held real f past lines)
+      of-end v i same y =
+          let one = one-fixed s h journal fair past front at.front_is past front at.front_is y.is.fixed f y.is.seat.own.there seat.own.there (y.is.named ∙ (same ∙ sym named)) in
+          subst (λ (n : ℕ). Reaches real f n (held real f past lines))
+          (third (people f) (ap people (sym one) ∙ two-people y.is.fixed y.is.end.terms.first y.is.end.terms.second y.is.people))
+          (subst (λ (x : FixedParts). Reaches real x 3 (held real x past lines)) one
+          ((end-opened s h journal fair past front at v y.goal i y.is).borne p planned (subst (λ (n : List ℕ). is_among n (ledgers_of p) ≡ true) (sym same) on)))
+        where
+          third : (n : ℕ) → n ≡ 2 → 3 ≡ 2 * n - 1
+          third n e = omega arith
+
+      by : (q : Part) → In q m.parts → bears l q ≡ true → Reaches real f (2 * people f - 1) (held real f past lines)
+      by (Root n) i e = of-root n i (same_bytes n l e) (known (Root n) i)
+      by (OnLedger n c) i e = absurd (clash false e refl)
+      by (End v) i e = of-end v i (same_bytes v.channel l e) (known (End v) i)
+      by (Middle v) i e = absurd (clash false e refl)
 
   pub ledger-held : (f : FixedParts) (opening : List AssetOutcome) (c : Seat) (seat : SeatIs s.key past lines f opening c) → real.named f ≡ l → is_held seat.kept ≡ true
   ledger-held f opening c seat named =

@@ -37,7 +37,7 @@ use Rattle.node_model.specs.Playing.{Signing}
 use Rattle.node_model.specs.Refusing.{not_open, unfinished, has_left, are_new, open_refusal}
 use Rattle.node_share_laws.proofs.Apart.{Apart}
 use Rattle.node_share_laws.proofs.Growing.{channels_told}
-use Rattle.node_tables.specs.Fitting.{stake, can_share, lends_if_own, fits_between, fits}
+use Rattle.node_tables.specs.Fitting.{stake, can_share, fits_between, fits, lends_virtual, either_lends}
 use Rattle.node_tables.specs.Ledgers.{lends}
 use Rattle.node_tables.specs.Stages.{stages}
 use Rattle.outcome_targets.specs.Targets.{together}
@@ -70,7 +70,8 @@ use Rattle.fairness_laws.proofs.Plan.Goals.{goal-opens}
 use Rattle.fairness_laws.proofs.Ledger.Lent.{asset-of, of-a, of-b, same-name, lent-child, lent-end, lent-middle, by-kind, lends-is, named-in}
 use Rattle.fairness_laws.proofs.Ledger.Quiet.{quiet-drift, own-quiet}
 use Rattle.fairness_laws.proofs.Ledger.Whole.{alone-idle, drift-pending}
-use Rattle.fairness_laws.proofs.Plan.Fitting.{Tells, Fitted, can-open, fitted, joint-takes, own-lends, unplanned}
+use Rattle.fairness_laws.proofs.Plan.ByRoute.{true-left}
+use Rattle.fairness_laws.proofs.Plan.Fitting.{Tells, Fitted, can-open, fitted, joint-takes, unplanned}
 use Rattle.fairness_laws.proofs.Plan.Known.{OfLedger}
 use Rattle.fairness_laws.proofs.Plan.Names.{own-in, apart-cross}
 use Rattle.fairness_laws.proofs.Plan.Places.{lent-at, owns-at, plays-there, knows-there, grown-there, apart-there, fixed-there}
@@ -291,7 +292,8 @@ module _ (s : Signing) (h : List Entry) (journal : List Told) (fair : IsFair s h
       it-affords o last signed =
           covered-child o.funded.child asset b.first b.second amounts last.outcome (ap asset-of (sym o.opening ∙ ap (λ (g : Goal). g.opening) told-it))
           (ap (λ (ns : List (List ℕ)). slice_index_or ns 0 []) people) (ap (λ (ns : List (List ℕ)). slice_index_or ns 1 []) people) (sym (ap (λ (g : Goal). g.amounts) told-it) ∙ o.amounts)
-          (covers-last s h journal fair known past front (at-before s h journal fair past x front next) l asset b.first b.second amounts b.lends_them last signed (alone (commands.OpenOn l fixed asset amounts) is taken l last signed))
+          (covers-last s h journal fair known past front (at-before s h journal fair past x front next) l asset b.first b.second amounts
+          (true-left (lends (facts_of m) l (stake asset b.first b.second amounts)) (lends_virtual (facts_of m) l (stake asset b.first b.second amounts)) b.lends_them) last signed (alone (commands.OpenOn l fixed asset amounts) is taken l last signed))
         where
           b : Between (facts_of m) l asset amounts (persons fixed)
           b = between (facts_of m) l asset amounts (persons fixed) fits-it
@@ -333,7 +335,7 @@ module _ (s : Signing) (h : List Entry) (journal : List Told) (fair : IsFair s h
       valid : (f : FixedParts) → In f (adds s.key (Some virtually)) → IsFixed f
       valid f i = fixed-there s h journal fair.nodes past (x ∷ front) next.then f (in-new f i)
 
-      on-ledger : (name first second : List ℕ) (n : ℕ) (ab : ℕ × ℕ) → lends (facts_of m) name (stake n first second ab) ≡ true → OfLedger (channels_told s.key front) m.parts first second name
+      on-ledger : (name first second : List ℕ) (n : ℕ) (ab : ℕ × ℕ) → either_lends (facts_of m) name (stake n first second ab) ≡ true → OfLedger (channels_told s.key front) m.parts first second name
       on-ledger =
           lent-at s h journal fair.nodes past front next.place.few next.place.later next.place.entries (plays-there s h journal fair.nodes past front next.place) next.place.before (knows-there s h journal fair.nodes past front next.place)
 
@@ -359,26 +361,24 @@ module _ (s : Signing) (h : List Entry) (journal : List Told) (fair : IsFair s h
             same =
                 one-fixed s h journal fair past (x ∷ front) next.then past (x ∷ front) next.then j.fixed joint j.seat.own.there joint-there j.named
 
-        pub first-lends : In (name_of_person s.key) (t.first ∷ t.middle ∷ []) → lends (facts_of m) ledgers.0 (stake asset t.first t.middle amounts) ≡ true
-        first-lends i =
-            own-lends (facts_of m) ledgers.0 t.first t.middle asset amounts
-            (subst (λ (ns : List (List ℕ)). lends_if_own (facts_of m) ledgers.0 (stake asset (slice_index_or ns 0 []) (slice_index_or ns 1 []) amounts) ≡ true) three fit.lends_a)
-            (subst (λ (key : List ℕ). In (name_of_person key) (t.first ∷ t.middle ∷ [])) (sym mine) i)
+        pub first-lends : In (name_of_person s.key) (t.first ∷ t.middle ∷ []) → either_lends (facts_of m) ledgers.0 (stake asset t.first t.middle amounts) ≡ true
+        first-lends =
+            subst (λ (ns : List (List ℕ)). In (name_of_person s.key) (slice_index_or ns 0 [] ∷ slice_index_or ns 1 [] ∷ [])
+            → either_lends (facts_of m) ledgers.0 (stake asset (slice_index_or ns 0 []) (slice_index_or ns 1 []) amounts) ≡ true) three fit.lends_a
 
-        pub second-lends : In (name_of_person s.key) (t.middle ∷ t.second ∷ []) → lends (facts_of m) ledgers.1 (stake asset t.middle t.second amounts) ≡ true
-        second-lends i =
-            own-lends (facts_of m) ledgers.1 t.middle t.second asset amounts
-            (subst (λ (ns : List (List ℕ)). lends_if_own (facts_of m) ledgers.1 (stake asset (slice_index_or ns 1 []) (slice_index_or ns 2 []) amounts) ≡ true) three fit.lends_b)
-            (subst (λ (key : List ℕ). In (name_of_person key) (t.middle ∷ t.second ∷ [])) (sym mine) i)
+        pub second-lends : In (name_of_person s.key) (t.middle ∷ t.second ∷ []) → either_lends (facts_of m) ledgers.1 (stake asset t.middle t.second amounts) ≡ true
+        second-lends =
+            subst (λ (ns : List (List ℕ)). In (name_of_person s.key) (slice_index_or ns 1 [] ∷ slice_index_or ns 2 [] ∷ [])
+            → either_lends (facts_of m) ledgers.1 (stake asset (slice_index_or ns 1 []) (slice_index_or ns 2 []) amounts) ≡ true) three fit.lends_b
 
         -- at an end
         pub end-lends : (b : Bool) → cond b t.second t.first ≡ name_of_person s.key
-            → lends (facts_of m) (cond b ledgers.1 ledgers.0) (stake asset (cond b t.middle t.first) (cond b t.second t.middle) amounts) ≡ true
+            → either_lends (facts_of m) (cond b ledgers.1 ledgers.0) (stake asset (cond b t.middle t.first) (cond b t.second t.middle) amounts) ≡ true
         end-lends true me = second-lends (inr (inl (sym me)))
         end-lends false me = first-lends (inl (sym me))
 
       -- what lends affords the child
-      child-affords : (l first second name : List ℕ) → lends (facts_of m) l (stake asset first second amounts) ≡ true → (g : Goal) → g.amounts ≡ amounts → (k : Child) → ChildIs v g first second name k
+      child-affords : (l first second name : List ℕ) → either_lends (facts_of m) l (stake asset first second amounts) ≡ true → (g : Goal) → g.amounts ≡ amounts → (k : Child) → ChildIs v g first second name k
           → (last : StateParts) → own_at s.key journal front l ≡ Some last → HaveItems k last.outcome × Afford k last.outcome
       child-affords l first second name lent g told k child last signed =
           covered-child k asset first second amounts last.outcome child.asset child.one child.other (sym told ∙ child.amounts)

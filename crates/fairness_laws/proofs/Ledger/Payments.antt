@@ -40,7 +40,7 @@ use Rattle.fairness_laws.specs.PaymentLaws.{ActsNext}
 use Rattle.fairness_laws.specs.PlanLaws.{PartsAreKnown}
 use Rattle.fairness_laws.specs.PlanSettings.{IsFair}
 use Rattle.node_share_laws.specs.Orders.{orders_of}
-use Rattle.node_tables.specs.Ledgers.{is_root_of}
+use Rattle.fairness_laws.specs.PlanBearers.{bears}
 use Rattle.share_laws.proofs.Finality.{opened-there}
 use Rattle.share_model.specs.Places.{channels, plan}
 use Rattle.support_chain.specs.Real.{real}
@@ -149,7 +149,7 @@ module _ (s : Signing) (h : List Entry) (journal : List Told) (fair : IsFair s h
       go (inr off) = off
       go (inl on) =
           absurd (never (any-in (λ f. bytes_eq (real.named f) paid && (f.app == 0)) (channels (lines_of s.key journal))
-          (and-left (list_any (λ f. bytes_eq (real.named f) paid && (f.app == 0)) (channels (lines_of s.key journal))) (list_any (is_root_of paid) (plan (orders_of real s.key journal) (lines_of s.key journal))) on)))
+          (and-left (list_any (λ f. bytes_eq (real.named f) paid && (f.app == 0)) (channels (lines_of s.key journal))) (list_any (bears paid) (plan (orders_of real s.key journal) (lines_of s.key journal))) on)))
 
   -- ---- it went up
 

@@ -8,8 +8,8 @@ use Rattle.nitro_bytes.specs.Parts.{FixedParts, StateParts, IsState, state_with}
 use Rattle.nitro_bytes.specs.declared.chain.Signed.{Signed}
 use Rattle.nitro_bytes.specs.declared.value.AssetOutcome.{AssetOutcome}
 use Rattle.app_rules.specs.Rules.{is_same_outcome}
-use Rattle.chain_laws.proofs.Tests.{some-eq, none-eq, and-left, and-right, cond-true, clash, lt-true, le-true}
-use Rattle.channel_calls.specs.Flows.{is_among}
+use Rattle.chain_laws.proofs.Tests.{some-eq, and-left, and-right, cond-true, clash, lt-true, le-true}
+use Rattle.channel_calls.proofs.Names.{same_bytes}
 use Rattle.channel_calls.specs.Marked.{Marked, marked_of, is_supported, next_after}
 use Rattle.channel_calls.specs.declared.entry.Entry.{Entry}
 use Rattle.channel_model.specs.Rules.{people}
@@ -18,15 +18,14 @@ use Rattle.channel_store.specs.declared.kept.Kept.{Kept}
 use Rattle.funding_value.specs.Parts.{ledgers_of}
 use Rattle.funding_value.specs.declared.plan.Goal.{Goal}
 use Rattle.funding_value.specs.declared.plan.Part.{Part}
-use Rattle.funding_value.specs.declared.plan.Part.TheVariants.{Root}
-use Rattle.ledger_channel.specs.Roots.{Direct}
-use Rattle.ledger_channel.specs.Stages.{direct_with, direct_of, direct_in}
+use Rattle.funding_value.specs.declared.plan.Part.TheVariants.{Root, OnLedger, End, Middle}
+use Rattle.funding_value.specs.declared.plan.Virtual.{Virtual}
 use Rattle.fairness_laws.proofs.Ledger.Plans.{ledger-app}
 use Rattle.fairness_laws.proofs.Apps.{no-payments}
 use Rattle.fairness_laws.proofs.Ledger.Lent.{by-kind}
 use Rattle.fairness_laws.proofs.EventPlaces.{at-before}
 use Rattle.fairness_laws.proofs.Seat.Held.{held-top, tops, top-could, top-valid}
-use Rattle.fairness_laws.proofs.Seat.Past.{signed-held, supported, people-are, several as several-are}
+use Rattle.fairness_laws.proofs.Seat.Past.{signed-held, supported, people-are, one-fixed}
 use Rattle.fairness_laws.specs.LedgerLending.{Lent, lent}
 use Rattle.fairness_laws.specs.LedgerPlaces.{is_ledger, own_at}
 use Rattle.fairness_laws.specs.LedgerEvents.{SetUpsStart}
@@ -37,54 +36,31 @@ use Rattle.net_party.specs.declared.command.Command.TheVariants as commands
 use Rattle.node_model.specs.Minds.{Mind, facts_of}
 use Rattle.node_model.specs.Places.{Told, lines_of, mind_at}
 use Rattle.node_model.specs.Playing.{Signing}
-use Rattle.fairness_laws.proofs.Opening.Seated.{seated}
+use Rattle.fairness_laws.proofs.Ledger.Full.{ledger-held}
+use Rattle.fairness_laws.proofs.OpenedVirtuals.{end-opened}
 use Rattle.history_laws.proofs.Places.{made-noted}
 use Rattle.fairness_laws.proofs.Payment.Made.{made-deed}
-use Rattle.fairness_laws.proofs.OpenedParts.{later-took, RootOpened, root-opened}
+use Rattle.fairness_laws.proofs.OpenedParts.{later-took, root-opened}
 use Rattle.fairness_laws.specs.PaymentLaws.{At, ActsNext}
 use Rattle.fairness_laws.proofs.Plan.Names.{in-among}
 use Rattle.fairness_laws.proofs.Plan.Parts.{parts_are_known}
 use Rattle.fairness_laws.proofs.Plan.Plans.{plans_are_whole}
-use Rattle.fairness_laws.specs.PlanParts.{RootIs}
+use Rattle.fairness_laws.specs.PlanBearers.{bears}
+use Rattle.fairness_laws.specs.PlanLaws.{PartAt}
+use Rattle.fairness_laws.specs.PlanSeats.{SeatIs}
 use Rattle.fairness_laws.specs.PlanSettings.{IsFair}
 use Rattle.share_laws.proofs.Fronts.{last-line}
 use Rattle.share_model.specs.Places.{last_made, outcomes_of}
-use Rattle.stage_rules.specs.Gathered.{goal_in, seat_in, seat_for, seat_with, chain_in, view_in}
+use Rattle.stage_rules.specs.Gathered.{goal_in}
 use Rattle.stage_rules.specs.Seats.{Seat, is_turn, repeats}
 use Rattle.outcome_targets.specs.Limits.{is_valid}
 use Rattle.support_chain.specs.Real.{real}
 use Rattle.support_laws.proofs.Consensus.{same_outcome}
-use Rattle.wish_laws.proofs.Firsts.{Starts}
-use Rattle.wish_laws.proofs.Firsts as firsts
-use Rattle.wish_laws.proofs.Opening.{open-goal, root-starts, roots_open_with}
+use Rattle.wish_laws.proofs.Opening.{open-goal, roots_open_with}
 use Rattle.wish_laws.proofs.Roots.{Whens, when-some}
 use Rattle.wish_laws.specs.Carried.{OpensWith, IsRepeatedIfAny}
-use Rattle.wish_laws.specs.Opens.{Took}
 use Rattle.wish_laws.specs.Roots.{is_repeated}
 use Rattle.fairness_laws.proofs.Channels.{channel-of, carried}
-use Rattle.fairness_laws.proofs.Paying.{Started, reaches-held}
-use Rattle.fairness_laws.proofs.Plan.Places.{plays-there}
-
--- ---- a root and its goal
-
--- the goal of the facts of a root
-record RootGoal (m : Mind) (name : List ℕ) (d : Direct) : Type 0 where
-  goal : Goal
-  found : goal_in (facts_of m) name ≡ Some goal
-  opening : d.channel.opening ≡ goal.opening
-
-root-goal : (m : Mind) (name : List ℕ) (d : Direct) → direct_in (facts_of m) name ≡ Some d → RootGoal m name d
-root-goal m name d e = go (goal_in (facts_of m) name) refl (seat_in (facts_of m) name) refl e
-  where
-    go : (g : Option Goal) → goal_in (facts_of m) name ≡ g → (c : Option Seat) → seat_in (facts_of m) name ≡ c → direct_of (facts_of m) name c g ≡ Some d → RootGoal m name d
-    go None is None seat-is e = absurd (none-eq d e)
-    go None is (Some c) seat-is e = absurd (none-eq d e)
-    go (Some g) is None seat-is e = absurd (none-eq d e)
-    go (Some g) is (Some c) seat-is e =
-        let same : direct_with (facts_of m) c g (chain_in name (facts_of m).chains) (view_in name (facts_of m).view.channels) ≡ d =
-        some-eq (direct_with (facts_of m) c g (chain_in name (facts_of m).chains) (view_in name (facts_of m).view.channels)) d e in
-        let seat : seat_with (facts_of m) name g.opening ≡ Some c = sym (ap (seat_for (facts_of m) name) is) ∙ seat-is in
-        record { goal = g; found = is; opening = sym (ap (λ (x : Direct). x.channel.opening) same) ∙ (seated m name g.opening c seat).opening_is }
 
 -- ---- small things
 
@@ -117,44 +93,34 @@ module _ (s : Signing) (h : List Entry) (journal : List Told) (fair : IsFair s h
       by-kind s past front (λ (n : List ℕ) (q : Part) (j : Lent). In n (ledgers_of q)) p (parts_are_known s h journal past front fair.nodes next.place p i)
       (λ n c g o same found. inl refl) (λ v g e same found. inl refl) (λ v g y same found. inl refl) (λ v g y same found differ. inr (inl refl)) l k lends
 
-  module _ (r : List ℕ) (g : Goal) (i : In (Root r) m.parts) (on : is_ledger s.key journal r ≡ true) (root : RootIs s.key past lines (facts_of m) r g) where
-    abbrev c : Seat
-    c = root.direct.channel
-
-    abbrev f : FixedParts
-    f = root.fixed
-
+  module _ (b : Part) (r : List ℕ) (g : Goal) (i : In b m.parts) (bearing : bears r b ≡ true) (found : goal_in (facts_of m) r ≡ Some g) (on : is_ledger s.key journal r ≡ true)
+      (f : FixedParts) (c : Seat) (seat : SeatIs s.key past lines f g.opening c) (named : real.named f ≡ r) where
     abbrev k : Kept
-    k = root.seat.kept
-
-    of-goal : RootGoal m r root.direct
-    of-goal = root-goal m r root.direct root.is
-
-    ro : RootOpened s h journal fair past front at-here f of-goal.goal
-    ro = root-opened s h journal fair past front at-here r of-goal.goal i of-goal.found f root.seat.own.there root.named
-
-    opening-is : g.opening ≡ ro.outcome
-    opening-is = sym (ap (λ (z : Seat). z.opening) root.seat.is) ∙ of-goal.opening ∙ open-goal f ro.outcome of-goal.goal ro.goal
-
-    took-here : Took (commands.Open f g.opening) front
-    took-here = subst (λ (o : List AssetOutcome). Took (commands.Open f o) front) (sym opening-is) ro.took
-
-    took-in : Took (commands.Open f g.opening) journal
-    took-in = later-took s h journal fair past front at-here (commands.Open f g.opening) took-here
+    k = seat.kept
 
     opens : OpensWith f g.opening (lines_of s.key journal)
-    opens = roots_open_with s h journal fair.nodes.legal fair.nodes.plays f g.opening took-in
+    opens = by b i bearing
+      where
+        of-end : (v : Virtual) → In (End v) m.parts → v.channel ≡ r → PartAt s past front (End v) → OpensWith f g.opening (lines_of s.key journal)
+        of-end v j same y =
+            let goal-is = some-eq y.goal g (sym y.found ∙ subst (λ (n : List ℕ). goal_in (facts_of m) n ≡ Some g) (sym same) found) in
+            subst (λ (z : FixedParts). OpensWith z g.opening (lines_of s.key journal))
+            (one-fixed s h journal fair past front next.place past front next.place y.is.fixed f y.is.seat.own.there seat.own.there (y.is.named ∙ (same ∙ sym named)))
+            (subst (λ (o : List AssetOutcome). OpensWith y.is.fixed o (lines_of s.key journal)) (ap (λ (z : Goal). z.opening) goal-is) (end-opened s h journal fair past front at-here v y.goal j y.is).opens)
 
-    started : Started s.key (commands.Open f g.opening) f
-    started = record { p = Root (real.named f); of = inl refl; opening = g.opening; turn = _; starts = root-starts f g.opening }
+        by : (q : Part) → In q m.parts → bears r q ≡ true → OpensWith f g.opening (lines_of s.key journal)
+        by (Root n) j e =
+            let ro = root-opened s h journal fair past front at-here r g (subst (λ (z : List ℕ). In (Root z) m.parts) (same_bytes n r e) j) found f seat.own.there named in
+            subst (λ (o : List AssetOutcome). OpensWith f o (lines_of s.key journal)) (sym (open-goal f ro.outcome g ro.goal))
+            (roots_open_with s h journal fair.nodes.legal fair.nodes.plays f ro.outcome (later-took s h journal fair past front at-here (commands.Open f ro.outcome) ro.took))
+        by (OnLedger l n) j e = absurd (clash false e refl)
+        by (End v) j e = of-end v j (same_bytes v.channel r e) (parts_are_known s h journal past front fair.nodes next.place (End v) j)
+        by (Middle v) j e = absurd (clash false e refl)
 
     own-is : (o : Option Signed) → last_made (real.named f) lines ≡ o → own_at s.key journal front r ≡ option_map (λ t. t.state) o
     own-is o e =
         cond-true (is_ledger s.key journal r) (option_map (λ t. t.state) (last_made r lines)) None on
-        ∙ ap (option_map (λ t. t.state)) (ap (λ (n : List ℕ). last_made n lines) (sym root.named) ∙ e)
-
-    several : 1 ≤ people f
-    several = several-are s.key past lines f g.opening c root.seat
+        ∙ ap (option_map (λ t. t.state)) (ap (λ (n : List ℕ). last_made n lines) (sym named) ∙ e)
 
     -- ---- what it wants
 
@@ -168,13 +134,13 @@ module _ (s : Signing) (h : List Entry) (journal : List Told) (fair : IsFair s h
       w = when-some (nat_le from c.next && nat_lt c.next until && is_turn c && is_valid c.opening) (state_with c.next false c.opening []) state wants
 
       outcome-is : state.outcome ≡ g.opening
-      outcome-is = ap (λ (t : StateParts). t.outcome) (sym w.is) ∙ ap (λ (z : Seat). z.opening) root.seat.is
+      outcome-is = ap (λ (t : StateParts). t.outcome) (sym w.is) ∙ ap (λ (z : Seat). z.opening) seat.is
 
       small : c.next < 2 * people f
       small =
           let turns = and-left (nat_le from c.next && nat_lt c.next until) (is_turn c) (and-left (nat_le from c.next && nat_lt c.next until && is_turn c) (is_valid c.opening) w.holds) in
           let l : c.next < until = lt-true c.next until (and-right (nat_le from c.next) (nat_lt c.next until) turns) in
-          let n : length c.people ≡ people f = people-are s.key past lines f g.opening c root.seat in
+          let n : length c.people ≡ people f = people-are s.key past lines f g.opening c seat in
           omega (arith, few)
 
       -- what repeats the opening outcome has it
@@ -185,28 +151,27 @@ module _ (s : Signing) (h : List Entry) (journal : List Told) (fair : IsFair s h
       -- where a chain is held
       when-held : is_held k ≡ true → Answer
       when-held e =
-          let q = held-top s h journal fair past front at-here f g.opening c root.seat e in
+          let q = held-top s h journal fair past front at-here f g.opening c seat e in
           let top : StateParts = q.0 in
-          let t = tops s h journal fair past front at-here f g.opening c root.seat top q.1 in
-          let next-is : c.next ≡ top.turn + 1 = ap (λ (z : Seat). z.next) root.seat.is ∙ ap next_after t.newest_is in
+          let t = tops s h journal fair past front at-here f g.opening c seat top q.1 in
+          let next-is : c.next ≡ top.turn + 1 = ap (λ (z : Seat). z.next) seat.is ∙ ap next_after t.newest_is in
           let low : c.next < 2 * people f = small in
           let repeated : is_repeated g.opening top ≡ true =
-          (subst (IsRepeatedIfAny f g.opening) root.seat.at.chain
-          (carried s h journal fair past front at-here f g.opening (channel-of s h journal past front at-here f root.seat.own.there k.me root.seat.mine) opens)) top t.newest_is (omega arith) in
+          (subst (IsRepeatedIfAny f g.opening) seat.at.chain
+          (carried s h journal fair past front at-here f g.opening (channel-of s h journal past front at-here f seat.own.there k.me seat.mine) opens)) top t.newest_is (omega arith) in
           inl (
             t.last.state,
             own-is (Some t.last) t.is,
             subst (λ (o : List AssetOutcome). In o (outcomes_of t.last.state))
-                (sym (same-as top (top-valid s h journal fair past front at-here f g.opening c root.seat top t) repeated))
-                (top-could s h journal fair past front at-here f g.opening c root.seat other top t),
+                (sym (same-as top (top-valid s h journal fair past front at-here f g.opening c seat top t) repeated))
+                (top-could s h journal fair past front at-here f g.opening c seat other top t),
           )
         where
           other : f.app ≢ 1
-          other = no-payments f (ledger-app s h journal fair plans_are_whole past front next.place r on f root.seat.own.there root.named)
+          other = no-payments f (ledger-app s h journal fair plans_are_whole past front next.place r on f seat.own.there named)
 
       -- in the first round
       when-young : is_held k ≡ false → Answer
-      unfolding started
       when-young e = go (last_made (real.named f) lines) refl
         where
           go : (o : Option Signed) → last_made (real.named f) lines ≡ o → Answer
@@ -214,11 +179,8 @@ module _ (s : Signing) (h : List Entry) (journal : List Told) (fair : IsFair s h
             where
               none : (p : Part) (j : Lent) → In p m.parts → lent (facts_of m) r p ≡ Some j → ⊥
               none p j there lends =
-                  let l = firsts.lent s h journal fair.nodes.legal fair.nodes.plays (commands.Open f g.opening) (Root (real.named f)) f g.opening started.turn took-in (inl refl) (inl refl) started.starts several
-                  next.place.newer front next.place.events (plays-there s h journal fair.nodes past front next.place) next.place.later past next.place.entries next.place.before p there
-                  (subst (λ (n : List ℕ). is_among n (ledgers_of p) ≡ true) (sym root.named) (in-among r (ledgers_of p) (stands-on p there r j lends))) in
                   clash (is_held k)
-                  (reaches-held s h journal fair past front at-here f k root.seat.at started.turn started.starts.enough (l.1 (subst (λ (n : List ℕ). In (Root n) m.parts) (sym root.named) i))) e
+                  (ledger-held s h journal fair past front at-here p there r (in-among r (ledgers_of p) (stands-on p there r j lends)) f g.opening c seat named) e
           go (Some t) is = inl (t.state, own-is (Some t) is, inl (same-as t.state valid-there repeated))
             where
               line : (y : Line) × (In y lines) × (made_in (real.named f) y.deed ≡ Some t)
@@ -235,9 +197,9 @@ module _ (s : Signing) (h : List Entry) (journal : List Told) (fair : IsFair s h
                 where
                   far : people f ≤ t.state.turn + 1 → ⊥
                   far high =
-                      let n = signed-held s h journal fair.nodes past front next.place f root.seat.own.there t is high in
-                      let same : marked_of k.chain ≡ n.latest = some-eq (marked_of k.chain) n.latest (sym root.seat.at.chain ∙ n.is) in
-                      clash (is_held k) (supported s.key past lines f g.opening c root.seat ∙ subst (λ (z : Marked). is_supported real f z ≡ true) (sym same) n.chain) e
+                      let n = signed-held s h journal fair.nodes past front next.place f seat.own.there t is high in
+                      let same : marked_of k.chain ≡ n.latest = some-eq (marked_of k.chain) n.latest (sym seat.at.chain ∙ n.is) in
+                      clash (is_held k) (supported s.key past lines f g.opening c seat ∙ subst (λ (z : Marked). is_supported real f z ≡ true) (sym same) n.chain) e
 
               repeated : is_repeated g.opening t.state ≡ true
               repeated = opens line.0 t in-journal (made-noted (real.named f) line.0.deed t line.2) low
@@ -250,4 +212,5 @@ module _ (s : Signing) (h : List Entry) (journal : List Told) (fair : IsFair s h
           go false e = when-young e
 
 pub set_ups : (s : Signing) (h : List Entry) (journal : List Told) → IsFair s h journal → SetUpsStart s h journal
-set_ups s h journal fair past x front next r g i on root from until state valid few wants = answers s h journal fair past x front next r g i on root from until state valid few wants
+set_ups s h journal fair past x front next b r g i bearing found on f c seat named from until state valid few wants =
+    answers s h journal fair past x front next b r g i bearing found on f c seat named from until state valid few wants

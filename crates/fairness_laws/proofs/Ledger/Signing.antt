@@ -1,12 +1,12 @@
 -- A node signs a state: of a ledger, which moves, or of another channel, by which a part goes past its set-up only once its ledgers
 -- have gone up.
 use Rattle.std.proofs.Common.{◌≡◌, ◌≢◌, ℕ, ◌*◌, ◌^◌, ◌<◌, ◌≤◌, Bool, true, false, cond, ◌&&◌, ◌||◌, List, [], ◌∷◌, ◌⊎◌, inl, inr, length, refl, sym, ◌∙◌, ap, subst, arith}
-use Rattle.std.specs.Prelude.{◌==◌, nat_le, nat_lt, Option, Some, None}
+use Rattle.std.specs.Prelude.{◌==◌, nat_le, nat_lt, slice_index_or, Option, Some, None}
 use Rattle.std.specs.List.{list_all}
 use Rattle.std.specs.Option.{option_map, option_or}
 use Rattle.std.specs.Str.{bytes_eq}
 use Rattle.nitro_bytes.specs.Outcomes.{is_same, IsOutcome}
-use Rattle.nitro_bytes.specs.Parts.{StateParts, state_with, IsState}
+use Rattle.nitro_bytes.specs.Parts.{FixedParts, StateParts, state_with, IsState}
 use Rattle.nitro_bytes.specs.declared.chain.Signed.{Signed}
 use Rattle.nitro_bytes.specs.declared.value.AssetOutcome.{AssetOutcome}
 use Rattle.nitro_bytes.specs.declared.value.Dest.{Dest}
@@ -24,7 +24,7 @@ use Rattle.channel_calls.specs.declared.event.Deed.{Deed}
 use Rattle.channel_calls.specs.declared.event.Deed.TheVariants as deeds
 use Rattle.channel_model.specs.Amounts.{has}
 use Rattle.channel_model.specs.Rules.{people}
-use Rattle.funding_value.specs.Parts.{channels_of, joined_of, ledgers_of}
+use Rattle.funding_value.specs.Parts.{channels_of, joined_of, ledgers_of, own_ledger, own_guarantor}
 use Rattle.funding_value.specs.Shapes.{items_of, items_in}
 use Rattle.funding_value.specs.declared.plan.Goal.{Goal}
 use Rattle.funding_value.specs.declared.plan.Part.{Part}
@@ -46,9 +46,12 @@ use Rattle.outcome_targets.specs.Limits.{is_valid}
 use Rattle.outcome_targets.specs.declared.terms.Terms.{Terms}
 use Rattle.plan_stages.specs.Asked.{asked_in, wanted_of}
 use Rattle.share_model.specs.Places.{last_made, outcomes_of}
-use Rattle.stage_rules.specs.Seats.{Seat, has_signed_past, repeats, final_after, has_no_data, toward_after, settled_on, up_in, up_after, down_after, is_turn}
+use Rattle.stage_rules.specs.Gathered.{goal_in}
+use Rattle.stage_rules.specs.Seats.{Seat, has_signed_past, repeats, final_state, final_after, has_no_data, toward_after, settled_on, up_in, up_after, down_after, is_turn}
 use Rattle.support_chain.specs.Real.{real}
 use Rattle.support_chain.specs.Steps.{persons}
+use Rattle.virtual_channel.specs.Ends.{End}
+use Rattle.virtual_channel.specs.Stages.{wanted_of_end}
 use Rattle.wish_laws.proofs.Finding.{asked-there, flips}
 use Rattle.wish_laws.proofs.Firsts.{joined-among}
 use Rattle.wish_laws.proofs.Picking.{IsWanted}
@@ -62,11 +65,13 @@ use Rattle.fairness_laws.specs.LedgerKeeping.{HasGoneUp, Drifts, ChildrenApart, 
 use Rattle.fairness_laws.specs.LedgerKeeping as keeping
 use Rattle.fairness_laws.specs.LedgerLending.{Lent, of_funded}
 use Rattle.fairness_laws.specs.LedgerPlaces.{is_ledger, own_at, lends_at, KeepAt, drifts, moves, starts, StepAt}
-use Rattle.fairness_laws.specs.LedgerEvents.{PaymentsRun, SetUpsStart, GivesBackAt}
+use Rattle.fairness_laws.specs.LedgerEvents.{PaymentsRun, SetUpsStart}
+use Rattle.fairness_laws.specs.LedgerLaws.{GivesBack}
 use Rattle.fairness_laws.specs.LedgerWanting.{WantsOn}
 use Rattle.fairness_laws.specs.LedgerWanting as wanting
 use Rattle.fairness_laws.specs.PlanLaws.{PartAt, PartsAreKnown, PlansAreWhole}
-use Rattle.fairness_laws.specs.PlanParts.{RootIs, OnLedgerIs, JointIs}
+use Rattle.fairness_laws.specs.PlanParts.{RootIs, OnLedgerIs, EndIs, JointIs}
+use Rattle.fairness_laws.specs.PlanSeats.{SeatIs}
 use Rattle.fairness_laws.specs.PlanSettings.{IsFair}
 use Rattle.fairness_laws.proofs.Ledger.Aiming.{wants_move}
 use Rattle.fairness_laws.proofs.Ledger.Asking.{Signs, pays, wants, signs-what, asked-about}
@@ -82,7 +87,11 @@ use Rattle.fairness_laws.proofs.Ledger.Quiet.{grows-by, happens}
 use Rattle.fairness_laws.proofs.Ledger.Ready.{Rests, part-at}
 use Rattle.fairness_laws.proofs.Ledger.Rising.{went-up}
 use Rattle.fairness_laws.proofs.Plan.Names.{among-in}
-use Rattle.fairness_laws.proofs.Ledger.Wishes.{GateWants, gate-size, gate-among, named-among, lent-is, ledger-is, stands-lent, no-ledger, gate-people, gate-wants, wants-on}
+use Rattle.fairness_laws.proofs.Ledger.Wishes.{GateWants, gate-size, gate-among, gate-off, named-among, lent-is, ledger-is, stands-lent, no-ledger, gate-people, gate-wants, wants-on, end-differs}
+use Rattle.fairness_laws.proofs.Joint.Rows.{EndWants, end-wants}
+use Rattle.fairness_laws.proofs.Joint.Terms.{channel-no_ledger}
+use Rattle.fairness_laws.proofs.Joint.Rows as ending
+use Rattle.fairness_laws.specs.PlanBearers.{bears}
 
 -- people alone have items in an outcome that is shared among people
 one-person : (people : List (List ℕ)) (y : List ℕ) → is_one_of people (Channel y) ≡ false
@@ -109,8 +118,18 @@ shared-none people asset y (o ∷ os) e = go (o.asset == asset) (and-left (is_sh
     go true e rest = shape o.shape e
     go false e rest = rest
 
+-- a first state of a ledger repeats the opening outcome of the part whose channel that is
+pub record FirstBy (s : Signing) (past : List Entry) (front : List Told) (l : List ℕ) (first : StateParts) : Type 0 where
+  pub part : Part
+  pub there : In part (mind_at real s.key past front).parts
+  pub bearing : bears l part ≡ true
+  pub goal : Goal
+  pub found : goal_in (facts_of (mind_at real s.key past front)) l ≡ Some goal
+  pub is : first.outcome ≡ goal.opening
+
 module _ (s : Signing) (h : List Entry) (journal : List Told) (fair : IsFair s h journal) (known : PartsAreKnown) (whole : PlansAreWhole) (ends : EndsKeep) (middles : MiddlesKeep)
-    (paying : PaymentsRun s h journal) (starting : SetUpsStart s h journal) (gives : GivesBackAt s h journal) (past : List Entry) (x : Told) (front : List Told) (next : ActsNext s h journal past x front)
+    (paying : PaymentsRun s h journal) (starting : SetUpsStart s h journal) (past : List Entry) (x : Told) (front : List Told) (next : ActsNext s h journal past x front)
+    (gives : GivesBack (facts_of (mind_at real s.key past front)))
     (channel : List ℕ) (state : StateParts) (signature : List ℕ) (deed : x.deed ≡ deeds.Signed channel state signature) (keeps : KeepAt s journal past front) where
   abbrev m : Mind
   m = mind_at real s.key past front
@@ -235,10 +254,10 @@ module _ (s : Signing) (h : List Entry) (journal : List Told) (fair : IsFair s h
   -- what is signed in the channel that tells whether the ledger has gone up
   module _ (l : List ℕ) (p : Part) (k : Lent) (i : In p m.parts) (is : lends_at s past front l p ≡ Some k) (same : channel ≡ gate-of p) where
     off-ledger : is_ledger s.key journal channel ≡ false
-    off-ledger = ap (is_ledger s.key journal) same ∙ no-ledger s h journal fair known whole ends middles past x front next p i (other p is) (gate-of p) (gate-among p)
-      where
-        other : (p : Part) → lends_at s past front l p ≡ Some k → (r : List ℕ) → p ≡ kinds.Root r → ⊥
-        other p e r root = none-eq k (subst (λ (z : Part). lends_at s past front l z ≡ Some k) root e)
+    off-ledger =
+        ap (is_ledger s.key journal) same
+        ∙ no-ledger s h journal fair known whole ends middles past x front next p i (gate-of p)
+        (gate-off s h journal fair known whole ends middles past x front next p i l k is) (gate-among p)
 
     wanted-there : Asked → GateWants p k state
     wanted-there y =
@@ -340,6 +359,9 @@ module _ (s : Signing) (h : List Entry) (journal : List Told) (fair : IsFair s h
 
   -- ---- a ledger
 
+  abbrev Signing-step : Type 0
+  Signing-step = StepAt s journal past past front (x ∷ front) × (own_at s.key journal front channel ≡ None → FirstBy s past front channel state)
+
   module _ (on : is_ledger s.key journal channel ≡ true) where
     drift : Drifts m.parts (lends_at s past front) (lends_at s past (x ∷ front)) (own_at s.key journal (x ∷ front))
     drift = drift-with (own_at s.key journal (x ∷ front)) (λ l p k i is same last signed. absurd (clash (is_ledger s.key journal channel) on (off-ledger l p k i is same)))
@@ -362,12 +384,13 @@ module _ (s : Signing) (h : List Entry) (journal : List Told) (fair : IsFair s h
         (subst (λ (n : List ℕ). is_among n (channels_of q) ≡ true) (sym name) (named-among channel q))
 
     moves-so : (last : StateParts) (now : List AssetOutcome) → own_at s.key journal front channel ≡ Some last → In now (outcomes_of last) → IsOutcome now
-        → Moves m.parts (lends_at s past front) channel now state → StepAt s journal past past front (x ∷ front)
-    moves-so last now signed could valid move = moves channel last state now parts-stay drift signed could valid children-apart move own-now own-other
+        → Moves m.parts (lends_at s past front) channel now state → Signing-step
+    moves-so last now signed could valid move =
+        (moves channel last state now parts-stay drift signed could valid children-apart move own-now own-other, λ none. absurd (none-eq last (sym none ∙ signed)))
 
     -- ---- for a part on it
 
-    by-lent : (p : Part) (i : In p m.parts) (k : Lent) (is : lends_at s past front channel p ≡ Some k) → wanted_of (facts_of m) channel (Some p) ≡ Some state → StepAt s journal past past front (x ∷ front)
+    by-lent : (p : Part) (i : In p m.parts) (k : Lent) (is : lends_at s past front channel p ≡ Some k) → wanted_of (facts_of m) channel (Some p) ≡ Some state → Signing-step
     by-lent p i k is w = go k.ledger.top refl (wants-on s h journal fair known whole ends middles past x front next state p i channel k is w)
       where
         y : LendsAt s past front channel p k
@@ -377,20 +400,63 @@ module _ (s : Signing) (h : List Entry) (journal : List Told) (fair : IsFair s h
         nothing e (wanting.up closing early f) = none-eq state (subst (λ (o : Option StateParts). toward_after k.ledger o (up_after k.child o) ≡ Some state) e f)
         nothing e (wanting.down closing falls f) = none-eq state (subst (λ (o : Option StateParts). toward_after k.ledger o (down_after k.child o k.back) ≡ Some state) e f)
 
-        go : (o : Option StateParts) → k.ledger.top ≡ o → WantsOn k state → StepAt s journal past past front (x ∷ front)
+        go : (o : Option StateParts) → k.ledger.top ≡ o → WantsOn k state → Signing-step
         go None e f = absurd (nothing e f)
         go (Some top) e f =
             let w = ltops channel p k i is top e in
             moves-so w.last.state top.outcome (own-was w.last (last-is channel p k i is top w)) (could-end channel p k i is top w) (ends-valid channel p k i is top w)
             (wants_move m.parts (lends_at s past front) channel p k state top i is e
             (ap (λ (z : Seat). length z.people) y.on.seat.is ∙ ap length y.on.people) (ends-valid channel p k i is top w) y.child
-            (λ ab back aims falls. gives past x front next p channel k ab state i is back aims falls) f)
+            (λ ab back aims falls. gives p channel k ab state i is back aims falls) f)
 
-    -- ---- for itself
+    -- ---- for the part whose channel it is
 
-    by-root : (r : List ℕ) → In (kinds.Root r) m.parts → channel ≡ r → wanted_of (facts_of m) channel (Some (kinds.Root r)) ≡ Some state → StepAt s journal past past front (x ∷ front)
-    by-root r i same w = go (picking.wants root.direct channel state (subst (λ (o : Option Direct). wanted_of_root channel o ≡ Some state) root.is w)).1
+    module _ (b : Part) (i : In b m.parts) (bearing : bears channel b ≡ true) (g : Goal) (found : goal_in (facts_of m) channel ≡ Some g) (f : FixedParts) (c : Seat)
+        (seat : SeatIs s.key past (lines_of s.key front) f g.opening c) (named : real.named f ≡ channel) (bare : (asset : ℕ) (y : List ℕ) → has (items_in asset g.opening) (Channel y) ≡ false) where
+      final : (top : StateParts) → c.top ≡ Some top → state_with c.next true top.outcome [] ≡ state → Signing-step
+      final top e made =
+          let w = tops s h journal fair past front standing f g.opening c seat top e in
+          moves-so w.last.state top.outcome
+          (own-was w.last (subst (λ (n : List ℕ). last_made n (lines_of s.key front) ≡ Some w.last) named w.is))
+          (top-could s h journal fair past front standing f g.opening c seat (no-payments f (ledger-app s h journal fair whole past front next.place channel on f seat.own.there named)) top w)
+          (top-valid s h journal fair past front standing f g.opening c seat top w).outcome
+          (keeping.repeats (sym (ap (λ (z : StateParts). z.outcome) made)) (subst (λ (z : StateParts). outcomes_of z ≡ z.outcome ∷ []) made refl))
+
+      by-top : (o : Option StateParts) → c.top ≡ o → final_after c o ≡ Some state → Signing-step
+      by-top None e f = absurd (none-eq state f)
+      by-top (Some top) e f =
+          final top e (when-some (has_no_data top && nat_lt c.next (2 ^ 48) && is_turn c) (state_with c.next true top.outcome []) state f).is
+
+      finishes-so : final_state c ≡ Some state → Signing-step
+      finishes-so f = by-top c.top refl f
+
+      opens-so : (from until : ℕ) → until ≤ 2 * length c.people → repeats from until c ≡ Some state → Signing-step
+      opens-so from until few w = by (starting past x front next b channel g i bearing found on f c seat named from until state signed-valid few w)
+        where
+          made : state_with c.next false c.opening [] ≡ state
+          made = (when-some (nat_le from c.next && nat_lt c.next until && is_turn c && is_valid c.opening) (state_with c.next false c.opening []) state w).is
+
+          alone : outcomes_of state ≡ state.outcome ∷ []
+          alone = subst (λ (z : StateParts). outcomes_of z ≡ z.outcome ∷ []) made refl
+
+          opening-is : g.opening ≡ state.outcome
+          opening-is = sym (ap (λ (z : Seat). z.opening) seat.is) ∙ ap (λ (z : StateParts). z.outcome) made
+
+          by : ((last : StateParts) × (own_at s.key journal front channel ≡ Some last) × In state.outcome (outcomes_of last))
+              ⊎ ((own_at s.key journal front channel ≡ None) × ((p : Part) (k : Lent) → In p m.parts → lends_at s past front channel p ≡ Some k → ⊥)) → Signing-step
+          by (inl (last, signed, could)) = moves-so last state.outcome signed could signed-valid.outcome (keeping.repeats refl alone)
+          by (inr (unsigned, none)) = (
+            starts channel state parts-stay drift none alone (λ asset y. subst (λ (o : List AssetOutcome). has (items_in asset o) (Channel y) ≡ false) opening-is (bare asset y)) unsigned own-now own-other,
+            λ unsigned-yet. record { part = b; there = i; bearing = bearing; goal = g; found = found; is = sym opening-is },
+          )
+
+    -- a root
+    by-root : (r : List ℕ) → In (kinds.Root r) m.parts → bears channel (kinds.Root r) ≡ true → wanted_of (facts_of m) channel (Some (kinds.Root r)) ≡ Some state → Signing-step
+    by-root r i bearing w = go (picking.wants root.direct channel state (subst (λ (o : Option Direct). wanted_of_root channel o ≡ Some state) root.is w)).1
       where
+        same : r ≡ channel
+        same = same_bytes r channel bearing
+
         at : PartAt s past front (kinds.Root r)
         at = known s h journal past front fair.nodes next.place (kinds.Root r) i
 
@@ -400,43 +466,16 @@ module _ (s : Signing) (h : List Entry) (journal : List Told) (fair : IsFair s h
         c : Seat
         c = root.direct.channel
 
-        final : (top : StateParts) → c.top ≡ Some top → state_with c.next true top.outcome [] ≡ state → StepAt s journal past past front (x ∷ front)
-        final top e made =
-            let w = tops s h journal fair past front standing root.fixed at.goal.opening c root.seat top e in
-            moves-so w.last.state top.outcome
-            (own-was w.last (subst (λ (n : List ℕ). last_made n (lines_of s.key front) ≡ Some w.last) (root.named ∙ sym same) w.is))
-            (top-could s h journal fair past front standing root.fixed at.goal.opening c root.seat (no-payments root.fixed (ledger-app s h journal fair whole past front next.place channel on root.fixed root.seat.own.there (root.named ∙ sym same))) top w)
-            (top-valid s h journal fair past front standing root.fixed at.goal.opening c root.seat top w).outcome
-            (keeping.repeats (sym (ap (λ (z : StateParts). z.outcome) made)) (subst (λ (z : StateParts). outcomes_of z ≡ z.outcome ∷ []) made refl))
+        found : goal_in (facts_of m) channel ≡ Some at.goal
+        found = subst (λ (n : List ℕ). goal_in (facts_of m) n ≡ Some at.goal) same at.found
 
-        by-top : (o : Option StateParts) → c.top ≡ o → final_after c o ≡ Some state → StepAt s journal past past front (x ∷ front)
-        by-top None e f = absurd (none-eq state f)
-        by-top (Some top) e f =
-            final top e (when-some (has_no_data top && nat_lt c.next (2 ^ 48) && is_turn c) (state_with c.next true top.outcome []) state f).is
+        bare : (asset : ℕ) (y : List ℕ) → has (items_in asset at.goal.opening) (Channel y) ≡ false
+        bare asset y = shared-none (persons root.fixed) asset y at.goal.opening root.outcome
 
-        opens : (from until : ℕ) → until ≤ 2 * length c.people → repeats from until c ≡ Some state → StepAt s journal past past front (x ∷ front)
-        opens from until few f = by (starting past x front next r at.goal i (subst (λ (n : List ℕ). is_ledger s.key journal n ≡ true) same on) root from until state signed-valid few f)
-          where
-            made : state_with c.next false c.opening [] ≡ state
-            made = (when-some (nat_le from c.next && nat_lt c.next until && is_turn c && is_valid c.opening) (state_with c.next false c.opening []) state f).is
+        opens : (from until : ℕ) → until ≤ 2 * length c.people → repeats from until c ≡ Some state → Signing-step
+        opens from until few f = opens-so (kinds.Root r) i bearing at.goal found root.fixed c root.seat (root.named ∙ same) bare from until few f
 
-            alone : outcomes_of state ≡ state.outcome ∷ []
-            alone = subst (λ (z : StateParts). outcomes_of z ≡ z.outcome ∷ []) made refl
-
-            bare : (asset : ℕ) (y : List ℕ) → has (items_in asset state.outcome) (Channel y) ≡ false
-            bare asset y =
-                subst (λ (o : List AssetOutcome). has (items_in asset o) (Channel y) ≡ false) (sym (ap (λ (z : Seat). z.opening) root.seat.is) ∙ ap (λ (z : StateParts). z.outcome) made)
-                (shared-none (persons root.fixed) asset y at.goal.opening root.outcome)
-
-            by : ((last : StateParts) × (own_at s.key journal front r ≡ Some last) × In state.outcome (outcomes_of last))
-                ⊎ ((own_at s.key journal front r ≡ None) × ((p : Part) (k : Lent) → In p m.parts → lends_at s past front r p ≡ Some k → ⊥)) → StepAt s journal past past front (x ∷ front)
-            by (inl (last, signed, could)) =
-                moves-so last state.outcome (subst (λ (n : List ℕ). own_at s.key journal front n ≡ Some last) (sym same) signed) could signed-valid.outcome (keeping.repeats refl alone)
-            by (inr (unsigned, none)) =
-                starts channel state parts-stay drift (λ p k j e. none p k j (subst (λ (n : List ℕ). lends_at s past front n p ≡ Some k) same e)) alone bare
-                (subst (λ (n : List ℕ). own_at s.key journal front n ≡ None) (sym same) unsigned) own-now own-other
-
-        go : IsWanted root.direct state → StepAt s journal past past front (x ∷ front)
+        go : IsWanted root.direct state → Signing-step
         go (picking.opens from until which f) = opens from until (few-of which) f
           where
             few-of : (until ≡ length c.people) ⊎ (until ≡ 2 * length c.people) → until ≤ 2 * length c.people
@@ -448,23 +487,93 @@ module _ (s : Signing) (h : List Entry) (journal : List Told) (fair : IsFair s h
               where
                 low : (a n : ℕ) → a ≡ 2 * n → a ≤ 2 * n
                 low a n p = omega arith
-        go (picking.closes closing going f) = by-top c.top refl f
+        go (picking.closes closing going f) = finishes-so (kinds.Root r) i bearing at.goal found root.fixed c root.seat (root.named ∙ same) bare f
 
-    ledger-step : StepAt s journal past past front (x ∷ front)
+    -- an end of a virtual ledger
+    by-end : (v : Virtual) → In (kinds.End v) m.parts → bears channel (kinds.End v) ≡ true → wanted_of (facts_of m) channel (Some (kinds.End v)) ≡ Some state → Signing-step
+    by-end v i bearing w = go (end-wants y.end channel state (subst (λ (o : Option End). wanted_of_end channel o ≡ Some state) y.is w))
+      where
+        same : v.channel ≡ channel
+        same = same_bytes v.channel channel bearing
+
+        at : PartAt s past front (kinds.End v)
+        at = known s h journal past front fair.nodes next.place (kinds.End v) i
+
+        y : EndIs s.key past (lines_of s.key front) (facts_of m) v at.goal
+        y = at.is
+
+        c : Seat
+        c = y.end.channel
+
+        found : goal_in (facts_of m) channel ≡ Some at.goal
+        found = subst (λ (n : List ℕ). goal_in (facts_of m) n ≡ Some at.goal) same at.found
+
+        bare : (asset : ℕ) (z : List ℕ) → has (items_in asset at.goal.opening) (Channel z) ≡ false
+        bare asset z =
+            subst (λ (o : List AssetOutcome). has (items_in asset o) (Channel z) ≡ false) (sym y.opening)
+            (people-alone (v.asset == asset) (slice_index_or (persons y.fixed) 0 []) (slice_index_or (persons y.fixed) 1 []) at.goal.amounts.0 at.goal.amounts.1)
+          where
+            people-alone : (b : Bool) (p q : List ℕ) (n k : ℕ)
+                → has (items_of (cond b (Some (Allocation (record { to = Person p; amount = n } ∷ record { to = Person q; amount = k } ∷ []))) None)) (Channel z) ≡ false
+            people-alone true p q n k = refl
+            people-alone false p q n k = refl
+
+        two : length c.people ≡ 2
+        two = ap (λ (z : Seat). length z.people) y.seat.is ∙ ap (λ (ns : List (List ℕ)). length ns) y.people
+
+        differs : (bytes_eq v.channel v.joint ≡ false) × (bytes_eq v.channel (own_guarantor v) ≡ false)
+        differs = end-differs s h journal fair known whole ends middles past x front next v i
+
+        -- a seat of another name
+        other : (n name : List ℕ) → n ≡ name → bytes_eq v.channel name ≡ false → bytes_eq n channel ≡ true → ⊥
+        other n name is differ e =
+            clash (bytes_eq v.channel name) (subst (λ (z : List ℕ). bytes_eq v.channel z ≡ true) (same ∙ sym (sym is ∙ same_bytes n channel e)) (bytes_eq_self v.channel)) differ
+
+        no-guarantor : bytes_eq y.end.guarantor.name channel ≡ true → ⊥
+        no-guarantor = other y.end.guarantor.name (own_guarantor v) (ap (λ (z : Seat). z.name) y.guarantor.seat.is ∙ y.guarantor.named) differs.1
+
+        no-joint : bytes_eq y.end.joint.name channel ≡ true → ⊥
+        no-joint = other y.end.joint.name v.joint (ap (λ (z : Seat). z.name) y.joint.seat.is ∙ y.joint.named) differs.0
+
+        no-lender : bytes_eq y.end.ledger.name channel ≡ true → ⊥
+        no-lender =
+            other y.end.ledger.name (own_ledger v) (ap (λ (z : Seat). z.name) y.on.seat.is ∙ y.on.named)
+            (channel-no_ledger s h journal fair past front next.place (facts_of m) v at.goal y)
+
+        low : (a n : ℕ) → n ≡ 2 → a ≤ 4 → a ≤ 2 * n
+        low a n e few = omega arith
+
+        go : EndWants y.end channel state → Signing-step
+        go (ending.opens from until small early n f) =
+            opens-so (kinds.End v) i bearing at.goal found y.fixed c y.seat (y.named ∙ same) bare from until (low until (length c.people) two small) f
+        go (ending.finals closing unended n f) = finishes-so (kinds.End v) i bearing at.goal found y.fixed c y.seat (y.named ∙ same) bare f
+        go (ending.guarantees running unset n f) = absurd (no-guarantor n)
+        go (ending.splits from until small running soon early n f) = absurd (no-joint n)
+        go (ending.joins running set up five together n f) = absurd (no-joint n)
+        go (ending.parts closing final back n f) = absurd (no-joint n)
+        go (ending.ups running set settled n f) = absurd (no-lender n)
+        go (ending.downs closing final settled yet n f) = absurd (no-lender n)
+
+    by-bearer : (p : Part) → In p m.parts → bears channel p ≡ true → wanted_of (facts_of m) channel (Some p) ≡ Some state → Signing-step
+    by-bearer (kinds.Root r) i e w = by-root r i e w
+    by-bearer (kinds.OnLedger l c) i e w = absurd (clash false e refl)
+    by-bearer (kinds.Middle v) i e w = absurd (clash false e refl)
+    by-bearer (kinds.End v) i e w = by-end v i e w
+
+    ledger-step : Signing-step
     ledger-step = go signs
       where
-        by : Asked → StepAt s journal past past front (x ∷ front)
+        by : Asked → Signing-step
         by y = asked-so y.about
           where
-            asked-so : (is_among channel (ledgers_of y.part) ≡ true) ⊎ (is_among channel (joined_of y.part) ≡ true) → StepAt s journal past past front (x ∷ front)
+            asked-so : (is_among channel (ledgers_of y.part) ≡ true) ⊎ (is_among channel (joined_of y.part) ≡ true) → Signing-step
             asked-so (inl stands) =
                 let w = stands-lent s h journal fair known whole ends middles past x front next y.part y.there channel (among-in channel (ledgers_of y.part) stands) in
                 by-lent y.part y.there w.0 w.1 y.wanted
             asked-so (inr joined) =
-                let is : y.part ≡ kinds.Root channel = ledger-part s h journal fair whole past front next.place y.part y.there channel (joined-among channel y.part joined) on in
-                by-root channel (subst (λ (q : Part). In q m.parts) is y.there) refl (subst (λ (q : Part). wanted_of (facts_of m) channel (Some q) ≡ Some state) is y.wanted)
+                by-bearer y.part y.there (ledger-part s h journal fair whole past front next.place y.part y.there channel (joined-among channel y.part joined) on) y.wanted
 
-        go : Signs (pending front) m channel state → StepAt s journal past past front (x ∷ front)
+        go : Signs (pending front) m channel state → Signing-step
         go (pays paid asset amount waits is) =
             absurd (clash (is_ledger s.key journal channel) on (subst (λ (n : List ℕ). is_ledger s.key journal n ≡ false) (same_bytes paid channel is) (paying past front next.place paid asset amount waits).0))
         go (wants w) = by (asks w)
@@ -473,5 +582,27 @@ module _ (s : Signing) (h : List Entry) (journal : List Told) (fair : IsFair s h
   signing-step = go (either (is_ledger s.key journal channel))
     where
       go : (is_ledger s.key journal channel ≡ true) ⊎ (is_ledger s.key journal channel ≡ false) → StepAt s journal past past front (x ∷ front)
-      go (inl on) = ledger-step on
+      go (inl on) = (ledger-step on).0
       go (inr off) = elsewhere-step off
+
+  -- so it is of each ledger
+  pub signing-first : (l : List ℕ) → is_ledger s.key journal l ≡ true → own_at s.key journal front l ≡ None → (first : StateParts) → own_at s.key journal (x ∷ front) l ≡ Some first → FirstBy s past front l first
+  signing-first l on none first signed = by (either (bytes_eq l channel))
+    where
+      here : l ≡ channel → FirstBy s past front l first
+      here it =
+          let there = subst (λ (n : List ℕ). is_ledger s.key journal n ≡ true) it on in
+          let f = (ledger-step there).1 (subst (λ (n : List ℕ). own_at s.key journal front n ≡ None) it none) in
+          let same = some-eq state first (sym (own-now there) ∙ subst (λ (n : List ℕ). own_at s.key journal (x ∷ front) n ≡ Some first) it signed) in
+          record {
+            part = f.part;
+            there = f.there;
+            bearing = subst (λ (n : List ℕ). bears n f.part ≡ true) (sym it) f.bearing;
+            goal = f.goal;
+            found = subst (λ (n : List ℕ). goal_in (facts_of m) n ≡ Some f.goal) (sym it) f.found;
+            is = ap (λ (z : StateParts). z.outcome) (sym same) ∙ f.is;
+          }
+
+      by : (bytes_eq l channel ≡ true) ⊎ (bytes_eq l channel ≡ false) → FirstBy s past front l first
+      by (inl same) = here (same_bytes l channel same)
+      by (inr differ) = absurd (none-eq first (sym none ∙ (sym (own-other l differ) ∙ signed)))

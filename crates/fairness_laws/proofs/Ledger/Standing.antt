@@ -21,21 +21,18 @@ use Rattle.fairness_laws.specs.PlanLaws.{PartsAreKnown, PlansAreWhole}
 use Rattle.fairness_laws.specs.PlanSettings.{IsFair}
 use Rattle.fairness_laws.proofs.Joint.EndsKeep.{ends_keep}
 use Rattle.fairness_laws.proofs.Joint.MiddlesKeep.{middles_keep}
-use Rattle.fairness_laws.proofs.Ledger.Giving.{gives}
-use Rattle.fairness_laws.proofs.Ledger.AtPlaces.{ledgers_keep_at_places}
-use Rattle.fairness_laws.proofs.Ledger.Events.{steps-at}
+use Rattle.fairness_laws.proofs.Ledger.Always.{always}
 use Rattle.fairness_laws.proofs.Ledger.Lent.{LendsAt, lends-is}
 use Rattle.fairness_laws.proofs.Seat.Past.{own-made}
 use Rattle.fairness_laws.proofs.Ledger.Plans.{lent-on-ledger}
 use Rattle.fairness_laws.proofs.Ledger.Ready.{part-at}
-use Rattle.fairness_laws.proofs.Ledger.SetUps.{set_ups}
 use Rattle.fairness_laws.proofs.Plan.Parts.{parts_are_known}
 use Rattle.fairness_laws.proofs.Plan.Plans.{plans_are_whole}
 
 module _ (s : Signing) (h : List Entry) (journal : List Told) (fair : IsFair s h journal) (known : PartsAreKnown) (whole : PlansAreWhole) (ends : EndsKeep)
     (middles : MiddlesKeep) (past : List Entry) (front : List Told) (at : At s h journal past front) where
   pub keeps-there : KeepAt s journal past front
-  keeps-there = ledgers_keep_at_places s h journal fair (steps-at s h journal fair known whole ends middles (set_ups s h journal fair) (gives s h journal fair)) past front at
+  keeps-there = (always s h journal fair known whole ends middles past front at).keeps
 
   pub known-signed : (p : Part) (i : In p (parts_at s past front)) (l : List ℕ) (k : Lent) (last : StateParts) → lends_at s past front l p ≡ Some k → k.ledger.own ≡ Some last
       → own_at s.key journal front l ≡ Some last

@@ -3,7 +3,7 @@ use Rattle.std.proofs.Common.{◌≡◌, ℕ, ◌<◌, ◌≤◌, Bool, true, fa
 use Rattle.std.specs.Prelude.{nat_le, Option, Some, None}
 use Rattle.std.specs.Str.{bytes_eq}
 use Rattle.nitro_bytes.specs.Parts.{FixedParts, StateParts}
-use Rattle.chain_laws.proofs.Tests.{clash, and-left, and-right}
+use Rattle.chain_laws.proofs.Tests.{clash, and-left, and-right, none-eq}
 use Rattle.channel_calls.proofs.Names.{same_bytes}
 use Rattle.channel_calls.specs.Flows.{is_among}
 use Rattle.channel_calls.specs.declared.entry.Entry.{Entry}
@@ -32,7 +32,7 @@ use Rattle.virtual_channel.specs.Middles as middles-of
 use Rattle.virtual_channel.specs.Stages.{wanted_of_end, wanted_of_middle}
 use Rattle.wish_laws.proofs.Finding.{flips}
 use Rattle.fairness_laws.proofs.Truths.{either}
-use Rattle.fairness_laws.proofs.Joint.Terms.{ledgers-differ}
+use Rattle.fairness_laws.proofs.Joint.Terms.{ledgers-differ, channel-no_ledger}
 use Rattle.fairness_laws.specs.JointKeeping.{EndKeeps, MiddleKeeps, EndsKeep, MiddlesKeep}
 use Rattle.fairness_laws.specs.LedgerLending.{Lent, of_funded, of_end}
 use Rattle.fairness_laws.specs.LedgerPlaces.{is_ledger, lends_at}
@@ -51,7 +51,10 @@ use Rattle.fairness_laws.proofs.Ledger.Lent.{LendsAt, gate-of, named-for, by-kin
 use Rattle.fairness_laws.proofs.Ledger.Plans.{ledger-part, lent-on-ledger}
 use Rattle.fairness_laws.proofs.Ledger.Ready.{Rests, part-at, end-keeps, middle-keeps}
 use Rattle.fairness_laws.proofs.Ledger.Wanting.{funded_wants, funded_wants_on, end_wants_on, middle_wants_on}
+use Rattle.fairness_laws.proofs.Plan.Asked.{plan-is}
+use Rattle.fairness_laws.proofs.Plan.Bearers.{end-apart}
 use Rattle.fairness_laws.proofs.Plan.Names.{in-among}
+use Rattle.fairness_laws.specs.PlanBearers.{bears}
 
 two-three : (n : ℕ) → n < 2 → n < 3
 two-three n h = omega arith
@@ -100,21 +103,13 @@ module _ (s : Signing) (h : List Entry) (journal : List Told) (fair : IsFair s h
 
   -- ---- names
 
-  pub apart-apps : (f g : FixedParts) → In f (channels (lines_of s.key front)) → In g (channels (lines_of s.key front)) → real.named f ≡ real.named g → f.app ≡ 0 → g.app ≡ 1 → ⊥
-  apart-apps f g i j same zero-app one-app =
-      let e : f ≡ g = one-fixed s h journal fair past front next.place past front next.place f g i j same in
-      differ f.app g.app (ap (λ (z : FixedParts). z.app) e) zero-app one-app
-    where
-      differ : (n m : ℕ) → n ≡ m → n ≡ 0 → m ≡ 1 → ⊥
-      differ n m p q r = absurd (omega (arith, p, q, r))
-
-  -- a channel of a part on ledgers isn't one
-  pub no-ledger : (p : Part) → In p m.parts → ((r : List ℕ) → p ≡ kinds.Root r → ⊥) → (c : List ℕ) → is_among c (channels_of p) ≡ true → is_ledger s.key journal c ≡ false
-  no-ledger p i other c among = go (either (is_ledger s.key journal c))
+  -- a channel of a part that isn't the part's own isn't one
+  pub no-ledger : (p : Part) → In p m.parts → (c : List ℕ) → bears c p ≡ false → is_among c (channels_of p) ≡ true → is_ledger s.key journal c ≡ false
+  no-ledger p i c off among = go (either (is_ledger s.key journal c))
     where
       go : (is_ledger s.key journal c ≡ true) ⊎ (is_ledger s.key journal c ≡ false) → is_ledger s.key journal c ≡ false
-      go (inl on) = absurd (other c (ledger-part s h journal fair whole past front next.place p i c among on))
-      go (inr off) = off
+      go (inl on) = absurd (clash (bears c p) (ledger-part s h journal fair whole past front next.place p i c among on) off)
+      go (inr none) = none
 
   -- so it has another name than a ledger
   other-name : (c d : List ℕ) → is_ledger s.key journal c ≡ false → is_ledger s.key journal d ≡ true → bytes_eq c d ≡ false
@@ -124,14 +119,16 @@ module _ (s : Signing) (h : List Entry) (journal : List Told) (fair : IsFair s h
       go true e = absurd (clash (is_ledger s.key journal c) (ap (is_ledger s.key journal) (same_bytes c d e) ∙ on) off)
       go false e = refl
 
-  not-child : (l c : List ℕ) (r : List ℕ) → kinds.OnLedger l c ≡ kinds.Root r → ⊥
-  not-child l c r e = absurd cc
+  -- the channel of an end is neither its joint channel nor its guarantor
+  pub end-differs : (v : Virtual) → In (kinds.End v) m.parts → (bytes_eq v.channel v.joint ≡ false) × (bytes_eq v.channel (own_guarantor v) ≡ false)
+  end-differs v i = end-apart m.parts (plan-is s h journal fair past front at) v i
 
-  not-end : (v : Virtual) (r : List ℕ) → kinds.End v ≡ kinds.Root r → ⊥
-  not-end v r e = absurd cc
-
-  not-middle : (v : Virtual) (r : List ℕ) → kinds.Middle v ≡ kinds.Root r → ⊥
-  not-middle v r e = absurd cc
+  -- that tells whether a ledger has gone up is no ledger
+  pub gate-off : (p : Part) → In p m.parts → (l : List ℕ) (k : Lent) → lends_at s past front l p ≡ Some k → bears (gate-of p) p ≡ false
+  gate-off (kinds.Root c) i l k is = absurd (none-eq k is)
+  gate-off (kinds.OnLedger m c) i l k is = refl
+  gate-off (kinds.End v) i l k is = (end-differs v i).0
+  gate-off (kinds.Middle v) i l k is = refl
 
   module _ (p : Part) (i : In p m.parts) (l : List ℕ) (k : Lent) (is : lends_at s past front l p ≡ Some k) where
     pub lent-is : LendsAt s past front l p k
@@ -184,14 +181,6 @@ module _ (s : Signing) (h : List Entry) (journal : List Told) (fair : IsFair s h
   -- names that differ
   as-named : (a b c d : List ℕ) → a ≡ c → b ≡ d → bytes_eq c d ≡ false → bytes_eq a b ≡ false
   as-named a b c d e f differ = ap (λ (n : List ℕ). bytes_eq n b) e ∙ (ap (bytes_eq c) f ∙ differ)
-
-  apart-named : (c d : List ℕ) (f g : FixedParts) → In f (channels (lines_of s.key front)) → In g (channels (lines_of s.key front)) → real.named f ≡ d → real.named g ≡ c → f.app ≡ 0 → g.app ≡ 1
-      → bytes_eq c d ≡ false
-  apart-named c d f g i j fd gc zero-app one-app = go (bytes_eq c d) refl
-    where
-      go : (b : Bool) → bytes_eq c d ≡ b → b ≡ false
-      go true e = absurd (apart-apps f g i j (fd ∙ (sym (same_bytes c d e) ∙ sym gc)) zero-app one-app)
-      go false e = refl
 
   module _ (v : Virtual) (g : Goal) (y : EndIs s.key past (lines_of s.key front) (facts_of m) v g) where
     joint-named : y.end.joint.name ≡ v.joint
@@ -344,12 +333,11 @@ module _ (s : Signing) (h : List Entry) (journal : List Told) (fair : IsFair s h
         by-kind s past front (λ (l : List ℕ) (p : Part) (k : Lent). is_ledger s.key journal l ≡ true → wanted_of (facts_of m) (gate-of p) (Some p) ≡ Some state → GateWants p k state) p
         (part-at s h journal fair known ends middles past front at p i)
         (λ l c g o same found on w.
-        child-wants l c g o (off-of (kinds.OnLedger l c) same (not-child l c)) on (funded_wants o.funded c state (subst (λ (z : Option Funded). wanted_on_ledger c z ≡ Some state) o.is w)))
+        child-wants l c g o (off-of (kinds.OnLedger l c) same refl) on (funded_wants o.funded c state (subst (λ (z : Option Funded). wanted_on_ledger c z ≡ Some state) o.is w)))
         (λ v g y same found on w.
         end-row v g y (end-keeps s h journal fair known ends middles past front at v g (there-too p (kinds.End v) same i) y)
-        (as-named y.end.ledger.name v.joint (own_ledger v) v.joint (ledger-named v g y) refl (flips v.joint (own_ledger v) (other-name v.joint (own_ledger v) (off-of (kinds.End v) same (not-end v)) on)))
-        (as-named y.end.channel.name v.joint v.channel v.joint (channel-named v g y) refl
-        (apart-named v.channel v.joint y.joint.fixed y.fixed y.joint.seat.own.there y.seat.own.there y.joint.named y.named y.joint.app y.app))
+        (as-named y.end.ledger.name v.joint (own_ledger v) v.joint (ledger-named v g y) refl (flips v.joint (own_ledger v) (other-name v.joint (own_ledger v) (off-of (kinds.End v) same (end-differs v (there-too p (kinds.End v) same i)).0) on)))
+        (as-named y.end.channel.name v.joint v.channel v.joint (channel-named v g y) refl (end-differs v (there-too p (kinds.End v) same i)).0)
         (end-wants y.end v.joint state (subst (λ (z : Option End). wanted_of_end v.joint z ≡ Some state) y.is w)))
         (λ v g y same found on w.
         first-row v g y (middle-keeps s h journal fair known ends middles past front at v g (there-too p (kinds.Middle v) same i) y) (first-other v g y same) (second-other v g y same) (middle-row v g y w))
@@ -357,8 +345,8 @@ module _ (s : Signing) (h : List Entry) (journal : List Told) (fair : IsFair s h
         second-row v g y (middle-keeps s h journal fair known ends middles past front at v g (there-too p (kinds.Middle v) same i) y) (first-other v g y same) (second-other v g y same) (middle-row v g y w))
         l k is (ledger-is p i l k is)
       where
-        off-of : (q : Part) → q ≡ p → ((r : List ℕ) → q ≡ kinds.Root r → ⊥) → is_ledger s.key journal (gate-of q) ≡ false
-        off-of q same other = no-ledger q (there-too p q same i) other (gate-of q) (gate-among q)
+        off-of : (q : Part) → q ≡ p → bears (gate-of q) q ≡ false → is_ledger s.key journal (gate-of q) ≡ false
+        off-of q same off = no-ledger q (there-too p q same i) (gate-of q) off (gate-among q)
 
         middle-row : (v : Virtual) (g : Goal) (y : MiddleIs s.key past (lines_of s.key front) (facts_of m) v g) → wanted_of (facts_of m) v.joint (Some (kinds.Middle v)) ≡ Some state
             → rows.MiddleWants y.middle v.joint state
@@ -366,7 +354,7 @@ module _ (s : Signing) (h : List Entry) (journal : List Told) (fair : IsFair s h
 
         other : (v : Virtual) → kinds.Middle v ≡ p → (l : List ℕ) (k : Lent) → lends_at s past front l (kinds.Middle v) ≡ Some k → bytes_eq l v.joint ≡ false
         other v same l k is =
-            flips v.joint l (other-name v.joint l (off-of (kinds.Middle v) same (not-middle v)) (ledger-is (kinds.Middle v) (there-too p (kinds.Middle v) same i) l k is))
+            flips v.joint l (other-name v.joint l (off-of (kinds.Middle v) same refl) (ledger-is (kinds.Middle v) (there-too p (kinds.Middle v) same i) l k is))
 
         first-other : (v : Virtual) (g : Goal) (y : MiddleIs s.key past (lines_of s.key front) (facts_of m) v g) → kinds.Middle v ≡ p → bytes_eq y.middle.ledger_a.name v.joint ≡ false
         first-other v g y same = as-named y.middle.ledger_a.name v.joint v.ledger_a v.joint (first-named v g y) refl (other v same v.ledger_a (of-a y.middle) (first-there s past front v g y))
@@ -385,15 +373,15 @@ module _ (s : Signing) (h : List Entry) (journal : List Told) (fair : IsFair s h
         (λ v g y same found on w. of-first v g y (of-middle v g y same v.ledger_a on w))
         (λ v g y same found differ on w. of-second v g y differ (of-middle v g y same v.ledger_b on w)) l k is (ledger-is p i l k is)
       where
-        off-of : (q : Part) → q ≡ p → ((r : List ℕ) → q ≡ kinds.Root r → ⊥) → (c : List ℕ) → In c (channels_of q) → is_ledger s.key journal c ≡ false
-        off-of q same other c j = no-ledger q (there-too p q same i) other c (in-among c (channels_of q) j)
+        off-of : (q : Part) → q ≡ p → (c : List ℕ) → bears c q ≡ false → In c (channels_of q) → is_ledger s.key journal c ≡ false
+        off-of q same c off j = no-ledger q (there-too p q same i) c off (in-among c (channels_of q) j)
 
         of-child : (l c : List ℕ) (g : Goal) (o : OnLedgerIs s.key past (lines_of s.key front) (facts_of m) l c g) → kinds.OnLedger l c ≡ p → is_ledger s.key journal l ≡ true
             → wanted_of (facts_of m) l (Some (kinds.OnLedger l c)) ≡ Some state → WantsOn (of_funded o.funded) state
         of-child l c g o same on w =
             funded_wants_on o.funded state
             (as-named o.funded.channel.name o.funded.ledger.name c l (ap (λ (z : Seat). z.name) o.seat.is ∙ o.named) name-is
-            (other-name c l (off-of (kinds.OnLedger l c) same (not-child l c) c (inl refl)) on))
+            (other-name c l (off-of (kinds.OnLedger l c) same c refl (inl refl)) on))
             (subst (λ (n : List ℕ). wanted_on_ledger n (Some o.funded) ≡ Some state) (sym name-is) (subst (λ (z : Option Funded). wanted_on_ledger l z ≡ Some state) o.is w))
           where
             name-is : o.funded.ledger.name ≡ l
@@ -403,16 +391,19 @@ module _ (s : Signing) (h : List Entry) (journal : List Told) (fair : IsFair s h
             → wanted_of (facts_of m) (own_ledger v) (Some (kinds.End v)) ≡ Some state → WantsOn (of_end y.end) state
         of-an-end v g y same on w =
             end_wants_on y.end state
-            (as-named y.end.channel.name y.end.ledger.name v.channel (own_ledger v) (channel-named v g y) (ledger-named v g y) (apart v.channel (inr (inr (inr (inl refl))))))
-            (as-named y.end.joint.name y.end.ledger.name v.joint (own_ledger v) (joint-named v g y) (ledger-named v g y) (apart v.joint (inr (inr (inl refl)))))
+            (as-named y.end.channel.name y.end.ledger.name v.channel (own_ledger v) (channel-named v g y) (ledger-named v g y) (channel-no_ledger s h journal fair past front next.place (facts_of m) v g y))
+            (as-named y.end.joint.name y.end.ledger.name v.joint (own_ledger v) (joint-named v g y) (ledger-named v g y) (apart v.joint (end-differs v here).0 (inr (inr (inl refl)))))
             (as-named y.end.guarantor.name y.end.ledger.name (own_guarantor v) (own_ledger v) (guarantor-named v g y) (ledger-named v g y)
-            (apart (own_guarantor v) (named-in (own_ledger v) (kinds.End v))))
+            (apart (own_guarantor v) (end-differs v here).1 (named-in (own_ledger v) (kinds.End v))))
             (λ closing settled.
             (end-keeps s h journal fair known ends middles past front at v g (there-too p (kinds.End v) same i) y).without closing ∙ settled)
             (subst (λ (n : List ℕ). wanted_in n (end_rows y.end) ≡ Some state) (sym (ledger-named v g y)) (subst (λ (z : Option End). wanted_of_end (own_ledger v) z ≡ Some state) y.is w))
           where
-            apart : (c : List ℕ) → In c (channels_of (kinds.End v)) → bytes_eq c (own_ledger v) ≡ false
-            apart c j = other-name c (own_ledger v) (off-of (kinds.End v) same (not-end v) c j) on
+            here : In (kinds.End v) m.parts
+            here = there-too p (kinds.End v) same i
+
+            apart : (c : List ℕ) → bytes_eq v.channel c ≡ false → In c (channels_of (kinds.End v)) → bytes_eq c (own_ledger v) ≡ false
+            apart c off j = other-name c (own_ledger v) (off-of (kinds.End v) same c off j) on
 
         of-middle : (v : Virtual) (g : Goal) (y : MiddleIs s.key past (lines_of s.key front) (facts_of m) v g) → kinds.Middle v ≡ p → (l : List ℕ) → is_ledger s.key journal l ≡ true
             → wanted_of (facts_of m) l (Some (kinds.Middle v)) ≡ Some state → MiddleWants y.middle l state
@@ -424,7 +415,7 @@ module _ (s : Signing) (h : List Entry) (journal : List Told) (fair : IsFair s h
             (subst (λ (z : Option Middle). wanted_of_middle l z ≡ Some state) y.is w)
           where
             apart : (c : List ℕ) → In c (channels_of (kinds.Middle v)) → bytes_eq c l ≡ false
-            apart c j = other-name c l (off-of (kinds.Middle v) same (not-middle v) c j) on
+            apart c j = other-name c l (off-of (kinds.Middle v) same c refl j) on
 
         of-first : (v : Virtual) (g : Goal) (y : MiddleIs s.key past (lines_of s.key front) (facts_of m) v g) → MiddleWants y.middle v.ledger_a state → WantsOn (of-a y.middle) state
         of-first v g y (wanting.first n w) = w

@@ -46,8 +46,8 @@ use Rattle.wish_laws.proofs.Planned.{or-true}
 use Rattle.fairness_laws.proofs.Joint.Rows.{EndWants, end-wants}
 use Rattle.fairness_laws.proofs.Joint.Rows as rows
 use Rattle.fairness_laws.proofs.Rows.{stage-is}
-use Rattle.fairness_laws.proofs.Stages.{end-runs}
-use Rattle.fairness_laws.proofs.Opening.Seated.{Seated, seated, named-seat, in-first, not-after, set-up-runs, repeats-opening, takes-opening, cond-yes, cond-no}
+use Rattle.fairness_laws.proofs.Stages.{EndRuns, end-runs}
+use Rattle.fairness_laws.proofs.Opening.Seated.{Seated, seated, named-seat, in-first, not-after, set-up-runs, third-runs, repeats-opening, takes-opening, cond-yes, cond-no}
 use Rattle.fairness_laws.proofs.Opening.Virtuals.{bound, terms-known, GoalIs, goal-is, Differ, named-so, named-other, not-low, Comes, names-differ, at-end}
 
 -- ---- what the facts say of it
@@ -164,10 +164,12 @@ module _ (key : List ℕ) (route : Route) (ledgers : List ℕ × List ℕ) (guar
       pub taking : (m : Mind) (p : End) (s : StateParts) → EndPlace m f p → Comes m f s → end_takes p (real.named f) s ≡ true → is_repeated opening s ≡ true
       pub wishing : (m : Mind) (p : End) (s : StateParts) → EndPlace m f p → Comes m f s → p.closing ≡ false → EndWishes p (real.named f) s (is_repeated opening s ≡ true)
 
-    pub end-starts : (f : FixedParts) (opening : List AssetOutcome) → EndChannel f opening → Starts command (parts.End v) f opening (people f - 1)
-    end-starts f opening ch = record {
+    -- held so far where the part runs
+    end-starts-at : (f : FixedParts) (opening : List AssetOutcome) (turn : ℕ) → people f ≤ turn + 1
+        → ((m : Mind) (p : End) → are_apart (names m.kept) ≡ true → EndAt m v p → EndRuns p → RunsAt m f turn) → EndChannel f opening → Starts command (parts.End v) f opening turn
+    end-starts-at f opening turn enough reached ch = record {
       own = ch.joins;
-      enough = once (people f);
+      enough = enough;
       runs = runs;
       done = done;
       starts = first;
@@ -175,9 +177,6 @@ module _ (key : List ℕ) (route : Route) (ledgers : List ℕ × List ℕ) (guar
       where
         c : List ℕ
         c = real.named f
-
-        once : (n : ℕ) → n ≤ n - 1 + 1
-        once n = omega arith
 
         not-five : (n : ℕ) → n ≡ 0 → n ≡ 5 → ⊥
         not-five n e f = absurd (omega arith)
@@ -191,13 +190,12 @@ module _ (key : List ℕ) (route : Route) (ledgers : List ℕ × List ℕ) (guar
                 let at = end-at m v p is in
                 stage-is (end_rows p) 5 (at.closes ∙ (sym (ap is_closing at.goal) ∙ open-yet)) low
 
-        runs : (m : Mind) → are_apart (names m.kept) ≡ true → (stage_of_end (end_in (facts_of m) v) == 5) ≡ true → RunsAt m f (people f - 1)
+        runs : (m : Mind) → are_apart (names m.kept) ≡ true → (stage_of_end (end_in (facts_of m) v) == 5) ≡ true → RunsAt m f turn
         runs m apart-kept e = by (end_in (facts_of m) v) refl (eqb-true (stage_of_end (end_in (facts_of m) v)) 5 e)
           where
-            by : (o : Option End) → end_in (facts_of m) v ≡ o → stage_of_end o ≡ 5 → RunsAt m f (people f - 1)
+            by : (o : Option End) → end_in (facts_of m) v ≡ o → stage_of_end o ≡ 5 → RunsAt m f turn
             by None is five = absurd (not-five 0 refl five)
-            by (Some p) is five =
-                ch.runs m p apart-kept (end-at m v p is) (end-runs p five).set
+            by (Some p) is five = reached m p apart-kept (end-at m v p is) (end-runs p five)
 
         first : (m : Mind) (k : Kept) (s : StateParts) → IsPlace m command (parts.End v) f → stages.asked (facts_of m) c ≡ Some (parts.End v) → kept_of c m.kept ≡ Some k → s.turn ≡ next_of k → s.turn < people f
             → (stages.accepts (facts_of m) c s ≡ true)
@@ -217,6 +215,13 @@ module _ (key : List ℕ) (route : Route) (ledgers : List ℕ × List ℕ) (guar
                 let at = end-at m v p is in
                 from-end p c s (is_repeated opening s ≡ true) (ch.wishing m p s (end-place m f p is place) comes (at.closes ∙ e.0 at.g at.goal))
                 (sym (ap (wanted_of_end c) is) ∙ (sym (ap (wanted_of (facts_of m) c) asked) ∙ e.1))
+
+    -- by its first round
+    pub end-starts : (f : FixedParts) (opening : List AssetOutcome) → EndChannel f opening → Starts command (parts.End v) f opening (people f - 1)
+    end-starts f opening ch = end-starts-at f opening (people f - 1) (once (people f)) (λ m p apart-kept at r. ch.runs m p apart-kept at r.set) ch
+      where
+        once : (n : ℕ) → n ≤ n - 1 + 1
+        once n = omega arith
 
     -- ---- names
 
@@ -418,6 +423,12 @@ module _ (key : List ℕ) (route : Route) (ledgers : List ℕ × List ℕ) (guar
 
         wishing : (m : Mind) (p : End) (s : StateParts) → EndPlace m channel p → Comes m channel s → p.closing ≡ false → EndWishes p v.channel s (is_repeated opening s ≡ true)
         wishing m p s e comes stays = channel-wishes m p s (is_repeated opening s ≡ true) e stays (λ x from until is w. repeats-opening x opening from until s is w)
+
+    -- it is held past its set-up where the part runs
+    pub posted-starts : people channel ≤ 3 + 1 → Starts command (parts.End v) channel (shared channel asset amounts) 3
+    posted-starts few =
+        end-starts-at channel (shared channel asset amounts) 3 few
+        (λ m p apart-kept at r. third-runs m channel at.g.opening p.channel apart-kept (seated m v.channel at.g.opening p.channel at.last) r.posted) payment-channel-of
 
     -- until Close what is wanted there repeats its opening outcome
     pub channel-wants : (m : Mind) (s : StateParts) (Q : Type 0) → IsPlace m command (parts.End v) channel → stages.asked (facts_of m) v.channel ≡ Some (parts.End v)

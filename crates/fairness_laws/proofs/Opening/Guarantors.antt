@@ -16,6 +16,7 @@ use Rattle.node_model.specs.Playing.{Signing, Plays}
 use Rattle.node_tables.specs.Stages.{stages}
 use Rattle.wish_laws.specs.Opens.{Took}
 use Rattle.wish_laws.proofs.Commanded.{fitted}
+use Rattle.fairness_laws.proofs.Plan.ByRoute.{fits-by-route}
 use Rattle.fairness_laws.proofs.Apps.{no-payments-either}
 use Rattle.fairness_laws.specs.OpeningChannels.{guarantor_of, IsExactly, SignsOnly, EndsSignGuarantees, MiddlesSignGuarantees}
 use Rattle.fairness_laws.proofs.Rows.{exactly}
@@ -42,8 +43,7 @@ use Rattle.virtual_channel.specs.Stages.{end_in, middle_in, wanted_of_end, wante
 use Rattle.plan_stages.specs.Asked.{unfinished_on, part_with, wanted_of, wanted_in}
 use Rattle.node_model.specs.Minds.{Mind, facts_of}
 use Rattle.node_model.specs.Openings.{are_apart, takes_part, virtual}
-use Rattle.node_tables.proofs.OnlyPlain.{fits-plain}
-use Rattle.node_tables.specs.Fitting.{are_channels_of, both_lend, can_share, is_double_small, is_channel_of, fits_among, fits}
+use Rattle.node_tables.specs.Fitting.{can_share, is_double_small, is_channel_of, fits, app_of, route_lends, are_route_channels, fits_route_among}
 use Rattle.support_chain.specs.Steps.{persons}
 use Rattle.node_tables.specs.Ledgers.{are_same}
 use Rattle.chain_laws.proofs.Lists.{In-get}
@@ -130,24 +130,25 @@ pub record AreFixed (guarantors : FixedParts × FixedParts) (joint : FixedParts)
   pub three : List ℕ
   pub people : persons joint ≡ one ∷ two ∷ three ∷ []
 
-fixed-among : (f : FactsOf) (ledgers : List ℕ × List ℕ) (guarantors : FixedParts × FixedParts) (joint channel : FixedParts) (asset : ℕ) (ab : ℕ × ℕ) (people : List (List ℕ))
-    → persons joint ≡ people → fits_among f ledgers guarantors joint channel asset ab people ≡ true → AreFixed guarantors joint
-fixed-among f ledgers guarantors joint channel asset ab [] is e = absurd cc
-fixed-among f ledgers guarantors joint channel asset ab (x ∷ []) is e = absurd cc
-fixed-among f ledgers guarantors joint channel asset ab (x ∷ y ∷ []) is e = absurd cc
-fixed-among f ledgers guarantors joint channel asset ab (x ∷ y ∷ z ∷ w ∷ rest) is e = absurd cc
-fixed-among f ledgers guarantors joint channel asset ab (x ∷ y ∷ z ∷ []) is e =
+fixed-among : (f : FactsOf) (route : Route) (ledgers : List ℕ × List ℕ) (guarantors : FixedParts × FixedParts) (joint channel : FixedParts) (asset : ℕ) (ab : ℕ × ℕ) (people : List (List ℕ))
+    → persons joint ≡ people → fits_route_among f route ledgers guarantors joint channel asset ab people ≡ true → AreFixed guarantors joint
+fixed-among f route ledgers guarantors joint channel asset ab [] is e = absurd cc
+fixed-among f route ledgers guarantors joint channel asset ab (x ∷ []) is e = absurd cc
+fixed-among f route ledgers guarantors joint channel asset ab (x ∷ y ∷ []) is e = absurd cc
+fixed-among f route ledgers guarantors joint channel asset ab (x ∷ y ∷ z ∷ w ∷ rest) is e = absurd cc
+fixed-among f route ledgers guarantors joint channel asset ab (x ∷ y ∷ z ∷ []) is e =
     let people-ok : Bool = is_among f.me (x ∷ y ∷ z ∷ []) && (can_share x z ab && is_double_small ab) in
-    let fixed-ok : Bool = are_channels_of guarantors joint channel x y z && both_lend f ledgers asset ab x y z in
-    let channels-ok = and-left (are_channels_of guarantors joint channel x y z) (both_lend f ledgers asset ab x y z) (and-right people-ok fixed-ok e) in
-    let both = and-left (is_channel_of 2 (x ∷ y ∷ []) guarantors.0 && is_channel_of 2 (y ∷ z ∷ []) guarantors.1) ((joint.app == 0) && is_channel_of 1 (x ∷ z ∷ []) channel) channels-ok in
+    let channels-fit : Bool = are_route_channels (app_of route) guarantors joint channel x y z in
+    let ledgers-lend : Bool = route_lends f route ledgers asset ab x y z in
+    let channels-ok = and-left channels-fit ledgers-lend (and-right people-ok (channels-fit && ledgers-lend) e) in
+    let both = and-left (is_channel_of 2 (x ∷ y ∷ []) guarantors.0 && is_channel_of 2 (y ∷ z ∷ []) guarantors.1) ((joint.app == 0) && is_channel_of (app_of route) (x ∷ z ∷ []) channel) channels-ok in
     record {
       first = eqb-true guarantors.0.app 2 (and-left (guarantors.0.app == 2) (are_same (persons guarantors.0) (x ∷ y ∷ []))
           (and-left (is_channel_of 2 (x ∷ y ∷ []) guarantors.0) (is_channel_of 2 (y ∷ z ∷ []) guarantors.1) both));
       second = eqb-true guarantors.1.app 2 (and-left (guarantors.1.app == 2) (are_same (persons guarantors.1) (y ∷ z ∷ []))
           (and-right (is_channel_of 2 (x ∷ y ∷ []) guarantors.0) (is_channel_of 2 (y ∷ z ∷ []) guarantors.1) both));
-      joint_app = eqb-true joint.app 0 (and-left (joint.app == 0) (is_channel_of 1 (x ∷ z ∷ []) channel)
-          (and-right (is_channel_of 2 (x ∷ y ∷ []) guarantors.0 && is_channel_of 2 (y ∷ z ∷ []) guarantors.1) ((joint.app == 0) && is_channel_of 1 (x ∷ z ∷ []) channel) channels-ok));
+      joint_app = eqb-true joint.app 0 (and-left (joint.app == 0) (is_channel_of (app_of route) (x ∷ z ∷ []) channel)
+          (and-right (is_channel_of 2 (x ∷ y ∷ []) guarantors.0 && is_channel_of 2 (y ∷ z ∷ []) guarantors.1) ((joint.app == 0) && is_channel_of (app_of route) (x ∷ z ∷ []) channel) channels-ok));
       one = x;
       two = y;
       three = z;
@@ -157,7 +158,7 @@ fixed-among f ledgers guarantors joint channel asset ab (x ∷ y ∷ z ∷ []) i
 pub are-fixed : (f : FactsOf) (route : Route) (ledgers : List ℕ × List ℕ) (guarantors : FixedParts × FixedParts) (joint channel : FixedParts) (asset : ℕ) (ab : ℕ × ℕ) → fits f (OpenVirtual route ledgers guarantors joint channel asset ab) ≡ true
     → AreFixed guarantors joint
 are-fixed f route ledgers guarantors joint channel asset ab e =
-    fixed-among f ledgers guarantors joint channel asset ab (persons joint) refl (fits-plain f route ledgers guarantors joint channel asset ab e)
+    fixed-among f route ledgers guarantors joint channel asset ab (persons joint) refl (fits-by-route f route ledgers guarantors joint channel asset ab e)
 
 -- ---- the laws
 

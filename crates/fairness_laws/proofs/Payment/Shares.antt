@@ -5,12 +5,17 @@ use Rattle.nitro_bytes.specs.Parts.{FixedParts, StateParts}
 use Rattle.nitro_bytes.specs.declared.chain.Signed.{Signed}
 use Rattle.nitro_bytes.specs.declared.value.AssetOutcome.{AssetOutcome}
 use Rattle.channel_calls.specs.declared.entry.Entry.{Entry}
+use Rattle.funding_value.specs.declared.plan.Goal.{Goal}
+use Rattle.funding_value.specs.declared.plan.Part.TheVariants as parts
+use Rattle.funding_value.specs.declared.plan.Virtual.{Virtual}
 use Rattle.net_model.specs.Journals.{In, Line, made_in}
 use Rattle.net_model.specs.Occurring.{OccursFixed}
+use Rattle.node_model.specs.Minds.{facts_of}
 use Rattle.node_model.specs.Openings.{shared}
-use Rattle.node_model.specs.Places.{Told, lines_of}
+use Rattle.node_model.specs.Places.{Told, lines_of, mind_at}
 use Rattle.node_model.specs.Playing.{Signing}
 use Rattle.fairness_laws.proofs.Seat.Past.{occurs}
+use Rattle.fairness_laws.specs.PlanParts.{EndIs}
 use Rattle.fairness_laws.specs.PlanSeats.{SeatIs}
 use Rattle.fairness_laws.specs.PlanSettings.{IsFair}
 use Rattle.share_laws.proofs.Fronts.{last-line}
@@ -62,9 +67,15 @@ children_share s h journal past front fair at ledger name g i o =
     (subst (λ (x : List AssetOutcome). SeatIs s.key past (lines_of s.key front) o.fixed x o.funded.channel) o.opening o.seat)
     (subst (λ (x : List AssetOutcome). SignsFirst o.fixed x (lines_of s.key journal)) o.opening (child-first s h journal fair past front at ledger name g i o)))
 
-pub ends_share : EndsShare
-ends_share s h journal past front fair at v g i e =
+-- the channel of an end where it is a payment channel
+pub end-pays : (s : Signing) (h : List Entry) (journal : List Told) (past : List Entry) (front : List Told) → IsFair s h journal → At s h journal past front → (v : Virtual) (g : Goal)
+    → In (parts.End v) (mind_at real s.key past front).parts → (e : EndIs s.key past (lines_of s.key front) (facts_of (mind_at real s.key past front)) v g) → e.fixed.app ≡ 1
+    → Shares e.fixed v.asset v.total e.end.channel
+end-pays s h journal past front fair at v g i e app =
     subst (λ (n : ℕ). Shares e.fixed v.asset n e.end.channel) e.joint.sum
-    (shares s h journal fair past front at e.fixed e.app v.asset g.amounts e.end.channel
+    (shares s h journal fair past front at e.fixed app v.asset g.amounts e.end.channel
     (subst (λ (x : List AssetOutcome). SeatIs s.key past (lines_of s.key front) e.fixed x e.end.channel) e.opening e.seat)
     (subst (λ (x : List AssetOutcome). SignsFirst e.fixed x (lines_of s.key journal)) e.opening (end-opened s h journal fair past front at v g i e).first))
+
+pub ends_share : EndsShare
+ends_share s h journal past front fair at v g i e app = end-pays s h journal past front fair at v g i e app

@@ -1,14 +1,14 @@
 -- Which part of a node's plan is asked about a channel, at a place.
-use Rattle.std.proofs.Common.{◌≡◌, ℕ, Bool, true, false, ◌||◌, List, [], ◌∷◌, refl, sym, ◌∙◌, ap, subst}
+use Rattle.std.proofs.Common.{◌≡◌, ℕ, Bool, true, false, ◌||◌, List, [], ◌∷◌, ◌⊎◌, inl, inr, refl, sym, ◌∙◌, ap, subst}
 use Rattle.std.specs.Prelude.{Option, Some, None}
 use Rattle.std.specs.Option.{option_or}
 use Rattle.std.specs.Str.{bytes_eq}
 use Rattle.nitro_bytes.specs.Parts.{FixedParts}
-use Rattle.chain_laws.proofs.Tests.{clash}
+use Rattle.chain_laws.proofs.Tests.{some-eq, clash}
 use Rattle.channel_calls.proofs.Names.{same_bytes}
 use Rattle.channel_calls.specs.Flows.{is_among}
 use Rattle.channel_calls.specs.declared.entry.Entry.{Entry}
-use Rattle.funding_value.specs.Parts.{own_ledger, channels_of, ledgers_of}
+use Rattle.funding_value.specs.Parts.{own_ledger, channels_of, channels as channels-of-parts, ledgers_of}
 use Rattle.funding_value.specs.declared.plan.Part.{Part}
 use Rattle.funding_value.specs.declared.plan.Part.TheVariants as kinds
 use Rattle.net_model.specs.Journals.{In, Line}
@@ -17,7 +17,9 @@ use Rattle.node_model.specs.Places.{Told, lines_of, mind_at}
 use Rattle.node_model.specs.Playing.{Signing, Plays}
 use Rattle.node_model.specs.Refusing.{other}
 use Rattle.node_tables.specs.Stages.{stages}
-use Rattle.fairness_laws.proofs.Plan.Places.{plays-there}
+use Rattle.fairness_laws.proofs.Plan.Bearers.{Bearer, bearer-of}
+use Rattle.fairness_laws.proofs.Plan.Names.{all-apart}
+use Rattle.fairness_laws.proofs.Plan.Places.{plays-there, knows-there, apart-there}
 use Rattle.fairness_laws.specs.PaymentLaws.{At}
 use Rattle.fairness_laws.specs.PlanLaws.{PartAt}
 use Rattle.fairness_laws.specs.PlanParts.{LedgerIs}
@@ -25,6 +27,7 @@ use Rattle.fairness_laws.specs.PlanSettings.{IsFair}
 use Rattle.fairness_laws.proofs.Plan.Parts.{parts_are_known}
 use Rattle.plan_stages.specs.Asked as asked
 use Rattle.share_model.specs.Places.{channels}
+use Rattle.signing_laws.specs.Plans.{IsPlan}
 use Rattle.stage_rules.specs.Seats.{Seat}
 use Rattle.support_chain.specs.Real.{real}
 use Rattle.support_chain.specs.Steps.{persons}
@@ -108,3 +111,25 @@ module _ (s : Signing) (h : List Entry) (journal : List Told) (fair : IsFair s h
       go : (o : Option Part) → asked.unfinished_on (facts_of m) name m.parts ≡ o → option_or o (asked.part_with name m.parts) ≡ Some q → q ≡ p
       go None is e = let w = with-in name m.parts q e in one-of-parts name q p w.0 i (joined-among name q w.1) has
       go (Some z) is e = let w = on-in (facts_of m) name m.parts z is in absurd (none (ledger-of name z w.0 w.1))
+
+  -- or another that stands on it
+  pub asked-or : (name : List ℕ) (p q : Part) → In p m.parts → is_among name (channels_of p) ≡ true → stages.asked (facts_of m) name ≡ Some q → (q ≡ p) ⊎ (In q m.parts × (is_among name (ledgers_of q) ≡ true))
+  asked-or name p q i has e = go (asked.unfinished_on (facts_of m) name m.parts) refl e
+    where
+      go : (o : Option Part) → asked.unfinished_on (facts_of m) name m.parts ≡ o → option_or o (asked.part_with name m.parts) ≡ Some q → (q ≡ p) ⊎ (In q m.parts × (is_among name (ledgers_of q) ≡ true))
+      go None is e = let w = with-in name m.parts q e in inl (one-of-parts name q p w.0 i (joined-among name q w.1) has)
+      go (Some z) is e =
+          let w = on-in (facts_of m) name m.parts z is in
+          let same = some-eq z q e in
+          inr (subst (λ (y : Part). In y m.parts) same w.0, subst (λ (y : Part). is_among name (ledgers_of y) ≡ true) same w.1)
+
+  -- ---- on whose channel a part stands
+
+  pub plan-is : IsPlan m.parts
+  plan-is = record {
+    apart = all-apart (channels-of-parts m.parts) (apart-there s h journal fair.nodes past front at.front_is);
+    on_ledgers = (knows-there s h journal fair.nodes past front at.front_is).stands;
+  }
+
+  pub bearer-at : (name : List ℕ) (p : Part) → In p m.parts → is_among name (ledgers_of p) ≡ true → Bearer m.parts name
+  bearer-at name p i e = bearer-of m.parts plan-is p i name e

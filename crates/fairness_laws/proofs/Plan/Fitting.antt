@@ -1,5 +1,5 @@
 -- What a command that opens and isn't refused says of its part: its channels are such as the command names, and its ledgers are
--- consensus roots of the plan.
+-- consensus channels of roots and ends of the plan.
 use Rattle.std.proofs.Common.{◌≡◌, ℕ, ◌+◌, ◌*◌, ◌-◌, ◌≤◌, Bool, true, false, cond, ◌&&◌, ◌||◌, not, List, [], ◌∷◌, ◌++◌, inl, inr, length, refl, sym, ◌∙◌, ap, subst}
 use Rattle.std.specs.Prelude.{◌^◌, ◌==◌, nat_lt, nat_le, map, Option, Some, None}
 use Rattle.std.specs.List.{slice_get, list_any, list_all, position_or_len}
@@ -17,7 +17,6 @@ use Rattle.channel_calls.specs.declared.event.NodeRefusal.TheVariants.{UnknownCh
 use Rattle.channel_store.specs.Keeping.{is_held}
 use Rattle.channel_store.specs.Keeping as keeping
 use Rattle.chain_laws.proofs.Tests.{some-eq, and-left, and-right, not-false, clash, eqb-true, le-true}
-use Rattle.funding_value.specs.Known.{FactsOf}
 use Rattle.funding_value.specs.Parts.{own_ledger, channels}
 use Rattle.funding_value.specs.declared.plan.Goal.{Goal}
 use Rattle.funding_value.specs.declared.plan.Part.{Part}
@@ -34,8 +33,7 @@ use Rattle.node_model.specs.Openings.{opened_by, place_among, takes_part, adds, 
 use Rattle.node_model.specs.Places.{Told, lines_of}
 use Rattle.node_model.specs.Refusing.{not_open, has_left, unfinished, is_planned, are_new, can_open, are_planned, open_refusal}
 use Rattle.node_share_laws.proofs.Apart.{Apart, not-of}
-use Rattle.node_tables.proofs.OnlyPlain.{fits-plain}
-use Rattle.node_tables.specs.Fitting.{are_shared, stake, can_share, is_double_small, is_channel_of, are_channels_of, lends_if_own, both_lend, fits_between, fits_among, fits}
+use Rattle.node_tables.specs.Fitting.{are_shared, stake, can_share, is_double_small, is_channel_of, fits_between, fits, app_of, runs_at_end, is_running_end, lends_virtual, either_lends, route_lends, are_route_channels, fits_route_among}
 use Rattle.node_tables.specs.Ledgers.{are_same, affords_in, is_between, is_root_of, is_running_root, lends}
 use Rattle.node_tables.specs.Stages.{stages}
 use Rattle.node_tables.specs.declared.stake.Stake.{Stake}
@@ -45,6 +43,8 @@ use Rattle.support_chain.specs.Real.{real}
 use Rattle.support_chain.specs.Steps.{persons}
 use Rattle.wish_laws.proofs.Carrying.{low}
 use Rattle.wish_laws.proofs.Finding.{flips, or-left, held_of}
+use Rattle.fairness_laws.proofs.Plan.Bearers.{Bearer}
+use Rattle.fairness_laws.proofs.Plan.ByRoute.{fits-by-route, app-small, true-left, BothLend, route-lends}
 use Rattle.fairness_laws.proofs.Plan.Holding.{Holds}
 use Rattle.fairness_laws.proofs.Plan.Known.{OfRoot, OfLedger, OfOnLedger, OfJoint, OfGuarantor, OfEnd, OfMiddle, Of, Paired, goal-of}
 use Rattle.fairness_laws.proofs.Plan.Names.{Passing, any-in, in-among, place-within, in-filter, among-in}
@@ -163,47 +163,88 @@ module _ (key : List ℕ) (past : List Entry) (front : List Told) (m : Mind) (fs
     (holds : (f : FixedParts) → In f fs → Holds key past (lines_of key front) m f)
     (places : (f : FixedParts) (o : Holds key past (lines_of key front) m f) (name : List ℕ) → real.named f ≡ name → place_in name (facts_of m).places ≡ Some (keeping.place_in o.kept))
     (chains : (f : FixedParts) (o : Holds key past (lines_of key front) m f) (name : List ℕ) → real.named f ≡ name → chain_in name (facts_of m).chains ≡ held_of o.kept) where
-  -- that lends is such a root
-  pub lent : (name first second : List ℕ) (asset : ℕ) (amounts : ℕ × ℕ) → lends (facts_of m) name (stake asset first second amounts) ≡ true → OfLedger fs m.parts first second name
-  lent name first second asset amounts e = record { fixed = o.fixed; there = o.there; named = o.named; app = app; people = people; root = root }
+  -- a consensus channel of two people that covers what they lend
+  of-bearer : (name first second : List ℕ) (asset : ℕ) (amounts : ℕ × ℕ) → Bearer m.parts name → (f : FixedParts) → In f fs → real.named f ≡ name
+      → is_between (stake asset first second amounts) (place_in name (facts_of m).places) ≡ true → affords_in (stake asset first second amounts) (chain_in name (facts_of m).chains) ≡ true
+      → OfLedger fs m.parts first second name
+  of-bearer name first second asset amounts b f there named both affords = record { fixed = f; there = there; named = named; app = app; people = people; bearer = b }
     where
       k : Stake
       k = stake asset first second amounts
 
-      running : Bool
-      running = is_running_root (facts_of m) name
+      held : Holds key past (lines_of key front) m f
+      held = holds f there
 
-      both : (running && is_between k (place_in name (facts_of m).places)) ≡ true
-      both = and-left (running && is_between k (place_in name (facts_of m).places)) (affords_in k (chain_in name (facts_of m).chains)) e
-
-      some-root : Passing (is_root_of name) m.parts
-      some-root = any-in (is_root_of name) m.parts (and-left (list_any (is_root_of name) m.parts) (stage_of (facts_of m) (Root name) == 3) (and-left running (is_between k (place_in name (facts_of m).places)) both))
-
-      root : In (Root name) m.parts
-      root = subst (λ (p : Part). In p m.parts) (root-of name some-root.item some-root.passes) some-root.there
-
-      o : OfRoot fs name (goal-of key fs m.parts m.goals (Root name) paired apart root).goal.opening
-      o = (goal-of key fs m.parts m.goals (Root name) paired apart root).known
-
-      held : Holds key past (lines_of key front) m o.fixed
-      held = holds o.fixed o.there
-
-      people : persons o.fixed ≡ first ∷ second ∷ []
+      people : persons f ≡ first ∷ second ∷ []
       people =
           ap persons (sym held.at.fixed)
-          ∙ same-people (persons held.kept.chain.fixed) (first ∷ second ∷ [])
-          (sym (ap (is_between k) (places o.fixed held name o.named)) ∙ and-right running (is_between k (place_in name (facts_of m).places)) both)
+          ∙ same-people (persons held.kept.chain.fixed) (first ∷ second ∷ []) (sym (ap (is_between k) (places f held name named)) ∙ both)
 
       consensus : (b : Bool) → affords_in k (cond b (Some (record { channel = held.kept.channel; chain = held.kept.chain })) None) ≡ true → held.kept.chain.fixed.app ≡ 0
       consensus false is = absurd cc
       consensus true is = eqb-true held.kept.chain.fixed.app 0 (and-left (held.kept.chain.fixed.app == 0) _ is)
 
-      app : o.fixed.app ≡ 0
-      app =
-          ap (λ (f : FixedParts). f.app) (sym held.at.fixed)
-          ∙ consensus (is_held held.kept)
-          (sym (ap (affords_in k) (chains o.fixed held name o.named))
-          ∙ and-right (running && is_between k (place_in name (facts_of m).places)) (affords_in k (chain_in name (facts_of m).chains)) e)
+      app : f.app ≡ 0
+      app = ap (λ (g : FixedParts). g.app) (sym held.at.fixed) ∙ consensus (is_held held.kept) (sym (ap (affords_in k) (chains f held name named)) ∙ affords)
+
+  module _ (name first second : List ℕ) (asset : ℕ) (amounts : ℕ × ℕ) where
+    abbrev of-two : Stake
+    of-two = stake asset first second amounts
+
+    abbrev between-two : Bool
+    between-two = is_between of-two (place_in name (facts_of m).places)
+
+    abbrev affords-two : Bool
+    affords-two = affords_in of-two (chain_in name (facts_of m).chains)
+
+    -- a root that lends
+    lent-root : lends (facts_of m) name of-two ≡ true → OfLedger fs m.parts first second name
+    lent-root e =
+        of-bearer name first second asset amounts (record { part = Root name; there = root; is = bytes_eq_self name }) o.fixed o.there o.named
+        (and-right (is_running_root (facts_of m) name) between-two both) (and-right (is_running_root (facts_of m) name && between-two) affords-two e)
+      where
+        both : (is_running_root (facts_of m) name && between-two) ≡ true
+        both = and-left (is_running_root (facts_of m) name && between-two) affords-two e
+
+        some-root : Passing (is_root_of name) m.parts
+        some-root = any-in (is_root_of name) m.parts (and-left (list_any (is_root_of name) m.parts) (stage_of (facts_of m) (Root name) == 3) (and-left (is_running_root (facts_of m) name) between-two both))
+
+        root : In (Root name) m.parts
+        root = subst (λ (p : Part). In p m.parts) (root-of name some-root.item some-root.passes) some-root.there
+
+        o : OfRoot fs name (goal-of key fs m.parts m.goals (Root name) paired apart root).goal.opening
+        o = (goal-of key fs m.parts m.goals (Root name) paired apart root).known
+
+    -- or a virtual ledger of which the participant is an end
+    lent-end : lends_virtual (facts_of m) name of-two ≡ true → OfLedger fs m.parts first second name
+    lent-end e = go some-end.item some-end.there some-end.passes
+      where
+        both : (is_running_end (facts_of m) name && between-two) ≡ true
+        both = and-left (is_running_end (facts_of m) name && between-two) affords-two e
+
+        some-end : Passing (runs_at_end (facts_of m) name) m.parts
+        some-end = any-in (runs_at_end (facts_of m) name) m.parts (and-left (is_running_end (facts_of m) name) between-two both)
+
+        with-end : (v : Virtual) → In (End v) m.parts → bytes_eq v.channel name ≡ true → (opening : List AssetOutcome) (ab : ℕ × ℕ) → OfEnd key fs m.parts v opening ab → OfLedger fs m.parts first second name
+        with-end v i named opening ab o =
+            of-bearer name first second asset amounts (record { part = End v; there = i; is = named }) o.fixed o.there (o.named ∙ same_bytes v.channel name named)
+            (and-right (is_running_end (facts_of m) name) between-two both) (and-right (is_running_end (facts_of m) name && between-two) affords-two e)
+
+        go : (p : Part) → In p m.parts → runs_at_end (facts_of m) name p ≡ true → OfLedger fs m.parts first second name
+        go (Root channel) i runs = absurd (clash false runs refl)
+        go (OnLedger ledger channel) i runs = absurd (clash false runs refl)
+        go (Middle v) i runs = absurd (clash false runs refl)
+        go (End v) i runs =
+            let g = goal-of key fs m.parts m.goals (End v) paired apart i in
+            with-end v i (and-left (bytes_eq v.channel name) (stage_of (facts_of m) (End v) == 5) runs) g.goal.opening g.goal.amounts g.known
+
+  pub lent : (name first second : List ℕ) (asset : ℕ) (amounts : ℕ × ℕ) → either_lends (facts_of m) name (stake asset first second amounts) ≡ true → OfLedger fs m.parts first second name
+  lent name first second asset amounts e = go (lends (facts_of m) name (stake asset first second amounts)) refl e
+    where
+      go : (b : Bool) → lends (facts_of m) name (stake asset first second amounts) ≡ b → (b || lends_virtual (facts_of m) name (stake asset first second amounts)) ≡ true
+          → OfLedger fs m.parts first second name
+      go true is h = lent-root name first second asset amounts is
+      go false is h = lent-end name first second asset amounts h
 
 -- ---- what doesn't depend on the command
 
@@ -218,13 +259,7 @@ unplanned m names new name i = not-of (is_planned m name) (all-of names (and-rig
 
 -- with the channels that are added
 ledger-there : (fs gs : List FixedParts) (parts : List Part) (first second name : List ℕ) → OfLedger fs parts first second name → OfLedger (fs ++ gs) parts first second name
-ledger-there fs gs parts first second name o = record { fixed = o.fixed; there = In-append_left o.fixed fs gs o.there; named = o.named; app = o.app; people = o.people; root = o.root }
-
--- the ledger of two people one of whom it is lends
-pub own-lends : (f : FactsOf) (name first second : List ℕ) (asset : ℕ) (amounts : ℕ × ℕ) → lends_if_own f name (stake asset first second amounts) ≡ true → In f.me (first ∷ second ∷ [])
-    → lends f name (stake asset first second amounts) ≡ true
-own-lends f name first second asset amounts e i =
-    sym (ap (λ (b : Bool). not b || lends f name (stake asset first second amounts)) (in-among f.me (first ∷ second ∷ []) i)) ∙ e
+ledger-there fs gs parts first second name o = record { fixed = o.fixed; there = In-append_left o.fixed fs gs o.there; named = o.named; app = o.app; people = o.people; bearer = o.bearer }
 
 -- the participant is one of a ledger's two people
 own-person : (key : List ℕ) (fs : List FixedParts) (parts : List Part) (first second name : List ℕ) → ((f : FixedParts) → In f fs → In key f.keys) → OfLedger fs parts first second name
@@ -244,7 +279,7 @@ pub record Added (key : List ℕ) (fs : List FixedParts) (parts : List Part) (n 
   pub known : Of key (fs ++ adds key (Some command)) parts part goal.opening goal.amounts
 
 module _ (key : List ℕ) (m : Mind) (mine : m.key ≡ key) (fs : List FixedParts)
-    (on-ledger : (name first second : List ℕ) (asset : ℕ) (amounts : ℕ × ℕ) → lends (facts_of m) name (stake asset first second amounts) ≡ true → OfLedger fs m.parts first second name)
+    (on-ledger : (name first second : List ℕ) (asset : ℕ) (amounts : ℕ × ℕ) → either_lends (facts_of m) name (stake asset first second amounts) ≡ true → OfLedger fs m.parts first second name)
     (owns : (f : FixedParts) → In f fs → In key f.keys) where
   me-is : (facts_of m).me ≡ name_of_person key
   me-is = ap name_of_person mine
@@ -322,7 +357,10 @@ module _ (key : List ℕ) (m : Mind) (mine : m.key ≡ key) (fs : List FixedPart
           share = and-left (can_share first second amounts) (lends (facts_of m) ledger (stake asset first second amounts)) e
 
           on : OfLedger fs m.parts first second ledger
-          on = on-ledger ledger first second asset amounts (and-right (can_share first second amounts) (lends (facts_of m) ledger (stake asset first second amounts)) e)
+          on =
+              on-ledger ledger first second asset amounts
+              (true-left (lends (facts_of m) ledger (stake asset first second amounts)) (lends_virtual (facts_of m) ledger (stake asset first second amounts))
+              (and-right (can_share first second amounts) (lends (facts_of m) ledger (stake asset first second amounts)) e))
 
           among : is_among (name_of_person key) (persons fixed) ≡ true
           among = subst (λ (ns : List (List ℕ)). is_among (name_of_person key) ns ≡ true) (sym is) (own-person key fs m.parts first second ledger owns on)
@@ -359,10 +397,10 @@ module _ (key : List ℕ) (m : Mind) (mine : m.key ≡ key) (fs : List FixedPart
       pub app_b : guarantors.1.app ≡ 2
       pub people_b : persons guarantors.1 ≡ middle ∷ second ∷ []
       pub app_joint : joint.app ≡ 0
-      pub app_channel : channel.app ≡ 1
+      pub app_channel : channel.app ≡ app_of route
       pub people_channel : persons channel ≡ first ∷ second ∷ []
-      pub lends_a : lends_if_own (facts_of m) ledgers.0 (stake asset first middle amounts) ≡ true
-      pub lends_b : lends_if_own (facts_of m) ledgers.1 (stake asset middle second amounts) ≡ true
+      pub lends_a : In (name_of_person key) (first ∷ middle ∷ []) → either_lends (facts_of m) ledgers.0 (stake asset first middle amounts) ≡ true
+      pub lends_b : In (name_of_person key) (middle ∷ second ∷ []) → either_lends (facts_of m) ledgers.1 (stake asset middle second amounts) ≡ true
 
     app-of : (app : ℕ) (people : List (List ℕ)) (f : FixedParts) → is_channel_of app people f ≡ true → f.app ≡ app
     app-of app people f e = eqb-true f.app app (and-left (f.app == app) (are_same (persons f) people) e)
@@ -370,7 +408,7 @@ module _ (key : List ℕ) (m : Mind) (mine : m.key ≡ key) (fs : List FixedPart
     people-of : (app : ℕ) (people : List (List ℕ)) (f : FixedParts) → is_channel_of app people f ≡ true → persons f ≡ people
     people-of app people f e = same-people (persons f) people (and-right (f.app == app) (are_same (persons f) people) e)
 
-    fitted-by : (people : List (List ℕ)) → persons joint ≡ people → fits_among (facts_of m) ledgers guarantors joint channel asset amounts people ≡ true → Fitted
+    fitted-by : (people : List (List ℕ)) → persons joint ≡ people → fits_route_among (facts_of m) route ledgers guarantors joint channel asset amounts people ≡ true → Fitted
     fitted-by [] is e = absurd cc
     fitted-by (first ∷ []) is e = absurd cc
     fitted-by (first ∷ middle ∷ []) is e = absurd cc
@@ -381,17 +419,17 @@ module _ (key : List ℕ) (m : Mind) (mine : m.key ≡ key) (fs : List FixedPart
       second = second;
       people = is;
       among = subst (λ (me : List ℕ). is_among me (first ∷ middle ∷ second ∷ []) ≡ true) me-is (and-left here amounts-fit left);
-      ends = not-of (bytes_eq first second) (and-left (not (bytes_eq first second)) (nat_le (amounts.0 + amounts.1) (2 ^ 64 - 1)) (and-left (can_share first second amounts) (is_double_small amounts) fit-amounts));
+      ends = differ;
       small = le-true (2 * (amounts.0 + amounts.1)) (2 ^ 64 - 1) (and-right (can_share first second amounts) (is_double_small amounts) fit-amounts);
       app_a = app-of 2 (first ∷ middle ∷ []) guarantors.0 (and-left guarantor-a guarantor-b guarantors-fit);
       people_a = people-of 2 (first ∷ middle ∷ []) guarantors.0 (and-left guarantor-a guarantor-b guarantors-fit);
       app_b = app-of 2 (middle ∷ second ∷ []) guarantors.1 (and-right guarantor-a guarantor-b guarantors-fit);
       people_b = people-of 2 (middle ∷ second ∷ []) guarantors.1 (and-right guarantor-a guarantor-b guarantors-fit);
       app_joint = eqb-true joint.app 0 (and-left (joint.app == 0) payment others-fit);
-      app_channel = app-of 1 (first ∷ second ∷ []) channel (and-right (joint.app == 0) payment others-fit);
-      people_channel = people-of 1 (first ∷ second ∷ []) channel (and-right (joint.app == 0) payment others-fit);
-      lends_a = and-left (lends_if_own (facts_of m) ledgers.0 (stake asset first middle amounts)) (lends_if_own (facts_of m) ledgers.1 (stake asset middle second amounts)) lend;
-      lends_b = and-right (lends_if_own (facts_of m) ledgers.0 (stake asset first middle amounts)) (lends_if_own (facts_of m) ledgers.1 (stake asset middle second amounts)) lend;
+      app_channel = app-of (app_of route) (first ∷ second ∷ []) channel (and-right (joint.app == 0) payment others-fit);
+      people_channel = people-of (app_of route) (first ∷ second ∷ []) channel (and-right (joint.app == 0) payment others-fit);
+      lends_a = λ own. both.a (in-among (facts_of m).me (first ∷ middle ∷ []) (subst (λ (me : List ℕ). In me (first ∷ middle ∷ [])) (sym me-is) own));
+      lends_b = λ own. both.b (in-among (facts_of m).me (middle ∷ second ∷ []) (subst (λ (me : List ℕ). In me (middle ∷ second ∷ [])) (sym me-is) own));
     }
       where
         here : Bool
@@ -401,10 +439,10 @@ module _ (key : List ℕ) (m : Mind) (mine : m.key ≡ key) (fs : List FixedPart
         amounts-fit = can_share first second amounts && is_double_small amounts
 
         channels-fit : Bool
-        channels-fit = are_channels_of guarantors joint channel first middle second
+        channels-fit = are_route_channels (app_of route) guarantors joint channel first middle second
 
         ledgers-lend : Bool
-        ledgers-lend = both_lend (facts_of m) ledgers asset amounts first middle second
+        ledgers-lend = route_lends (facts_of m) route ledgers asset amounts first middle second
 
         guarantor-a : Bool
         guarantor-a = is_channel_of 2 (first ∷ middle ∷ []) guarantors.0
@@ -413,7 +451,7 @@ module _ (key : List ℕ) (m : Mind) (mine : m.key ≡ key) (fs : List FixedPart
         guarantor-b = is_channel_of 2 (middle ∷ second ∷ []) guarantors.1
 
         payment : Bool
-        payment = is_channel_of 1 (first ∷ second ∷ []) channel
+        payment = is_channel_of (app_of route) (first ∷ second ∷ []) channel
 
         left : (here && amounts-fit) ≡ true
         left = and-left (here && amounts-fit) (channels-fit && ledgers-lend) e
@@ -430,22 +468,27 @@ module _ (key : List ℕ) (m : Mind) (mine : m.key ≡ key) (fs : List FixedPart
         others-fit : ((joint.app == 0) && payment) ≡ true
         others-fit = and-right (guarantor-a && guarantor-b) ((joint.app == 0) && payment) (and-left channels-fit ledgers-lend right)
 
-        lend : ledgers-lend ≡ true
-        lend = and-right channels-fit ledgers-lend right
+        differ : bytes_eq first second ≡ false
+        differ = not-of (bytes_eq first second) (and-left (not (bytes_eq first second)) (nat_le (amounts.0 + amounts.1) (2 ^ 64 - 1)) (and-left (can_share first second amounts) (is_double_small amounts) fit-amounts))
+
+        both : BothLend (facts_of m) ledgers asset amounts first middle second
+        both = route-lends (facts_of m) ledgers asset amounts first middle second route differ (and-right channels-fit ledgers-lend right)
 
     pub fitted : Fitted
     fitted =
         fitted-by (persons joint) refl
-        (fits-plain (facts_of m) route ledgers guarantors joint channel asset amounts (and-left (fits (facts_of m) command) (are_new m names) can))
+        (fits-by-route (facts_of m) route ledgers guarantors joint channel asset amounts (and-left (fits (facts_of m) command) (are_new m names) can))
 
     -- one of the channels in which the participant is named
     there : (f : FixedParts) → In f (opened_by command) → is_among (name_of_person key) (persons f) ≡ true → In f (fs ++ gs)
     there f i e = In-append_right f fs gs (in-filter (takes_part key) f (opened_by command) i (takes key f (tells f i) e))
 
-    -- the ledger of two people one of whom it is
-    lent-own : (name first second : List ℕ) → lends_if_own (facts_of m) name (stake asset first second amounts) ≡ true → In (name_of_person key) (first ∷ second ∷ []) → OfLedger fs m.parts first second name
-    lent-own name first second e i =
-        on-ledger name first second asset amounts (own-lends (facts_of m) name first second asset amounts e (subst (λ (me : List ℕ). In me (first ∷ second ∷ [])) (sym me-is) i))
+    -- each ledger of the participant
+    on-first : (fit : Fitted) → In (name_of_person key) (fit.first ∷ fit.middle ∷ []) → OfLedger fs m.parts fit.first fit.middle ledgers.0
+    on-first fit own = on-ledger ledgers.0 fit.first fit.middle asset amounts (fit.lends_a own)
+
+    on-second : (fit : Fitted) → In (name_of_person key) (fit.middle ∷ fit.second ∷ []) → OfLedger fs m.parts fit.middle fit.second ledgers.1
+    on-second fit own = on-ledger ledgers.1 fit.middle fit.second asset amounts (fit.lends_b own)
 
     guarantor-there : (f : FixedParts) → In f (opened_by command) → f.app ≡ 2 → (people : List (List ℕ)) → persons f ≡ people → In (name_of_person key) people → OfGuarantor (fs ++ gs) (real.named f)
     guarantor-there f i app people is own = record {
@@ -489,11 +532,11 @@ module _ (key : List ℕ) (m : Mind) (mine : m.key ≡ key) (fs : List FixedPart
     sides : (fit : Fitted) (side : Bool) → cond side fit.second fit.first ≡ name_of_person key → Sides fit side
     sides fit false me = record {
       guarantor = guarantor-there guarantors.0 (inl refl) fit.app_a (fit.first ∷ fit.middle ∷ []) fit.people_a (inl (sym me));
-      on = lent-own ledgers.0 fit.first fit.middle fit.lends_a (inl (sym me));
+      on = on-first fit (inl (sym me));
     }
     sides fit true me = record {
       guarantor = guarantor-there guarantors.1 (inr (inl refl)) fit.app_b (fit.middle ∷ fit.second ∷ []) fit.people_b (inr (inl (sym me)));
-      on = lent-own ledgers.1 fit.middle fit.second fit.lends_b (inr (inl (sym me)));
+      on = on-second fit (inr (inl (sym me)));
     }
 
     of-end : (fit : Fitted) → takes_part key channel ≡ true → OfEnd key (fs ++ gs) m.parts v (shared channel asset amounts) amounts
@@ -507,7 +550,7 @@ module _ (key : List ℕ) (m : Mind) (mine : m.key ≡ key) (fs : List FixedPart
       fixed = channel;
       there = In-append_right channel fs gs (in-filter (takes_part key) channel (opened_by command) (inr (inr (inr (inl refl)))) e);
       named = refl;
-      app = fit.app_channel;
+      app = subst (λ (n : ℕ). n ≤ 1) (sym fit.app_channel) (app-small route);
       people = fit.people_channel;
       opens = refl;
       on = ledger-there fs gs m.parts (cond v.side_b fit.middle fit.first) (cond v.side_b fit.second fit.middle) (own_ledger v) both.on;
@@ -541,8 +584,8 @@ module _ (key : List ℕ) (m : Mind) (mine : m.key ≡ key) (fs : List FixedPart
       me = me;
       guarantor_a = guarantor-there guarantors.0 (inl refl) fit.app_a (fit.first ∷ fit.middle ∷ []) fit.people_a (inr (inl (sym me)));
       guarantor_b = guarantor-there guarantors.1 (inr (inl refl)) fit.app_b (fit.middle ∷ fit.second ∷ []) fit.people_b (inl (sym me));
-      on_a = ledger-there fs gs m.parts fit.first fit.middle ledgers.0 (lent-own ledgers.0 fit.first fit.middle fit.lends_a (inr (inl (sym me))));
-      on_b = ledger-there fs gs m.parts fit.middle fit.second ledgers.1 (lent-own ledgers.1 fit.middle fit.second fit.lends_b (inl (sym me)));
+      on_a = ledger-there fs gs m.parts fit.first fit.middle ledgers.0 (on-first fit (inr (inl (sym me))));
+      on_b = ledger-there fs gs m.parts fit.middle fit.second ledgers.1 (on-second fit (inl (sym me)));
     }
       where
         me : fit.middle ≡ name_of_person key

@@ -24,6 +24,7 @@ use Rattle.stage_rules.specs.Gathered.{goal_at}
 use Rattle.support_chain.specs.Real.{real}
 use Rattle.support_chain.specs.Steps.{persons}
 use Rattle.wish_laws.proofs.Carrying.{low}
+use Rattle.fairness_laws.proofs.Plan.Bearers.{Bearer, bearer-within}
 use Rattle.fairness_laws.proofs.Plan.Names.{own-in, apart-cross, apart-rest}
 
 -- ---- a part, by the channels that were opened and the plan
@@ -35,14 +36,14 @@ pub record OfRoot (fs : List FixedParts) (name : List ℕ) (opening : List Asset
   pub app : fixed.app ≤ 1
   pub outcome : are_shared (persons fixed) opening ≡ true
 
--- a consensus channel of two people that is a root
+-- a consensus channel of two people that is the own channel of a part on which others may stand
 pub record OfLedger (fs : List FixedParts) (parts : List Part) (first second name : List ℕ) : Type 0 where
   pub fixed : FixedParts
   pub there : In fixed fs
   pub named : real.named fixed ≡ name
   pub app : fixed.app ≡ 0
   pub people : persons fixed ≡ first ∷ second ∷ []
-  pub root : In (Root name) parts
+  pub bearer : Bearer parts name
 
 pub record OfOnLedger (fs : List FixedParts) (parts : List Part) (ledger name : List ℕ) (opening : List AssetOutcome) (amounts : ℕ × ℕ) : Type 0 where
   pub first : List ℕ
@@ -86,7 +87,7 @@ pub record OfEnd (key : List ℕ) (fs : List FixedParts) (parts : List Part) (v 
   pub fixed : FixedParts
   pub there : In fixed fs
   pub named : real.named fixed ≡ v.channel
-  pub app : fixed.app ≡ 1
+  pub app : fixed.app ≤ 1
   pub people : persons fixed ≡ first ∷ second ∷ []
   pub opens : opening ≡ shared fixed v.asset amounts
   pub on : OfLedger fs parts (if v.side_b then middle else first) (if v.side_b then second else middle) (own_ledger v)
@@ -123,7 +124,7 @@ Paired key fs parts n _ _ = ⊥
 
 module _ (key : List ℕ) (fs hs : List FixedParts) (parts more : List Part) (channels-stay : (f : FixedParts) → In f fs → In f hs) (parts-stay : (p : Part) → In p parts → In p more) where
   ledger-stays : (first second name : List ℕ) → OfLedger fs parts first second name → OfLedger hs more first second name
-  ledger-stays first second name o = record { fixed = o.fixed; there = channels-stay o.fixed o.there; named = o.named; app = o.app; people = o.people; root = parts-stay (Root name) o.root }
+  ledger-stays first second name o = record { fixed = o.fixed; there = channels-stay o.fixed o.there; named = o.named; app = o.app; people = o.people; bearer = bearer-within parts more name parts-stay o.bearer }
 
   joint-stays : (v : Virtual) (amounts : ℕ × ℕ) (first middle second : List ℕ) → OfJoint fs v amounts first middle second → OfJoint hs v amounts first middle second
   joint-stays v amounts first middle second o = record {

@@ -1,5 +1,5 @@
 -- Parts are known: what the tables of stages build of what is kept at a place.
-use Rattle.std.proofs.Common.{◌≡◌, ℕ, cond, List, [], ◌∷◌, refl, ◌∙◌, ap}
+use Rattle.std.proofs.Common.{◌≡◌, ℕ, cond, List, [], ◌∷◌, refl, ◌∙◌, ap, subst}
 use Rattle.std.specs.Prelude.{Option, Some}
 use Rattle.nitro_bytes.specs.Parts.{FixedParts}
 use Rattle.nitro_bytes.specs.declared.value.AssetOutcome.{AssetOutcome}
@@ -32,6 +32,7 @@ use Rattle.fairness_laws.specs.PlanLaws.{PartAt, PartsAreKnown}
 use Rattle.fairness_laws.specs.PlanParts.{LedgerIs, RootIs, OnLedgerIs, JointIs, GuarantorIs, ChildIs, EndIs, MiddleIs, PartIs}
 use Rattle.fairness_laws.specs.PlanSeats.{SeatIs, seat_of}
 use Rattle.fairness_laws.specs.PlanSettings.{IsNodes}
+use Rattle.fairness_laws.proofs.Plan.Bearers.{bears-own}
 use Rattle.fairness_laws.proofs.Plan.Holding.{Holds, holds, place-holds, seat-holds, seat-is}
 use Rattle.fairness_laws.proofs.Plan.Known.{OfRoot, OfLedger, OfOnLedger, OfJoint, OfGuarantor, OfEnd, OfMiddle, Of, goal-of, GoalOf}
 use Rattle.fairness_laws.proofs.Plan.Places.{knows-there, legal-there, grown-there, apart-there, fixed-there}
@@ -82,13 +83,16 @@ module _ (s : Signing) (h : List Entry) (journal : List Told) (past : List Entry
   ledger-at : (first second name : List ℕ) → OfLedger fs m.parts first second name → LedgerAt first second name
   ledger-at first second name o = record {
     c = seat o.fixed o.there g.goal.opening;
-    found = goal-seat o.fixed o.there name o.named g.goal g.is;
+    found = goal-seat o.fixed o.there name o.named g.goal found;
     people = o.people;
     ledger = record { fixed = o.fixed; named = o.named; app = o.app; people = o.people; seat = own-seat o.fixed o.there g.goal.opening };
   }
     where
-      g : GoalOf s.key fs m.parts m.goals (Root name)
-      g = goal (Root name) o.root
+      g : GoalOf s.key fs m.parts m.goals o.bearer.part
+      g = goal o.bearer.part o.bearer.there
+
+      found : goal_in f name ≡ Some g.goal
+      found = subst (λ (n : List ℕ). goal_in f n ≡ Some g.goal) (bears-own name o.bearer.part o.bearer.is) g.is
 
   -- ---- a channel that holds its own funds
 

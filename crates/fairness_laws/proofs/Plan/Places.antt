@@ -12,6 +12,8 @@ use Rattle.channel_calls.specs.declared.entry.Entry.{Entry}
 use Rattle.channel_calls.specs.declared.event.Deed.{Deed}
 use Rattle.channel_calls.specs.declared.event.Deed.TheVariants as deeds
 use Rattle.chain_laws.proofs.Lists.{In-get}
+use Rattle.channel_calls.proofs.Names.{same_bytes}
+use Rattle.std.proofs.lemmas.Bool.{false≢true}
 use Rattle.funding_value.specs.Parts.{own_ledger, channels}
 use Rattle.funding_value.specs.declared.plan.Goal.{Goal}
 use Rattle.funding_value.specs.declared.plan.Part.{Part}
@@ -31,11 +33,9 @@ use Rattle.node_share_laws.proofs.Apart.{Apart, apart-of}
 use Rattle.node_share_laws.proofs.Growing.{channels_told, Grows}
 use Rattle.node_share_laws.proofs.Placing.{grows-at}
 use Rattle.node_share_laws.specs.Laws.{IsFront}
-use Rattle.node_tables.specs.Fitting.{stake}
-use Rattle.node_tables.specs.Ledgers.{lends}
+use Rattle.node_tables.specs.Fitting.{stake, either_lends}
 use Rattle.node_tables.specs.Stages.{stages}
-use Rattle.signing_laws.specs.Plans.{StandsOn}
-use Rattle.fairness_laws.specs.PlanRoots.{roots_after, AllOnRoots}
+use Rattle.signing_laws.specs.Plans.{StandsOn, ledgers_after, AllStandOn}
 use Rattle.support_chain.specs.Real.{real}
 use Rattle.wish_laws.proofs.Closing.{rest-plays}
 use Rattle.wish_laws.proofs.Over.{Seen, IsKept, AtEvent, over, looked}
@@ -46,47 +46,54 @@ use Rattle.fairness_laws.proofs.Plan.Fitting.{can-open, Tells, Added, lent, root
 use Rattle.fairness_laws.proofs.Plan.Holding.{Holds, holds, place-holds, chain-holds}
 use Rattle.fairness_laws.proofs.Plan.Known.{OfLedger, Of, Paired, stays-known, stays-paired, closes-paired, opens-paired}
 use Rattle.fairness_laws.proofs.Plan.Names.{in-among}
+use Rattle.fairness_laws.specs.PlanBearers.{bears}
 
--- ---- roots that were opened before
+-- ---- ledgers that were opened before
 
-abbrev all-roots : List (List ℕ) → List Part → List (List ℕ)
-all-roots roots [] = roots
-all-roots roots (p ∷ ps) = all-roots (roots_after roots p) ps
+abbrev all-ledgers : List (List ℕ) → List Part → List (List ℕ)
+all-ledgers ledgers [] = ledgers
+all-ledgers ledgers (p ∷ ps) = all-ledgers (ledgers_after ledgers p) ps
 
-still-root : (l : List ℕ) (roots : List (List ℕ)) (p : Part) → In l roots → In l (roots_after roots p)
-still-root l roots (Root channel) i = inr i
-still-root l roots (OnLedger ledger channel) i = i
-still-root l roots (End v) i = i
-still-root l roots (Middle v) i = i
+still-ledger : (l : List ℕ) (ledgers : List (List ℕ)) (p : Part) → In l ledgers → In l (ledgers_after ledgers p)
+still-ledger l ledgers (Root channel) i = inr i
+still-ledger l ledgers (OnLedger ledger channel) i = i
+still-ledger l ledgers (End v) i = inr i
+still-ledger l ledgers (Middle v) i = i
 
-roots-stay : (l : List ℕ) (roots : List (List ℕ)) (ps : List Part) → In l roots → In l (all-roots roots ps)
-roots-stay l roots [] i = i
-roots-stay l roots (p ∷ ps) i = roots-stay l (roots_after roots p) ps (still-root l roots p i)
+ledgers-stay : (l : List ℕ) (ledgers : List (List ℕ)) (ps : List Part) → In l ledgers → In l (all-ledgers ledgers ps)
+ledgers-stay l ledgers [] i = i
+ledgers-stay l ledgers (p ∷ ps) i = ledgers-stay l (ledgers_after ledgers p) ps (still-ledger l ledgers p i)
 
-root-there : (l : List ℕ) (roots : List (List ℕ)) (ps : List Part) → In (Root l) ps → In l (all-roots roots ps)
-root-there l roots [] i = absurd i
-root-there l roots (p ∷ ps) (inl e) = subst (λ (q : Part). In l (all-roots (roots_after roots q) ps)) e (roots-stay l (l ∷ roots) ps (inl refl))
-root-there l roots (p ∷ ps) (inr i) = root-there l (roots_after roots p) ps i
+borne : (l : List ℕ) (ledgers : List (List ℕ)) (p : Part) → bears l p ≡ true → In l (ledgers_after ledgers p)
+borne l ledgers (Root channel) e = inl (sym (same_bytes channel l e))
+borne l ledgers (OnLedger ledger channel) e = absurd (false≢true e)
+borne l ledgers (End v) e = inl (sym (same_bytes v.channel l e))
+borne l ledgers (Middle v) e = absurd (false≢true e)
 
-stands-more : (roots : List (List ℕ)) (ps : List Part) (p : Part) → AllOnRoots roots ps → StandsOn (all-roots roots ps) p → AllOnRoots roots (ps ++ p ∷ [])
-stands-more roots [] p all on = (on, tt)
-stands-more roots (q ∷ ps) p all on = (all.0, stands-more (roots_after roots q) ps p all.1 on)
+bearer-there : (l : List ℕ) (ledgers : List (List ℕ)) (ps : List Part) (p : Part) → In p ps → bears l p ≡ true → In l (all-ledgers ledgers ps)
+bearer-there l ledgers [] p i e = absurd i
+bearer-there l ledgers (q ∷ ps) p (inl same) e = ledgers-stay l (ledgers_after ledgers q) ps (subst (λ (z : Part). In l (ledgers_after ledgers z)) same (borne l ledgers p e))
+bearer-there l ledgers (q ∷ ps) p (inr i) e = bearer-there l (ledgers_after ledgers q) ps p i e
+
+stands-more : (ledgers : List (List ℕ)) (ps : List Part) (p : Part) → AllStandOn ledgers ps → StandsOn (all-ledgers ledgers ps) p → AllStandOn ledgers (ps ++ p ∷ [])
+stands-more ledgers [] p all on = (on, tt)
+stands-more ledgers (q ∷ ps) p all on = (all.0, stands-more (ledgers_after ledgers q) ps p all.1 on)
 
 module _ (key : List ℕ) (fs hs : List FixedParts) (parts : List Part) where
-  on-root : (first second name : List ℕ) → OfLedger fs parts first second name → is_among name (all-roots [] parts) ≡ true
-  on-root first second name o = in-among name (all-roots [] parts) (root-there name [] parts o.root)
+  on-one : (first second name : List ℕ) → OfLedger fs parts first second name → is_among name (all-ledgers [] parts) ≡ true
+  on-one first second name o = in-among name (all-ledgers [] parts) (bearer-there name [] parts o.bearer.part o.bearer.there o.bearer.is)
 
-  stands-on : (p : Part) (opening : List AssetOutcome) (amounts : ℕ × ℕ) → Of key fs parts p opening amounts → StandsOn (all-roots [] parts) p
+  stands-on : (p : Part) (opening : List AssetOutcome) (amounts : ℕ × ℕ) → Of key fs parts p opening amounts → StandsOn (all-ledgers [] parts) p
   stands-on (Root name) opening amounts o = tt
-  stands-on (OnLedger ledger name) opening amounts o = on-root o.first o.second ledger o.on
-  stands-on (End v) opening amounts o = on-root _ _ (own_ledger v) o.on
-  stands-on (Middle v) opening amounts o = (on-root o.first o.middle v.ledger_a o.on_a, on-root o.middle o.second v.ledger_b o.on_b)
+  stands-on (OnLedger ledger name) opening amounts o = on-one o.first o.second ledger o.on
+  stands-on (End v) opening amounts o = on-one _ _ (own_ledger v) o.on
+  stands-on (Middle v) opening amounts o = (on-one o.first o.middle v.ledger_a o.on_a, on-one o.middle o.second v.ledger_b o.on_b)
 
 -- ---- the plan
 
 pub record Knows (key : List ℕ) (fs : List FixedParts) (parts : List Part) (goals : List Goal) : Type 0 where
   pub paired : Paired key fs parts 0 parts goals
-  pub stands : AllOnRoots [] parts
+  pub stands : AllStandOn [] parts
 
 with-channels : (key : List ℕ) (fs gs : List FixedParts) (parts : List Part) (goals : List Goal) → Knows key fs parts goals → Knows key (fs ++ gs) parts goals
 with-channels key fs gs parts goals was = record {
@@ -123,7 +130,7 @@ with-added key fs parts goals command new was =
 -- ---- an event
 
 module _ (s : Signing) (past : List Entry) (m : Mind) (mine : m.key ≡ s.key) (fs : List FixedParts)
-    (on-ledger : (name first second : List ℕ) (asset : ℕ) (amounts : ℕ × ℕ) → lends (facts_of m) name (stake asset first second amounts) ≡ true → OfLedger fs m.parts first second name)
+    (on-ledger : (name first second : List ℕ) (asset : ℕ) (amounts : ℕ × ℕ) → either_lends (facts_of m) name (stake asset first second amounts) ≡ true → OfLedger fs m.parts first second name)
     (owns : (f : FixedParts) → In f fs → In s.key f.keys) (was : Knows s.key fs m.parts m.goals) where
   opening : (command : Command) → Added s.key fs m.parts (length m.parts) command → Knows s.key (fs ++ adds s.key (Some command)) (with_opened real command m).parts (with_opened real command m).goals
   opening command new =
@@ -190,7 +197,7 @@ module _ (s : Signing) (h : List Entry) (journal : List Told) (nodes : IsNodes s
     pub holds-at : (f : FixedParts) → In f (channels_told s.key front) → Holds s.key past (lines_of s.key front) m f
     holds-at f i = holds s.key past front legal-at few grown-at f i
 
-    pub lent-at : KnowsAt past front → (name first second : List ℕ) (asset : ℕ) (amounts : ℕ × ℕ) → lends (facts_of m) name (stake asset first second amounts) ≡ true
+    pub lent-at : KnowsAt past front → (name first second : List ℕ) (asset : ℕ) (amounts : ℕ × ℕ) → either_lends (facts_of m) name (stake asset first second amounts) ≡ true
         → OfLedger (channels_told s.key front) m.parts first second name
     lent-at was =
         lent s.key past front m (channels_told s.key front) was.paired apart-at holds-at (place-holds s.key past front legal-at few grown-at) (chain-holds s.key past front legal-at few grown-at)

@@ -1,5 +1,5 @@
 -- Plans are whole: by what is known of each part.
-use Rattle.std.proofs.Common.{◌≡◌, ℕ, true, List, [], inl, inr, sym, ◌∙◌, ap, subst}
+use Rattle.std.proofs.Common.{◌≡◌, ℕ, true, List, inl, inr, sym, ◌∙◌, ap, subst}
 use Rattle.nitro_bytes.specs.Parts.{FixedParts}
 use Rattle.nitro_bytes.specs.declared.value.AssetOutcome.{AssetOutcome}
 use Rattle.channel_calls.specs.Flows.{is_among}
@@ -21,8 +21,6 @@ use Rattle.share_model.specs.Bases.{bases_of, all_bases}
 use Rattle.share_model.specs.Places.{plan}
 use Rattle.signing_laws.specs.Plans.{IsPlan}
 use Rattle.support_chain.specs.Real.{real}
-use Rattle.fairness_laws.proofs.Plan.Roots.{on-ledgers}
-use Rattle.fairness_laws.specs.PlanRoots.{AllOnRoots}
 use Rattle.fairness_laws.proofs.Seat.Past.{occurs}
 use Rattle.fairness_laws.proofs.Apps.{no-payments}
 use Rattle.fairness_laws.specs.PlanLaws.{PlansAreWhole}
@@ -59,8 +57,7 @@ module _ (key : List ℕ) (fs : List FixedParts) (parts : List Part) where
 
 pub plans_are_whole : PlansAreWhole
 plans_are_whole s h journal past front nodes at = record {
-  whole = subst IsPlan same (record { apart = all-apart (channels m.parts) apart; on_ledgers = on-ledgers m.parts knows.stands });
-  on_roots = subst (AllOnRoots []) same knows.stands;
+  whole = subst IsPlan same (record { apart = all-apart (channels m.parts) apart; on_ledgers = knows.stands });
   channels_differ = all-apart (names real fs) grown.apart;
   rests = rests;
 }
