@@ -7,20 +7,8 @@ ghost use Rattle.nitro_bytes.specs.Chains.{KeepsMark, KeepsLimits};
 ghost use Rattle.record_bytes.specs.Limits.{KeepsEntry, KeepsHeldChain, KeepsEnding, KeepsRecord};
 
 use channel_calls::{Call, Entry, HeldChain, Op};
-use nitro_bytes::{Chain, Mark, Signed};
-use record_bytes::{Ending, Record};
-
-/// Bytes of the longest signature.
-const LONGEST: usize = 9004;
-
-/// States and marks of the longest chain.
-const MOST_STATES: usize = 4;
-
-/// Channels of the largest plan.
-const MOST_CHANNELS: usize = 64;
-
-/// People with nodes, at most.
-const MOST_ENDINGS: usize = 16;
+use nitro_bytes::{Chain, MOST_MARKS, MOST_SIGNATURE_BYTES, MOST_STATES, Mark, Signed};
+use record_bytes::{Ending, MOST_CHAINS, MOST_ENDS, MOST_KNOWN, MOST_PARTS, Record};
 
 /// What four bytes count.
 const MOST_COUNTED: usize = 4_294_967_295;
@@ -28,7 +16,7 @@ const MOST_COUNTED: usize = 4_294_967_295;
 fn keeps_mark(mark: &Mark) -> bool
     ensures { IsTrue result ↔ KeepsMark mark.now }
 {
-    mark.signature.as_slice().len() <= LONGEST
+    mark.signature.as_slice().len() <= MOST_SIGNATURE_BYTES
 }
 
 fn marks_keep(marks: &[Mark]) -> bool
@@ -41,13 +29,13 @@ fn keeps_chain(chain: &Chain) -> bool
     ensures { IsTrue result ↔ KeepsLimits chain.now }
 {
     let marks = chain.marks.as_slice();
-    chain.states.as_slice().len() <= MOST_STATES && marks.len() <= MOST_STATES && marks_keep(marks)
+    chain.states.as_slice().len() <= MOST_STATES && marks.len() <= MOST_MARKS && marks_keep(marks)
 }
 
 fn is_short(next: &Signed) -> bool
     ensures { IsTrue result ↔ IsShort next.now }
 {
-    next.signature.as_slice().len() <= LONGEST
+    next.signature.as_slice().len() <= MOST_SIGNATURE_BYTES
 }
 
 fn keeps_call(call: &Call) -> bool
@@ -58,7 +46,7 @@ fn keeps_call(call: &Call) -> bool
             chain,
             signature,
             ..
-        } => keeps_chain(chain) && signature.as_slice().len() <= LONGEST,
+        } => keeps_chain(chain) && signature.as_slice().len() <= MOST_SIGNATURE_BYTES,
         Call::Respond { next, .. } | Call::Refute { next, .. } => is_short(next),
         Call::Checkpoint { chain } | Call::Conclude { chain } => keeps_chain(chain),
         Call::Deposit { .. } | Call::Transfer { .. } | Call::Claim { .. } => true,
@@ -91,9 +79,9 @@ fn keeps_ending(ending: &Ending) -> bool
 {
     let chains = ending.chains.as_slice();
     ending.plan.me == ending.person
-        && ending.plan.parts.as_slice().len() <= MOST_CHANNELS
-        && ending.known.as_slice().len() <= MOST_CHANNELS
-        && chains.len() <= MOST_CHANNELS
+        && ending.plan.parts.as_slice().len() <= MOST_PARTS as usize
+        && ending.known.as_slice().len() <= MOST_KNOWN as usize
+        && chains.len() <= MOST_CHAINS as usize
         && ending.shares.as_slice().len() <= MOST_COUNTED
         && chains_keep(chains)
 }
@@ -112,7 +100,7 @@ pub(crate) fn keeps_record(value: &Record) -> bool
     let ends = value.ends.as_slice();
     history.len() <= MOST_COUNTED
         && value.sums.as_slice().len() <= MOST_COUNTED
-        && ends.len() <= MOST_ENDINGS
+        && ends.len() <= MOST_ENDS as usize
         && entries_keep(history)
         && endings_keep(ends)
 }
