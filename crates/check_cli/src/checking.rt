@@ -1,6 +1,6 @@
 //! A check of a record, and the line that was put.
 
-ghost use Rattle.std.specs.Prelude.{◌≡◌, IfOk, string_bytes};
+ghost use Rattle.std.specs.Prelude.{◌≡◌, ⊤, IfOk, string_bytes};
 ghost use Rattle.record_answers.specs.Answering.{given};
 ghost use Rattle.record_answers.specs.Running.{IsRun, sunk};
 ghost use Rattle.check_cli.specs.Checking.{sound_line, check_asked};
@@ -25,6 +25,8 @@ fn sound_line(alloc: Global, entries: usize) -> Result<String, AllocError>
 
 impl Answering for Check {
     ghost asked = { check_asked };
+
+    ghost ready = { λ _. ⊤ };
 
     fn word(&self) -> &'static str {
         "check"

@@ -13,10 +13,14 @@ pub trait Answering {
     /// Its word, and the text of its answer.
     ghost asked: { Asked };
 
+    /// What its answer needs besides, as that threads may share its runtime.
+    ghost ready: { Self → Type 0 };
+
     fn word(&self) -> &'static str
         ensures { result.now ≡ asked.word };
 
     fn answer(&self, alloc: Global, value: &Record) -> Result<Vec<u8>, NoMemory>
-        requires { IsSound value.now }
+        requires ready { ready self.now }
+        requires sound { IsSound value.now }
         ensures { IfOk result (λ text. text.items ≡ asked.text value.now) };
 }

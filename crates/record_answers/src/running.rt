@@ -37,6 +37,7 @@ fn end_of_record<A: Answering>(
     answering: &A,
     value: &Record,
 ) -> Result<Ended, NoMemory>
+    requires { A.ready answering.now }
     ensures { (given : Given) (bytes : List ℕ) → asks A.asked given.words ≡ true → IsReadTo given bytes
         → record_of bytes ≡ Ok value.now
         → IfOk result (λ ended. EndsAs A.asked given ended.status ended.text.items) }
@@ -59,6 +60,7 @@ fn end_of_record<A: Answering>(
 /// What bytes come to.
 #[tactic(auto, using(crate::proofs::Ending::unspelled_end))]
 fn end_of_bytes<A: Answering>(alloc: Global, answering: &A, bytes: &[u8]) -> Result<Ended, NoMemory>
+    requires { A.ready answering.now }
     ensures { (given : Given) → asks A.asked given.words ≡ true → IsReadTo given bytes.now
         → IfOk result (λ ended. EndsAs A.asked given ended.status ended.text.items) }
 {
@@ -93,6 +95,7 @@ fn work<A: Answering, S: Source>(
     words: &[Label],
     source: &mut S,
 ) -> Result<Ended, NoMemory>
+    requires { A.ready answering.now }
     ensures { IfOk result (λ ended.
         EndsAs A.asked (given S.remaining S.faults words.now source.old source.new) ended.status ended.text.items) }
 {
@@ -125,6 +128,7 @@ pub fn run_on_record<A: Answering, S: Source, K: Sink>(
     source: &mut S,
     sink: &mut K,
 ) -> Status
+    requires { A.ready answering.now }
     ensures { IsRun A.asked (given S.remaining S.faults words.now source.old source.new)
         (sunk K.held K.faults sink.old sink.new) result }
 {

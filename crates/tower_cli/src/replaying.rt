@@ -1,5 +1,6 @@
 //! A replay of a record, and the text that was put.
 
+ghost use denote.Param.Send.{IsSync};
 ghost use Rattle.std.specs.Prelude.{◌≡◌, fold, OnOk};
 ghost use Rattle.support_chain.specs.Real.{real};
 ghost use Rattle.record_answers.specs.Answering.{given};
@@ -38,6 +39,8 @@ fn enroll_all(tower: &mut Tower, ends: &[Ending]) -> Result<(), NoMemory>
 
 impl<R: Threads + Wait + Sync> Answering for Replay<'_, R> {
     ghost asked = { replay_asked };
+
+    ghost ready = { λ _. IsSync R.row };
 
     fn word(&self) -> &'static str {
         "replay"
