@@ -2,7 +2,6 @@
 #![tactic(auto)]
 
 mod checking;
-mod status;
 
 use byte_sink::StdSink;
 use byte_source::StdSource;

@@ -1,18 +1,17 @@
 -- Where no two digests of what steps declare are the same, each is new where it is declared; and the other way round.
-use Rattle.std.proofs.Common.{◌≡◌, ◌≤◌, ℕ, List, [], ◌∷◌, ◌++◌, Bool, true, false, not, ap, sym, refl, ◌∙◌}
-use Rattle.std.specs.Prelude.{◌&&◌, ◌||◌, map, Ok, Err, Result}
+use Rattle.std.proofs.Common.{◌≡◌, ℕ, List, [], ◌∷◌, ◌++◌, Bool, true, false, not, ap, sym, refl, ◌∙◌}
+use Rattle.std.specs.Prelude.{◌||◌, map, Ok}
 use Rattle.std.specs.List.{fold, list_any}
 use Rattle.std.specs.Str.{bytes_eq}
 use Rattle.std.proofs.lemmas.List.{map-append}
 use Rattle.std.proofs.lemmas.List.Folds.{list_any-append}
-use Rattle.script_reader.specs.Conditions.{after, has_fixed, is_new_channel, is_new_person, keys_in}
+use Rattle.script_reader.specs.Conditions.{after, has_fixed, keys_in}
 use Rattle.script_reader.specs.Context.{repeats}
 use Rattle.script_reader.specs.Digests.{channel_name, key_of, person_name}
 use Rattle.script_reader.specs.Rules.{◌>>=◌, holds}
 use Rattle.script_reader.specs.context.Channel.{Channel}
 use Rattle.script_reader.specs.context.Context.{Context}
 use Rattle.script_reader.specs.context.Person.{Person}
-use Rattle.script_reader.specs.step.Rule.{Rule}
 use Rattle.script_reader.specs.step.Rule.TheVariants as rules
 use Rattle.script_reader.specs.step.Step.{Step}
 use Rattle.script_reader.specs.step.Step.TheVariants as steps

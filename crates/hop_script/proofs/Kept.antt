@@ -1,6 +1,6 @@
 -- The steps of a hop keep the rules of a script.
 use Rattle.std.proofs.Common.{◌≡◌, ◌≤◌, ◌+◌, ◌*◌, ℕ, zero, suc, List, [], ◌∷◌, ◌++◌, length, length-append, ap, sym, ◌∙◌, refl, arith, subst, true, false}
-use Rattle.std.specs.Prelude.{Bool, ◌&&◌, nat_le, All}
+use Rattle.std.specs.Prelude.{Bool, ◌&&◌, nat_le}
 use Rattle.std.specs.List.{fold}
 use Rattle.std.proofs.lemmas.Bool.{le-leb}
 use Rattle.std.proofs.lemmas.List.Elements.{filter_map-append}

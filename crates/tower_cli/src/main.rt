@@ -3,7 +3,6 @@
 #![tactic(auto)]
 
 mod replaying;
-mod status;
 
 use byte_sink::StdSink;
 use byte_source::StdSource;

@@ -1,4 +1,4 @@
-use Rattle.std.proofs.Common.{rules, ◌≡◌, ◌++◌, ◌∙◌, List, ap, append_assoc, sym}
+use Rattle.std.proofs.Common.{◌++◌, ◌∙◌, List, ap, append_assoc, sym}
 use Rattle.script_reader.specs.Bounds.{signers_of}
 use Rattle.script_reader.specs.step.Step.{Step}
 use Rattle.hop_script.specs.Hop.{declared, ending_steps, openings, payments}

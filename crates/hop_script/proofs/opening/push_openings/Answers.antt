@@ -1,7 +1,7 @@
 use Rattle.std.proofs.Common.{◌≡◌, ◌∷◌, [], ◌++◌, ◌∙◌, ℕ, List, get_or, OnOk, ap, refl, subst}
 use Rattle.script_reader.specs.context.Person.{Person}
 use Rattle.script_reader.specs.step.Step.{Step}
-use Rattle.hop_script.specs.Hop.{declared_people, opened_ledgers, opened_virtuals, openings}
+use Rattle.hop_script.specs.Hop.{declared_people, opened_ledgers, opened_virtuals}
 use Rattle.hop_script.proofs.Lists.{two_on, four_of}
 use Rattle.hop_script.proofs.opening.push_openings.Goals as goal
 

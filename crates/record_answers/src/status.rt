@@ -1,14 +1,15 @@
-//! How a replay ends.
+//! How a run ends.
 
 ghost use Rattle.std.specs.Prelude.{◌≡◌};
-ghost use Rattle.tower_cli.specs.Replaying.{code_of};
+ghost use Rattle.record_answers.specs.Answering.{code_of};
 
 use history_check::Verdict;
 use nitro_bytes::ByteFault;
 
-/// How a replay ended, numbered as the ends of runs are.
+/// How a run on a record ended, numbered as the ends of runs are.
 #[derive(Clone, Copy, Debug, PartialEq, Eq)]
 pub enum Status {
+    /// The record is sound.
     Done,
     NoMemory,
     Usage,

@@ -7,7 +7,7 @@ use Rattle.tower_replay.specs.Replay.{enrolling, replay_text}
 use Rattle.tower_service.specs.Towers.{Towering}
 use Rattle.tower_service.specs.declared.client.Client.{Client}
 use Rattle.tower_cli.specs.Replaying.{enrolled}
-use Rattle.tower_cli.proofs.replaying.replay_sound.Goals as goal
+use Rattle.tower_cli.proofs.replaying.ReplayAnswering.answer.Goals as goal
 
 pub returns : goal.returns
 returns g c =
