@@ -1,9 +1,10 @@
 -- A share reads what is held by the channels in which the plan's person is a participant, and of one asset alone.
-use Rattle.std.proofs.Common.{◌≡◌, ℕ, ◌+◌, min, Bool, true, false, not, ◌&&◌, ◌||◌, cond, List, [], ◌∷◌, ◌++◌, map, refl, sym, ◌∙◌, ap}
-use Rattle.std.specs.Prelude.{Option, Some, None, Result, Ok, Err, IfOk, ◌==◌, if◌then◌else◌}
+use Rattle.std.proofs.Common.{◌≡◌, ℕ, ◌+◌, ◌<◌, min, Bool, true, false, not, ◌&&◌, ◌||◌, cond, List, [], ◌∷◌, ◌++◌, map, length, take, get_or, refl, sym, ◌∙◌, ap, ◌↔◌}
+use Rattle.std.specs.Prelude.{Result, Ok, Err, IfOk, IsTrue, ◌==◌}
 use Rattle.std.specs.List.{list_any, list_all}
 use Rattle.std.specs.Str.{bytes_eq}
 use Rattle.std.proofs.lemmas.Bool.{eq-eqb}
+use Rattle.std.proofs.lemmas.List.{take_more, map-append}
 use Rattle.nitro_bytes.specs.declared.fault.NoMemory.{NoMemory}
 use Rattle.nitro_bytes.specs.declared.value.AssetOutcome.{AssetOutcome}
 use Rattle.nitro_bytes.specs.declared.value.Dest.TheVariants.{Person, Channel}
@@ -28,8 +29,9 @@ use Rattle.share_model.specs.Places.{balances, counting_of}
 use Rattle.share_model.specs.Share.{least_over, worth_under, share_of}
 use Rattle.share_model.specs.Worth.{Table, no_reach, with_reach, affords, child, guarantor, claim, own_claim, virtual, end_reach, reach_after, second_amt, middle_worth, part_worth, worth}
 use Rattle.support_chain.specs.Real.{real}
-use Rattle.history_check.specs.Plans.{joined, without, firsts, possible_then, counting_then}
-use Rattle.history_check.specs.Seen.{share_by, are_joined, channel_seen, plan_seen}
+use Rattle.record_bytes.specs.declared.run_record.Ending.{Ending}
+use Rattle.history_check.specs.Plans.{joined, without, firsts, possible_then, counting_then, shares_then}
+use Rattle.history_check.specs.Seen.{share_by, HasSharesBy, are_joined, channel_seen, plan_seen}
 use mathlib.Core.Path.{fun_ext}
 
 or_left : (a b : Bool) → a ≡ true → (a || b) ≡ true
@@ -83,7 +85,7 @@ and_both true b e f = f
 and_both false b e f = absurd cc
 
 module _ (wide : List (List ℕ)) where
-  Within : List (List ℕ) → Type 0
+  abbrev Within : List (List ℕ) → Type 0
   Within names = (name : List ℕ) → is_among name names ≡ true → is_among name wide ≡ true
 
   firsts_among : (names : List (List ℕ)) (ks : List Known) → Within names → list_all (λ (k : Known). is_among k.channel wide) (firsts names ks) ≡ true
@@ -103,16 +105,16 @@ firsts_joined own ks = firsts_among (joined own.parts) (joined own.parts) ks (λ
 -- ---- the worth of parts
 
 module _ (held other : List ℕ → ℕ) (xs : List Counting) (asset : ℕ) (taken : List (List ℕ)) (me : List ℕ) where
-  mine : Books
+  abbrev mine : Books
   mine = books_under held xs asset taken
 
-  theirs : Books
+  abbrev theirs : Books
   theirs = books_under other xs asset taken
 
-  Alike : List (List ℕ) → Type 0
+  abbrev Alike : List (List ℕ) → Type 0
   Alike names = (name : List ℕ) → is_among name names ≡ true → held name ≡ other name
 
-  child_at : Table → (l c : List ℕ) → ℕ → ℕ
+  abbrev child_at : Table → (l c : List ℕ) → ℕ → ℕ
   child_at reach l c n = cond (has (mine.items l) (Channel c)) (n + affords mine l (reach l) (Channel c)) 0
 
   child_same : (reach : Table) (l c : List ℕ) → held c ≡ other c → child mine reach l c ≡ child theirs reach l c
@@ -143,7 +145,7 @@ module _ (held other : List ℕ → ℕ) (xs : List Counting) (asset : ℕ) (tak
       virtual_same (own_guarantor v) v.joint v.channel (end_reach mine reach v) (end_reach theirs reach v)
       (first v.channel [] last) (end_same reach v (first (own_guarantor v) (v.joint ∷ v.channel ∷ []) alike))
 
-  middle_at : Virtual → (a b : ℕ) → ℕ
+  abbrev middle_at : Virtual → (a b : ℕ) → ℕ
   middle_at v a b =
       middle_worth true true true (amt (mine.items v.joint) (Person me)) (amt (mine.items v.joint) (Channel v.channel))
       (second_amt (mine.items v.joint) (mine.list v.guarantor_a)) (second_amt (mine.items v.joint) (mine.list v.guarantor_b)) a b
@@ -183,7 +185,7 @@ module _ (held other : List ℕ → ℕ) (xs : List Counting) (asset : ℕ) (tak
 -- ---- a share
 
 module _ (h : List Entry) (own : Plan) (asset : ℕ) where
-  w : WorldView
+  abbrev w : WorldView
   w = plan_seen h own asset
 
   seen_in : (names : List (List ℕ)) (name : List ℕ) → is_among name names ≡ true → view_of (map (channel_seen h asset) names) name ≡ channel_seen h asset name
@@ -203,16 +205,22 @@ module _ (h : List Entry) (own : Plan) (asset : ℕ) where
       ap (λ (v : ChannelView). counting_of k.channel (possible_seen w.now v k.last) ++ counting_seen w ks) (seen_in (joined own.parts) k.channel (and-left (is_among k.channel (joined own.parts)) (are_joined own ks) all))
       ∙ ap (λ (cs : List Counting). counting_of k.channel (possible_then real h k) ++ cs) (counts_same ks (and-right (is_among k.channel (joined own.parts)) (are_joined own ks) all))
 
+  abbrev alone_of : ℕ → Bool → ℕ × ℕ
+  alone_of n b = cond b (asset, n) (asset, 0)
+
   amount_alone : (n : ℕ) → held_amount ((asset, n) ∷ []) asset ≡ n
-  amount_alone n = ap (λ (b : Bool). (cond b (asset, n) (asset, 0)).1) (eq-eqb asset asset refl)
+  amount_alone n = ap (λ (b : Bool). (alone_of n b).1) (eq-eqb asset asset refl)
 
   held_same : (name : List ℕ) → is_among name (joined own.parts) ≡ true → held_seen w asset name ≡ balances h asset name
   held_same name among = ap (λ (v : ChannelView). held_amount v.held asset) (seen_in (joined own.parts) name among) ∙ amount_alone (held_of h name asset)
 
+  abbrev paid_of : Bool → List ℕ × ℕ × ℕ
+  paid_of b = cond b (own.me, asset, paid_to h own.me asset) (own.me, asset, 0)
+
   paid_same : paid_amount w.paid own.me asset ≡ paid_to h own.me asset
   paid_same =
-      ap (λ (b : Bool). (cond (b && (asset == asset)) (own.me, asset, paid_to h own.me asset) (own.me, asset, 0)).2) (bytes_eq_self own.me)
-      ∙ ap (λ (b : Bool). (cond b (own.me, asset, paid_to h own.me asset) (own.me, asset, 0)).2) (eq-eqb asset asset refl)
+      ap (λ (b : Bool). (paid_of (b && (asset == asset))).2) (bytes_eq_self own.me)
+      ∙ ap (λ (b : Bool). (paid_of b).2) (eq-eqb asset asset refl)
 
   share_same : (ks : List Known) → are_joined own ks ≡ true → share_seen w own ks asset ≡ share_by h own ks asset
   share_same ks all =
@@ -228,3 +236,20 @@ pub share_told : (r : Result ℕ NoMemory) (h : List Entry) (own : Plan) (ks : L
     → IfOk r (λ n. n ≡ share_seen w own ks asset) → IfOk r (λ n. n ≡ share_by h own ks asset)
 share_told (Ok n) h own ks asset w all is told = told ∙ ap (λ (v : WorldView). share_seen v own ks asset) is ∙ share_same h own asset ks all
 share_told (Err e) h own ks asset w all is told = tt
+
+-- a list that is longer by one amount
+pub shares_more : (f : ℕ → ℕ) (assets : List ℕ) (i : ℕ) (before more : List (ℕ × ℕ)) (amount : ℕ) → i < length assets → amount ≡ f (get_or assets i 0)
+    → before ≡ map (λ asset. (asset, f asset)) (take i assets) → more ≡ before ++ (get_or assets i 0, amount) ∷ [] → more ≡ map (λ asset. (asset, f asset)) (take (i + 1) assets)
+shares_more f assets i before more amount inside is so adds =
+    adds ∙ ap (λ (xs : List (ℕ × ℕ)). xs ++ (get_or assets i 0, amount) ∷ []) so
+    ∙ ap (λ (n : ℕ). map (λ asset. (asset, f asset)) (take i assets) ++ (get_or assets i 0, n) ∷ []) is
+    ∙ sym (map-append (λ (asset : ℕ). (asset, f asset)) (take i assets) (get_or assets i 0 ∷ []))
+    ∙ ap (map (λ (asset : ℕ). (asset, f asset))) (sym (take_more assets i 0 inside))
+
+-- an ending's shares, by the known states that count
+pub shares_wanted : (h : List Entry) (e : Ending) (ks : List Known) (assets : List ℕ) (wanted : List (ℕ × ℕ)) (result : Bool) → ks ≡ firsts (joined e.plan.parts) e.known
+    → wanted ≡ map (λ asset. (asset, share_by h e.plan ks asset)) assets → IsTrue result ↔ (e.shares ≡ wanted) → IsTrue result ↔ HasSharesBy h assets e
+shares_wanted h e ks assets wanted result are is same = (λ yes-so. same.0 yes-so ∙ all, λ holds. same.1 (holds ∙ sym all))
+  where
+    all : wanted ≡ shares_then real h e.plan e.known assets
+    all = is ∙ ap (λ (those : List Known). map (λ asset. (asset, share_by h e.plan those asset)) assets) are

@@ -1,6 +1,6 @@
 -- What is left of outcomes after one more entry.
 use Rattle.std.proofs.Common.{◌≡◌, ℕ, ◌+◌, ◌-◌, ◌<◌, ◌≤◌, ◌^◌, Bool, true, false, ◌&&◌, cond, List, [], ◌∷◌, ◌++◌, refl, sym, ◌∙◌, ap, arith}
-use Rattle.std.specs.Prelude.{Option, Some, None, Result, Ok, Err, OnOk, unwrap_or}
+use Rattle.std.specs.Prelude.{◌==◌, Option, Some, None, Result, Ok, Err, OnOk, unwrap_or}
 use Rattle.std.specs.Map.{lookup}
 use Rattle.std.specs.Option.{option_map}
 use Rattle.std.specs.Str.{bytes_eq}
@@ -73,10 +73,12 @@ pays_nothing (ops.Call (Claim guarantor promise target outcome kind position)) (
 pays_nothing op reply channel asset place other = refl
 
 module _ (h : List Entry) (e : Entry) (channel : List ℕ) (other : touches (changed e) channel ≡ false) where
+  paid_at : (asset place : ℕ) → paid_of (e ∷ h) channel asset place ≡ paid_of h channel asset place
+  paid_at asset place =
+      omega (arith, sum_by-append (pays channel asset place) (payment_of e.op e.reply) (payments_of h), pays_nothing e.op e.reply channel asset place other)
+
   paid_stays : paid_of (e ∷ h) channel ≡ paid_of h channel
-  paid_stays =
-      fun_ext (λ asset. fun_ext (λ place.
-      omega (arith, sum_by-append (pays channel asset place) (payment_of e.op e.reply) (payments_of h), pays_nothing e.op e.reply channel asset place other)))
+  paid_stays = fun_ext (λ asset. fun_ext (λ place. paid_at asset place))
 
   stays : rest_of_channel real channel (e ∷ h) ≡ rest_of_channel real channel h
   stays =
@@ -86,13 +88,13 @@ module _ (h : List Entry) (e : Entry) (channel : List ℕ) (other : touches (cha
 -- ---- the channel that an entry changes
 
 module _ (h : List Entry) (e : Entry) (now : ℕ) (channel : List ℕ) (rest : Option (List AssetOutcome)) where
-  views : List ChannelView
+  abbrev views : List ChannelView
   views = (alone now e.number channel rest).channels
 
-  turned : List ChannelView
+  abbrev turned : List ChannelView
   turned = turned_views real now e views
 
-  own : ChannelView
+  abbrev own : ChannelView
   own = record { channel = channel; turn = 0; deadline = None; held = []; shown = None; settled = None; rest = rest }
 
   before : (view_of views channel).rest ≡ rest
@@ -115,10 +117,10 @@ small_sum : (held amount : ℕ) → held ≡ 0 → amount < 2 ^ 64 → held + am
 small_sum held amount none small = omega arith
 
 module _ (now number : ℕ) (channel : List ℕ) (rest : Option (List AssetOutcome)) where
-  known : List ChannelView
+  abbrev known : List ChannelView
   known = (alone now number channel rest).channels
 
-  only : ChannelView
+  abbrev only : ChannelView
   only = record { channel = channel; turn = 0; deadline = None; held = []; shown = None; settled = None; rest = rest }
 
   none_shown : (b : Bool) (name : List ℕ) → (cond b only (unknown name)).shown ≡ None
@@ -152,9 +154,12 @@ module _ (now number : ℕ) (channel : List ℕ) (rest : Option (List AssetOutco
   rooms [] small = tt
   rooms (flow ∷ flows) small = room_for flow.to flow.from flow.asset flow.amount small
 
+back_one : (n : ℕ) → 1 ≤ n → n ≡ n - 1 + 1
+back_one n from = omega arith
+
 pub can_follow : (e : Entry) (now : ℕ) (channel : List ℕ) (rest : Option (List AssetOutcome)) → 1 ≤ e.number → moved e < 2 ^ 64 → CanFollow name_of e (alone now e.number channel rest)
 can_follow e now channel rest numbered small = record {
-  next = omega (arith, numbered);
+  next = back_one e.number numbered;
   room = rooms now e.number channel rest (flow_of e.op e.reply) small;
   short = short now e.number channel rest e.op (fixed_of e.op) (told_row now e.op e.reply);
 }

@@ -48,7 +48,7 @@ no_items asset (o ∷ os) e = go (o.asset == asset) refl (no_items asset os) e
     go false is rest f = ap (λ (b : Bool). items_of (cond b (Some o.shape) (shape_in os asset))) is ∙ rest f
 
 -- neither outcome of a channel has items of the asset
-HaveNone : ℕ → List Counting → Type 0
+abbrev HaveNone : ℕ → List Counting → Type 0
 HaveNone asset [] = Unit {0}
 HaveNone asset (x ∷ xs) = (items_in asset x.outcome ≡ []) × (items_in asset (or_empty x.proposal) ≡ []) × HaveNone asset xs
 
@@ -111,7 +111,7 @@ min_nothing : (n : ℕ) → min 0 n ≡ 0
 min_nothing n = omega arith
 
 module _ (held : List ℕ → ℕ) (xs : List Counting) (asset : ℕ) (taken : List (List ℕ)) (me : List ℕ) where
-  empty : Books
+  abbrev empty : Books
   empty = record (books_under held xs asset taken) { items = λ channel. [] }
 
   part_nothing : (reach : Table) (p : Part) → part_worth empty me reach p ≡ 0

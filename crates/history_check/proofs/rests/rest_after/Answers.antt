@@ -8,6 +8,6 @@ use Rattle.history_check.proofs.rests.rest_after.Goals as goal
 
 pub follow-requires : goal.follow-requires
 follow-requires c =
-    let small : moved c.args.entry.now < 2 ^ 64 = subst (λ n. n < 2 ^ 64) c.moved-_amount.ensures c.moved-_amount.type_inv in
+    let small : moved c.args.entry.now < 2 ^ 64 = subst (λ n. n < 2 ^ 64) c.moved-amount.ensures c.moved-amount.type_inv in
     subst (λ (w : WorldView). CanFollow name_of c.args.entry.now w) (sym c.in_ok-view.ensures)
     (can_follow c.args.entry.now c.args.now c.args.channel.now c.args.rest c.requires small)
