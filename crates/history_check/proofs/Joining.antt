@@ -1,17 +1,15 @@
 -- A share reads what is held by the channels in which the plan's person is a participant, and of one asset alone.
 use Rattle.std.proofs.Common.{◌≡◌, ℕ, ◌+◌, ◌<◌, min, Bool, true, false, not, ◌&&◌, ◌||◌, cond, List, [], ◌∷◌, ◌++◌, map, length, take, get_or, refl, sym, ◌∙◌, ap, ◌↔◌}
 use Rattle.std.specs.Prelude.{Result, Ok, Err, IfOk, IsTrue, ◌==◌}
-use Rattle.std.specs.List.{list_any, list_all}
+use Rattle.std.specs.List.{list_all}
 use Rattle.std.specs.Str.{bytes_eq}
 use Rattle.std.proofs.lemmas.Bool.{eq-eqb}
 use Rattle.std.proofs.lemmas.List.{take_more, map-append}
 use Rattle.nitro_bytes.specs.declared.fault.NoMemory.{NoMemory}
-use Rattle.nitro_bytes.specs.declared.value.AssetOutcome.{AssetOutcome}
 use Rattle.nitro_bytes.specs.declared.value.Dest.TheVariants.{Person, Channel}
-use Rattle.nitro_bytes.specs.declared.value.Item.{Item}
-use Rattle.channel_model.specs.Amounts.{amt, has, aff}
+use Rattle.channel_model.specs.Amounts.{amt, has}
 use Rattle.channel_calls.specs.Flows.{is_among}
-use Rattle.channel_calls.specs.History.{row, now_of, held_of, paid_to, rest_of_channel}
+use Rattle.channel_calls.specs.History.{held_of, paid_to}
 use Rattle.channel_calls.specs.declared.entry.Entry.{Entry}
 use Rattle.channel_calls.specs.declared.held_chain.Known.{Known}
 use Rattle.channel_calls.specs.declared.view.ChannelView.{ChannelView}
@@ -22,11 +20,11 @@ use Rattle.funding_value.specs.declared.plan.Part.{Part}
 use Rattle.funding_value.specs.declared.plan.Part.TheVariants.{Root, OnLedger, End, Middle}
 use Rattle.funding_value.specs.declared.plan.Plan.{Plan}
 use Rattle.funding_value.specs.declared.plan.Virtual.{Virtual}
-use Rattle.history_view.specs.Views.{is_of, unknown, view_of, held_amount, paid_amount}
+use Rattle.history_view.specs.Views.{view_of, held_amount, paid_amount}
 use Rattle.plan_share.specs.Seen.{held_seen, possible_seen, counting_seen, share_seen}
 use Rattle.share_model.specs.Books.{Books, Counting, counts_in, varying, books_under}
 use Rattle.share_model.specs.Places.{balances, counting_of}
-use Rattle.share_model.specs.Share.{least_over, worth_under, share_of}
+use Rattle.share_model.specs.Share.{least_over, share_of}
 use Rattle.share_model.specs.Worth.{Table, no_reach, with_reach, affords, child, guarantor, claim, own_claim, virtual, end_reach, reach_after, second_amt, middle_worth, part_worth, worth}
 use Rattle.support_chain.specs.Real.{real}
 use Rattle.record_bytes.specs.declared.run_record.Ending.{Ending}

@@ -1,14 +1,12 @@
 -- Of an asset that no outcome of a plan's channels names, the share is what was paid.
 use Rattle.std.proofs.Common.{◌≡◌, ℕ, ◌+◌, min, Bool, true, false, ◌||◌, cond, List, [], ◌∷◌, ◌++◌, refl, sym, ◌∙◌, ap, arith}
 use Rattle.std.specs.Prelude.{Option, Some, None, ◌==◌}
-use Rattle.std.specs.List.{list_any}
 use Rattle.std.specs.Str.{bytes_eq}
 use Rattle.std.proofs.lemmas.List.Folds.{list_any-append}
 use Rattle.nitro_bytes.specs.declared.value.AssetOutcome.{AssetOutcome}
-use Rattle.nitro_bytes.specs.declared.value.Dest.TheVariants.{Person, Channel}
+use Rattle.nitro_bytes.specs.declared.value.Dest.TheVariants.{Person}
 use Rattle.nitro_bytes.specs.declared.value.Item.{Item}
 use Rattle.deadline_clock.specs.Mode.{is_final}
-use Rattle.channel_model.specs.Amounts.{amt}
 use Rattle.channel_calls.specs.Dues.{shape_in}
 use Rattle.channel_calls.specs.Flows.{is_among}
 use Rattle.channel_calls.specs.History.{mode, paid_to, rest_of_channel}

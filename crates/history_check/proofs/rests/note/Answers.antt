@@ -1,4 +1,4 @@
-use Rattle.std.proofs.Common.{◌≡◌, sym, ◌∙◌, ℕ, List, ◌∷◌, cond, None}
+use Rattle.std.proofs.Common.{◌≡◌, sym, ◌∙◌, ℕ, List, ◌∷◌, cond}
 use Rattle.std.specs.Prelude.{Some}
 use Rattle.std.specs.Map.{lookup}
 use Rattle.std.specs.Str.{bytes_eq}

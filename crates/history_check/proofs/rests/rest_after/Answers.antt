@@ -1,4 +1,4 @@
-use Rattle.std.proofs.Common.{◌≡◌, ◌∙◌, sym, subst, ◌<◌, ◌^◌}
+use Rattle.std.proofs.Common.{sym, subst, ◌<◌, ◌^◌}
 use Rattle.channel_calls.specs.Naming.{name_of}
 use Rattle.channel_calls.specs.declared.view.WorldView.{WorldView}
 use Rattle.history_view.specs.Room.{CanFollow}

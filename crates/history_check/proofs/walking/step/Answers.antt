@@ -1,7 +1,6 @@
 use Rattle.std.proofs.Common.{◌≡◌, true, ◌∙◌, rules, arith}
 use Rattle.std.proofs.lemmas.Bool.{not-false}
 use Rattle.channel_calls.specs.History.{newest_first}
-use Rattle.support_chain.specs.Real.{real}
 use Rattle.history_check.proofs.Walks.{is_next, next_legal, goes_on}
 use Rattle.history_check.proofs.walking.step.Goals as goal
 

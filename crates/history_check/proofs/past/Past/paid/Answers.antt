@@ -1,4 +1,4 @@
-use Rattle.std.proofs.Common.{◌≡◌, ℕ, List, ◌∙◌, ap}
+use Rattle.std.proofs.Common.{List, ◌∙◌, ap}
 use Rattle.channel_calls.specs.History.{paid_to}
 use Rattle.channel_calls.specs.declared.entry.Entry.{Entry}
 use Rattle.history_check.proofs.past.Past.paid.Goals as goal

@@ -1,4 +1,4 @@
-use Rattle.std.proofs.Common.{◌≡◌, ℕ, List, ◌∙◌, ap}
+use Rattle.std.proofs.Common.{List, ◌∙◌, ap}
 use Rattle.channel_calls.specs.History.{rest_of_channel}
 use Rattle.channel_calls.specs.declared.entry.Entry.{Entry}
 use Rattle.support_chain.specs.Real.{real}
