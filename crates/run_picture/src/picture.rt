@@ -10,7 +10,7 @@ use crate::px::{minus, plus};
 use crate::shapes::{Look, Run as Runs, Shape, Sketch};
 use crate::svg::svg_of;
 use crate::times::draw_times;
-use run_text::Run;
+use run_text::{Made, Run};
 use std::alloc::{AllocError, Global};
 
 /// Shapes, and how high they stand together.
@@ -24,14 +24,27 @@ fn plural(count: u64) -> &'static str {
     if count == 1 { "" } else { "s" }
 }
 
+/// What a script was that the program made.
+fn made_text(alloc: Global, made: Made) -> Result<String, AllocError> {
+    match made {
+        Made::Load { seed, count } => {
+            let s = plural(count);
+            format!(in alloc; "A load of {count} payment{s} with seed {seed}")
+        }
+        Made::Hop { leaves, count } => {
+            let s = plural(count);
+            let end = if leaves { "an exit" } else { "a close" };
+            format!(in alloc; "A hop of {count} payment{s} and {end}")
+        }
+    }
+}
+
 /// What a run was, in one line.
 fn title_of(alloc: Global, run: &Run, names: &Names) -> Result<String, AllocError> {
     let now = run.end.now;
-    if let Some(load) = run.load {
-        let seed = load.seed;
-        let count = load.count;
-        let s = plural(count);
-        return format!(in alloc; "A load of {count} payment{s} with seed {seed}, to time {now}");
+    if let Some(made) = run.made {
+        let made = made_text(alloc, made)?;
+        return format!(in alloc; "{made}, to time {now}");
     }
     let entries = run.end.entries;
     let channels = names.channels.len() as u64;
@@ -49,8 +62,8 @@ fn note_of(
     drawn: u64,
 ) -> Result<String, AllocError> {
     let mut note = String::new(alloc);
-    if run.load.is_some() {
-        note.push_str("The entries of a load script aren't told. ")?;
+    if run.made.is_some() {
+        note.push_str("The entries of a load or a hop aren't told. ")?;
     }
     let entries = run.entries.len() as u64;
     if drawn < entries {

@@ -112,7 +112,7 @@ fn check_person(assets: &[AssetEnd], person: &PersonEnd) -> Result<(), Wanted> {
 
 /// What was read before the first person, or before the end of the text, is whole.
 fn check_money(run: &Run) -> Result<(), Wanted> {
-    if run.load.is_none() {
+    if run.made.is_none() {
         check_deposited(&run.entries, &run.assets)?;
     }
     check_balances(run)
@@ -146,7 +146,7 @@ fn check_entry(entries: &[Entry], entry: &Entry) -> Result<(), Wanted> {
 }
 
 fn check_end(run: &Run, end: &End) -> Result<(), Wanted> {
-    if run.load.is_some() || end.entries == run.entries.len() as u64 {
+    if run.made.is_some() || end.entries == run.entries.len() as u64 {
         Ok(())
     } else {
         Err(Wanted::EntryCount)
@@ -210,7 +210,7 @@ fn check_exit_line(run: &Run, line: &ExitLine) -> Result<(), Wanted> {
 /// A line goes on with those of its kind.
 pub(crate) fn check_line(run: &Run, line: &Line) -> Result<(), Wanted> {
     match line {
-        Line::Load(_) | Line::Command(_) => Ok(()),
+        Line::Made(_) | Line::Command(_) => Ok(()),
         Line::Entry(entry) => check_entry(&run.entries, entry),
         Line::End(end) => check_end(run, end),
         Line::Asset(asset) => check_asset(run.assets.last(), asset),

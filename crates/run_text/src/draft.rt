@@ -58,8 +58,8 @@ fn note_exit(persons: &mut [PersonEnd], share: u128) {
 
 fn keep<'a>(alloc: Global, run: &mut Run<'a>, line: Line<'a>) -> Result<(), AllocError> {
     match line {
-        Line::Load(load) => {
-            run.load = Some(load);
+        Line::Made(made) => {
+            run.made = Some(made);
             Ok(())
         }
         Line::Entry(entry) => push(&mut run.entries, entry),
@@ -93,7 +93,7 @@ impl<'a> Draft<'a> {
             alloc,
             stage: Stage::Start,
             run: Run {
-                load: None,
+                made: None,
                 entries: Vec::new(alloc),
                 refused: Vec::new(alloc),
                 end: End { entries: 0, now: 0 },

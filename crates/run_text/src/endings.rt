@@ -1,7 +1,7 @@
 //! The lines that are no entries.
 
 use crate::line::{ExitLine, Line, PersonLine, Premises};
-use crate::model::{AssetEnd, Balance, End, Load, Refused};
+use crate::model::{AssetEnd, Balance, End, Made, Refused};
 use crate::refusals::read_node_refusal;
 use crate::words::Words;
 use text_lines::Wanted;
@@ -10,7 +10,18 @@ use text_lines::Wanted;
 fn read_load<'a>(words: &mut Words<'a>) -> Result<Line<'a>, Wanted> {
     let seed = words.number_after("seed")?;
     let count = words.number_after("count")?;
-    Ok(Line::Load(Load { seed, count }))
+    Ok(Line::Made(Made::Load { seed, count }))
+}
+
+/// `close N` or `exit N`.
+fn read_hop<'a>(words: &mut Words<'a>) -> Result<Line<'a>, Wanted> {
+    let leaves = match words.keyword() {
+        "close" => false,
+        "exit" => true,
+        _ => return Err(Wanted::CloseOrExit),
+    };
+    let count = words.number()?;
+    Ok(Line::Made(Made::Hop { leaves, count }))
 }
 
 /// `STEP WHO no NUMBER NAME` and the refusal's values.
@@ -110,6 +121,7 @@ fn read_exit<'a>(words: &mut Words<'a>) -> Result<Line<'a>, Wanted> {
 pub(crate) fn read_ending<'a>(line: &'a [u8], words: &mut Words<'a>) -> Result<Line<'a>, Wanted> {
     match words.keyword() {
         "load" => read_load(words),
+        "hop" => read_hop(words),
         "command" => read_command(line, words),
         "end" => read_end(words),
         "asset" => read_asset(words),

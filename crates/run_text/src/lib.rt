@@ -13,7 +13,7 @@ mod stage;
 mod words;
 
 pub use model::{
-    AssetEnd, Balance, Call, End, Entry, Load, PersonAsset, PersonEnd, Refused, Reply, Run, Said,
+    AssetEnd, Balance, Call, End, Entry, Made, PersonAsset, PersonEnd, Refused, Reply, Run, Said,
     TurnCall,
 };
 pub use reading::read_run;

@@ -2,7 +2,7 @@
 
 use crate::endings::read_ending;
 use crate::entries::read_entry;
-use crate::model::{AssetEnd, Balance, End, Entry, Load, PersonAsset, Refused};
+use crate::model::{AssetEnd, Balance, End, Entry, Made, PersonAsset, Refused};
 use crate::words::Words;
 use text_lines::Wanted;
 
@@ -47,7 +47,7 @@ pub(crate) struct ExitLine<'a> {
 /// A line, by its kind.
 #[derive(Clone, Copy)]
 pub(crate) enum Line<'a> {
-    Load(Load),
+    Made(Made),
     Entry(Entry<'a>),
     Command(Refused<'a>),
     End(End),

@@ -3,8 +3,8 @@
 /// A run, as its text tells it.
 #[derive(Debug, Drop)]
 pub struct Run<'a> {
-    /// The seed and the count of a load script, whose entries aren't told.
-    pub load: Option<Load>,
+    /// The script that the program made itself, if it did: then entries aren't told.
+    pub made: Option<Made>,
     pub entries: Vec<Entry<'a>>,
     pub refused: Vec<Refused<'a>>,
     pub end: End,
@@ -15,10 +15,12 @@ pub struct Run<'a> {
     pub persons: Vec<PersonEnd<'a>>,
 }
 
+/// A script of so many payments that the program made itself.
 #[derive(Clone, Copy, Debug, PartialEq, Eq)]
-pub struct Load {
-    pub seed: u64,
-    pub count: u64,
+pub enum Made {
+    Load { seed: u64, count: u64 },
+    /// Over two intermediaries: at its end all leave, or they close their channels.
+    Hop { leaves: bool, count: u64 },
 }
 
 /// The line of an entry, and what it says.

@@ -8,8 +8,8 @@ use crate::model::Run;
 use std::alloc::Global;
 use text_lines::{Unread, ends_within_line, lines_of, read_lines};
 
-/// Reads a text of `nitro run` or `nitro load`. Whatever else is given is refused, with the first line that can't
-/// stand there and what was wanted of it; of a text that ends too early it is the line after the last.
+/// Reads a text of `nitro run`, `nitro load` or `nitro hop`. Whatever else is given is refused, with the first line
+/// that can't stand there and what was wanted of it; of a text that ends too early it is the line after the last.
 pub fn read_run(alloc: Global, text: &[u8]) -> Result<Run<'_>, Unread>
     ensures { IfErr result (IsInLines (line_feeds text.now)) }
 {

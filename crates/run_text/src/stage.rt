@@ -9,7 +9,7 @@ pub(crate) enum Stage {
     Start,
     Entries,
     Commands,
-    Load,
+    Made,
     End,
     Assets,
     Held,
@@ -23,7 +23,7 @@ impl Stage {
             Stage::Start => 0,
             Stage::Entries => 1,
             Stage::Commands => 2,
-            Stage::Load => 3,
+            Stage::Made => 3,
             Stage::End => 4,
             Stage::Assets => 5,
             Stage::Held => 6,
@@ -37,11 +37,11 @@ impl Stage {
         self.place() >= Stage::End.place()
     }
 
-    /// Whether a line of this stage may stand behind one of the stage before: `load` is the first, and `end` stands
-    /// once.
+    /// Whether a line of this stage may stand behind one of the stage before: `load` or `hop` is the first, and `end`
+    /// stands once.
     fn may_follow(self, before: Stage) -> bool {
         match self {
-            Stage::Load => before == Stage::Start,
+            Stage::Made => before == Stage::Start,
             Stage::End => before.place() < self.place(),
             _ => before.place() <= self.place(),
         }
@@ -61,7 +61,7 @@ impl Stage {
     /// The stage of a line; `None` of those that stand behind a line `premises`.
     pub(crate) fn of(line: &Line) -> Option<Stage> {
         match line {
-            Line::Load(_) => Some(Stage::Load),
+            Line::Made(_) => Some(Stage::Made),
             Line::Entry(_) => Some(Stage::Entries),
             Line::Command(_) => Some(Stage::Commands),
             Line::End(_) => Some(Stage::End),

@@ -22,6 +22,7 @@ pub enum Wanted {
     RefusalNumber,
     FaultNumber,
     Mode,
+    CloseOrExit,
     YesOrNo,
     EndOfLine,
     EndLine,
@@ -42,7 +43,7 @@ fn told(wanted: Wanted) -> &'static str {
     match wanted {
         Wanted::LineFeed => "a line feed",
         Wanted::AnyLine => {
-            "an entry, or `load`, `command`, `end`, `asset`, `held`, `paid`, `premises`, `person` or `exit`"
+            "an entry, or `load`, `hop`, `command`, `end`, `asset`, `held`, `paid`, `premises`, `person` or `exit`"
         }
         Wanted::LaterLine => "a line that may follow those before",
         Wanted::Word(word) => word,
@@ -55,6 +56,7 @@ fn told(wanted: Wanted) -> &'static str {
         Wanted::RefusalNumber => "the number of a refusal",
         Wanted::FaultNumber => "the number of a fault",
         Wanted::Mode => "`challenged` or `final`",
+        Wanted::CloseOrExit => "`close` or `exit`",
         Wanted::YesOrNo => "`yes` or `no`",
         Wanted::EndOfLine => "the end of the line",
         Wanted::EndLine => "the line `end`",
