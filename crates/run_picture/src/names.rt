@@ -1,13 +1,20 @@
 //! The channels and the persons of a run.
 
-use run_text::{Call, Run};
+use run_text::{Call, Payee, Run};
 use std::alloc::{AllocError, Global};
 
-/// The channels in the order in which they are named, and the persons that were paid or have a node.
+/// The channels in the order in which they are named, and the persons that have a node or were paid.
 #[derive(Drop)]
 pub struct Names<'a> {
     pub channels: Vec<&'a [u8]>,
     pub persons: Vec<&'a [u8]>,
+}
+
+/// A channel or a person, by its place among the names.
+#[derive(Clone, Copy, PartialEq, Eq)]
+pub enum Who {
+    Channel(usize),
+    Person(usize),
 }
 
 /// The place of a name, where it is there.
@@ -43,6 +50,9 @@ fn channels_of<'a>(alloc: Global, run: &Run<'a>) -> Result<Vec<&'a [u8]>, AllocE
     let mut channels = Vec::new(alloc);
     for entry in &run.entries {
         add_called(&mut channels, &entry.call)?;
+        if let Some(Payee::Channel(name)) = entry.payee {
+            add_name(&mut channels, name)?;
+        }
     }
     for balance in &run.held {
         add_name(&mut channels, balance.name)?;
@@ -58,7 +68,22 @@ fn persons_of<'a>(alloc: Global, run: &Run<'a>) -> Result<Vec<&'a [u8]>, AllocEr
     for balance in &run.paid {
         add_name(&mut persons, balance.name)?;
     }
+    for entry in &run.entries {
+        if let Some(Payee::Person(name)) = entry.payee {
+            add_name(&mut persons, name)?;
+        }
+    }
     Ok(persons)
+}
+
+impl Names<'_> {
+    /// Who is paid, where it is named.
+    pub fn who(&self, payee: &Payee) -> Option<Who> {
+        match payee {
+            Payee::Channel(name) => Some(Who::Channel(place_of(&self.channels, name)?)),
+            Payee::Person(name) => Some(Who::Person(place_of(&self.persons, name)?)),
+        }
+    }
 }
 
 /// All names of a run.

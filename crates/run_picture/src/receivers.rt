@@ -1,21 +1,15 @@
-//! Who was paid. The text names the payer and the item, and not who is paid by it; but it tells what each person was
-//! paid and what each channel holds, and so mostly leaves one way.
+//! Who was paid, where it isn't told. A text names the payer and the item, and not who is paid by it; but it tells what
+//! each person was paid and what each channel holds, and so mostly leaves one way.
 
 use crate::flows::{Flow, Flows, Goes};
-use crate::names::{Names, place_of};
+use crate::names::{Names, Who, place_of};
 use run_text::{Balance, Run};
 use std::alloc::{AllocError, Global};
 
 /// So many flows are gone over in all before the search is given up.
 const SEARCH_LIMIT: usize = 2_000_000;
 
-#[derive(Clone, Copy, Debug, PartialEq, Eq)]
-pub enum Who {
-    Channel(usize),
-    Person(usize),
-}
-
-/// Who was paid, and how much of the asset in all.
+/// Who was paid by items, and how much of the asset in all.
 #[derive(Clone, Copy)]
 struct Receiver {
     who: Who,
@@ -43,15 +37,18 @@ fn amount_of(balances: &[Balance], name: &[u8], asset: u64) -> u64 {
     sum
 }
 
-/// What a channel was paid by items: what it holds at the end and has paid, but for what was deposited.
-fn paid_to_channel(flows: &[Flow], channel: usize, held: u64) -> u64 {
-    let mut gained = held;
+/// What somebody was paid by items: what it has at the end and has paid, but for what is told to have gone to it.
+fn paid_by_items(flows: &[Flow], who: Who, at_end: u64) -> u64 {
+    let mut gained = at_end;
     let mut given = 0u64;
     for flow in flows {
-        if flow.from == Some(channel) {
-            gained = gained.saturating_add(flow.amount);
+        match flow.from {
+            Some(from) if Who::Channel(from) == who => {
+                gained = gained.saturating_add(flow.amount);
+            }
+            _ => {}
         }
-        if flow.goes == Goes::Channel(channel) {
+        if flow.goes == Goes::To(who) {
             given = given.saturating_add(flow.amount);
         }
     }
@@ -67,9 +64,9 @@ fn add_channels(
 ) -> Result<(), AllocError> {
     for (at, name) in names.channels.iter().enumerate() {
         let held = amount_of(&run.held, name, asset);
-        let total = paid_to_channel(flows, at, held);
+        let who = Who::Channel(at);
+        let total = paid_by_items(flows, who, held);
         if total > 0 {
-            let who = Who::Channel(at);
             receivers.push(Receiver { who, total })?;
         }
     }
@@ -89,8 +86,10 @@ fn receivers_of(
         if balance.asset == asset {
             if let Some(at) = place_of(&names.persons, balance.name) {
                 let who = Who::Person(at);
-                let total = balance.amount;
-                receivers.push(Receiver { who, total })?;
+                let total = paid_by_items(flows, who, balance.amount);
+                if total > 0 {
+                    receivers.push(Receiver { who, total })?;
+                }
             }
         }
     }
@@ -154,8 +153,10 @@ fn step(tally: &mut Tally, receivers: &[Receiver], choices: &[usize], flow: &Flo
         }
     }
     let fits = match flow.goes {
-        Goes::Channel(channel) => {
-            add_to(&mut tally.held, channel, flow.amount);
+        Goes::To(who) => {
+            if let Who::Channel(channel) = who {
+                add_to(&mut tally.held, channel, flow.amount);
+            }
             true
         }
         Goes::Item(item) => match choices.get(item) {
@@ -245,7 +246,7 @@ fn search(
     Ok(Vec::new(alloc))
 }
 
-/// For each item of the flows who is paid by it, where the text leaves no other way.
+/// For each item of the flows who is paid by it, where the text leaves no other way. Of a record there are none.
 pub fn receivers_of_items(
     alloc: Global,
     run: &Run,
@@ -253,6 +254,9 @@ pub fn receivers_of_items(
     flows: &Flows,
     asset: u64,
 ) -> Result<Vec<Option<Who>>, AllocError> {
+    if flows.items == 0 {
+        return Ok(Vec::new(alloc));
+    }
     let receivers = receivers_of(alloc, run, names, &flows.flows, asset)?;
     let found = search(alloc, names.channels.len(), flows, &receivers)?;
     let mut all = Vec::new(alloc);
