@@ -235,11 +235,11 @@ fn thickest(columns: &Columns, count: usize, layer: usize) -> (usize, u64) {
 
 /// What a layer is, and what is told of it.
 fn look_of_layer<'a>(names: &Names<'a>, layer: usize) -> (Look, &'a [u8], &'a [u8]) {
-    if let Some(name) = names.channels.get(layer) {
+    if let Some(name) = names.channels.get_index(layer) {
         return (Look::Held(layer), b"held by ", name);
     }
     let person = layer.saturating_sub(names.channels.len());
-    match names.persons.get(person) {
+    match names.persons.get_index(person) {
         Some(name) => (Look::Paid(person), b"paid to ", name),
         None => (Look::Untold, b"paid, ", b"not told to whom"),
     }

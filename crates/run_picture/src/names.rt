@@ -1,13 +1,14 @@
 //! The channels and the persons of a run.
 
+use indexmap::IndexSet;
 use run_text::{Call, Payee, Run};
 use std::alloc::{AllocError, Global};
 
 /// The channels in the order in which they are named, and the persons that have a node or were paid.
 #[derive(Drop)]
 pub struct Names<'a> {
-    pub channels: Vec<&'a [u8]>,
-    pub persons: Vec<&'a [u8]>,
+    pub channels: IndexSet<&'a [u8]>,
+    pub persons: IndexSet<&'a [u8]>,
 }
 
 /// A channel or a person, by its place among the names.
@@ -18,18 +19,16 @@ pub enum Who {
 }
 
 /// The place of a name, where it is there.
-pub fn place_of(names: &[&[u8]], name: &[u8]) -> Option<usize> {
-    names.iter().position(|other| *other == name)
+pub fn place_of(names: &IndexSet<&[u8]>, name: &[u8]) -> Option<usize> {
+    names.get_index_of(name)
 }
 
-fn add_name<'a>(names: &mut Vec<&'a [u8]>, name: &'a [u8]) -> Result<(), AllocError> {
-    if place_of(names, name).is_none() {
-        names.push(name)?;
-    }
+fn add_name<'a>(names: &mut IndexSet<&'a [u8]>, name: &'a [u8]) -> Result<(), AllocError> {
+    names.insert(name)?;
     Ok(())
 }
 
-fn add_called<'a>(channels: &mut Vec<&'a [u8]>, call: &Call<'a>) -> Result<(), AllocError> {
+fn add_called<'a>(channels: &mut IndexSet<&'a [u8]>, call: &Call<'a>) -> Result<(), AllocError> {
     match call {
         Call::Deposit { channel, .. }
         | Call::Turn { channel, .. }
@@ -46,8 +45,8 @@ fn add_called<'a>(channels: &mut Vec<&'a [u8]>, call: &Call<'a>) -> Result<(), A
     }
 }
 
-fn channels_of<'a>(alloc: Global, run: &Run<'a>) -> Result<Vec<&'a [u8]>, AllocError> {
-    let mut channels = Vec::new(alloc);
+fn channels_of<'a>(alloc: Global, run: &Run<'a>) -> Result<IndexSet<&'a [u8]>, AllocError> {
+    let mut channels = IndexSet::new(alloc);
     for entry in &run.entries {
         add_called(&mut channels, &entry.call)?;
         if let Some(Payee::Channel(name)) = entry.payee {
@@ -60,8 +59,8 @@ fn channels_of<'a>(alloc: Global, run: &Run<'a>) -> Result<Vec<&'a [u8]>, AllocE
     Ok(channels)
 }
 
-fn persons_of<'a>(alloc: Global, run: &Run<'a>) -> Result<Vec<&'a [u8]>, AllocError> {
-    let mut persons = Vec::new(alloc);
+fn persons_of<'a>(alloc: Global, run: &Run<'a>) -> Result<IndexSet<&'a [u8]>, AllocError> {
+    let mut persons = IndexSet::new(alloc);
     for person in &run.persons {
         add_name(&mut persons, person.name)?;
     }
@@ -77,6 +76,14 @@ fn persons_of<'a>(alloc: Global, run: &Run<'a>) -> Result<Vec<&'a [u8]>, AllocEr
 }
 
 impl Names<'_> {
+    /// The place of somebody among all: the channels, then the persons.
+    pub fn place(&self, who: Who) -> usize {
+        match who {
+            Who::Channel(at) => at,
+            Who::Person(at) => self.channels.len().saturating_add(at),
+        }
+    }
+
     /// Who is paid, where it is named.
     pub fn who(&self, payee: &Payee) -> Option<Who> {
         match payee {

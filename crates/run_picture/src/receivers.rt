@@ -3,7 +3,7 @@
 
 use crate::flows::{Flow, Flows, Goes};
 use crate::names::{Names, Who, place_of};
-use run_text::{Balance, Run};
+use run_text::Run;
 use std::alloc::{AllocError, Global};
 
 /// So many flows are gone over in all before the search is given up.
@@ -27,50 +27,73 @@ enum Way {
     Fits,
 }
 
-fn amount_of(balances: &[Balance], name: &[u8], asset: u64) -> u64 {
-    let mut sum = 0u64;
-    for balance in balances {
-        if balance.asset == asset && balance.name == name {
-            sum = sum.saturating_add(balance.amount);
-        }
+fn add_to(amounts: &mut [u64], to: usize, amount: u64) {
+    if let Some(place) = amounts.get_mut(to) {
+        *place = place.saturating_add(amount);
     }
-    sum
 }
 
-/// What somebody was paid by items: what it has at the end and has paid, but for what is told to have gone to it.
-fn paid_by_items(flows: &[Flow], who: Who, at_end: u64) -> u64 {
-    let mut gained = at_end;
-    let mut given = 0u64;
-    for flow in flows {
-        match flow.from {
-            Some(from) if Who::Channel(from) == who => {
-                gained = gained.saturating_add(flow.amount);
+fn lower(amounts: &mut [u64], from: usize, amount: u64) {
+    if let Some(place) = amounts.get_mut(from) {
+        *place = place.saturating_sub(amount);
+    }
+}
+
+/// Notes what everybody has of an asset at the end: the channels, then the persons.
+fn note_ends(totals: &mut [u64], run: &Run, names: &Names, asset: u64) {
+    for balance in &run.held {
+        if balance.asset == asset {
+            if let Some(at) = place_of(&names.channels, balance.name) {
+                add_to(totals, names.place(Who::Channel(at)), balance.amount);
             }
-            _ => {}
-        }
-        if flow.goes == Goes::To(who) {
-            given = given.saturating_add(flow.amount);
         }
     }
-    gained.saturating_sub(given)
+    for balance in &run.paid {
+        if balance.asset == asset {
+            if let Some(at) = place_of(&names.persons, balance.name) {
+                add_to(totals, names.place(Who::Person(at)), balance.amount);
+            }
+        }
+    }
 }
 
-fn add_channels(
-    receivers: &mut Vec<Receiver>,
+/// What everybody was paid by items: what it has at the end and has paid, but for what is told to have gone to it.
+fn paid_by_items(
+    alloc: Global,
     run: &Run,
     names: &Names,
     flows: &[Flow],
     asset: u64,
-) -> Result<(), AllocError> {
-    for (at, name) in names.channels.iter().enumerate() {
-        let held = amount_of(&run.held, name, asset);
-        let who = Who::Channel(at);
-        let total = paid_by_items(flows, who, held);
-        if total > 0 {
-            receivers.push(Receiver { who, total })?;
+) -> Result<Vec<u64>, AllocError> {
+    let count = names.channels.len().saturating_add(names.persons.len());
+    let mut totals = vec![in alloc; 0u64; count]?;
+    note_ends(&mut totals, run, names, asset);
+    for flow in flows {
+        if let Some(from) = flow.from {
+            add_to(&mut totals, from, flow.amount);
         }
     }
-    Ok(())
+    for flow in flows {
+        if let Goes::To(who) = flow.goes {
+            lower(&mut totals, names.place(who), flow.amount);
+        }
+    }
+    Ok(totals)
+}
+
+fn add_receiver(
+    receivers: &mut Vec<Receiver>,
+    names: &Names,
+    totals: &[u64],
+    who: Who,
+) -> Result<(), AllocError> {
+    match totals.get(names.place(who)) {
+        Some(total) if *total > 0 => {
+            receivers.push(Receiver { who, total: *total })?;
+            Ok(())
+        }
+        _ => Ok(()),
+    }
 }
 
 /// The persons in the order of their first payment, and the channels.
@@ -81,19 +104,18 @@ fn receivers_of(
     flows: &[Flow],
     asset: u64,
 ) -> Result<Vec<Receiver>, AllocError> {
+    let totals = paid_by_items(alloc, run, names, flows, asset)?;
     let mut receivers = Vec::new(alloc);
     for balance in &run.paid {
         if balance.asset == asset {
             if let Some(at) = place_of(&names.persons, balance.name) {
-                let who = Who::Person(at);
-                let total = paid_by_items(flows, who, balance.amount);
-                if total > 0 {
-                    receivers.push(Receiver { who, total })?;
-                }
+                add_receiver(&mut receivers, names, &totals, Who::Person(at))?;
             }
         }
     }
-    add_channels(&mut receivers, run, names, flows, asset)?;
+    for at in 0..names.channels.len() {
+        add_receiver(&mut receivers, names, &totals, Who::Channel(at))?;
+    }
     Ok(receivers)
 }
 
@@ -111,12 +133,6 @@ fn take_from(held: &mut [u64], from: usize, amount: u64) -> bool {
             true
         }
         _ => false,
-    }
-}
-
-fn add_to(held: &mut [u64], to: usize, amount: u64) {
-    if let Some(place) = held.get_mut(to) {
-        *place = place.saturating_add(amount);
     }
 }
 
