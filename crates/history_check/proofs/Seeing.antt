@@ -1,4 +1,4 @@
--- A view that stands for a history tells the conditions of plans, and what they can get.
+-- What tells the conditions of plans; and a view that stands for a history tells what they can get.
 use Rattle.std.proofs.Common.{◌≡◌, ℕ, Bool, true, false, not, ◌&&◌, leb, List, [], ◌∷◌, ◌++◌, map, refl, sym, ◌∙◌, ap}
 use Rattle.std.specs.Prelude.{Option, Some, None, count_by}
 use Rattle.std.proofs.lemmas.Bool.{leb-true, le-leb}
@@ -6,7 +6,7 @@ use Rattle.nitro_bytes.specs.Parts.{StateParts}
 use Rattle.nitro_bytes.specs.declared.value.AssetOutcome.{AssetOutcome}
 use Rattle.deadline_clock.specs.Mode.{mode_at, is_final}
 use Rattle.channel_model.specs.Rules.{Rules}
-use Rattle.channel_calls.specs.History.{mode, row, paid_to, newest_first, flows_of}
+use Rattle.channel_calls.specs.History.{mode, row, paid_to, rest_of_channel, newest_first, flows_of}
 use Rattle.channel_calls.specs.declared.entry.Entry.{Entry}
 use Rattle.channel_calls.specs.declared.held_chain.Known.{Known}
 use Rattle.channel_calls.specs.declared.view.ChannelView.{ChannelView}
@@ -23,7 +23,7 @@ use Rattle.plan_share.specs.Seen.{held_seen, possible_seen, counting_seen, share
 use Rattle.support_chain.specs.Real.{real}
 use Rattle.record_bytes.specs.declared.run_record.Ending.{Ending}
 use Rattle.history_check.specs.Plans.{joined, firsts, possible_then, other_than, are_two, counting_then, has_two, are_distinct, stand_on, share_then, shares_then}
-use Rattle.history_check.specs.Seen.{is_final_seen, two_seen, few_seen, HasPlanSeen, HasSharesSeen}
+use Rattle.history_check.specs.Seen.{two_seen, few_seen, HasPlanSeen, HasSharesSeen}
 use Rattle.history_check.specs.Sound.{HasPlan, HasShares}
 use mathlib.Core.Path.{fun_ext}
 
@@ -58,14 +58,6 @@ module _ (r : Rules) (h : List Entry) (w : WorldView) (stands : StandsFor r h w)
       ap (λ (os : List (List AssetOutcome)). counting_of k.channel os ++ counting_seen w ks) (possible_is k)
       ∙ ap (λ (cs : List Counting). counting_of k.channel (possible_then r h k) ++ cs) (counting_is ks)
 
-  two_is : (k : Known) → two_seen w k ≡ has_two r h k
-  two_is k =
-      two_if (is_final_seen w k.channel) (view_of w.channels k.channel).rest k.last
-      ∙ ap are_two (possible_is k)
-
-  few_is : (own : Plan) (known : List Known) → few_seen w own known ≡ leb (count_by (has_two r h) (firsts (joined own.parts) known)) 2
-  few_is own known = ap (λ (test : Known → Bool). leb (count_by test (firsts (joined own.parts) known)) 2) (fun_ext two_is)
-
   balances_are : (asset : ℕ) → held_seen w asset ≡ balances h asset
   balances_are asset = fun_ext (λ channel. (stands.channels channel).held asset)
 
@@ -88,17 +80,23 @@ and_true : (a b : Bool) → a ≡ true → b ≡ true → (a && b) ≡ true
 and_true true b e f = f
 and_true false b e f = absurd cc
 
-pub plan_told : (h : List Entry) (w : WorldView) (e : Ending) → StandsFor real (newest_first h) w → HasPlanSeen w e → HasPlan h e
-plan_told h w e stands holds =
+module _ (h : List Entry) where
+  two_is : (k : Known) → two_seen h k ≡ has_two real h k
+  two_is k = two_if (is_final (mode real k.channel h)) (rest_of_channel real k.channel h) k.last
+
+  few_is : (own : Plan) (known : List Known) → few_seen h own known ≡ leb (count_by (has_two real h) (firsts (joined own.parts) known)) 2
+  few_is own known = ap (λ (test : Known → Bool). leb (count_by test (firsts (joined own.parts) known)) 2) (fun_ext two_is)
+
+pub plan_told : (h : List Entry) (e : Ending) → HasPlanSeen (newest_first h) e → HasPlan h e
+plan_told h e holds =
     let a = both_true (are_distinct (channels e.plan.parts)) _ holds in
     let b = both_true (stand_on [] e.plan.parts) _ a.1 in
-    let few = sym (few_is real (newest_first h) w stands e.plan e.known) ∙ b.1 in
-    record { once = a.0; grounded = b.0; few = leb-true _ _ few }
+    record { once = a.0; grounded = b.0; few = leb-true _ _ (sym (few_is (newest_first h) e.plan e.known) ∙ b.1) }
 
-pub plan_tells : (h : List Entry) (w : WorldView) (e : Ending) → StandsFor real (newest_first h) w → HasPlan h e → HasPlanSeen w e
-plan_tells h w e stands holds =
-    let few = few_is real (newest_first h) w stands e.plan e.known ∙ le-leb _ _ holds.few in
-    and_true (are_distinct (channels e.plan.parts)) _ holds.once (and_true (stand_on [] e.plan.parts) _ holds.grounded few)
+pub plan_tells : (h : List Entry) (e : Ending) → HasPlan h e → HasPlanSeen (newest_first h) e
+plan_tells h e holds =
+    and_true (are_distinct (channels e.plan.parts)) _ holds.once
+    (and_true (stand_on [] e.plan.parts) _ holds.grounded (few_is (newest_first h) e.plan e.known ∙ le-leb _ _ holds.few))
 
 -- ---- shares
 
@@ -110,6 +108,3 @@ shares_are h w assets e stands are =
 
 pub shares_told : (h : List Entry) (w : WorldView) (assets : List ℕ) (e : Ending) → StandsFor real (newest_first h) w → assets ≡ assets_of (flows_of h) → HasSharesSeen w assets e → HasShares h e
 shares_told h w assets e stands are holds = holds ∙ shares_are h w assets e stands are
-
-pub shares_tell : (h : List Entry) (w : WorldView) (assets : List ℕ) (e : Ending) → StandsFor real (newest_first h) w → assets ≡ assets_of (flows_of h) → HasShares h e → HasSharesSeen w assets e
-shares_tell h w assets e stands are holds = holds ∙ sym (shares_are h w assets e stands are)

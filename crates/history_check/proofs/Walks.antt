@@ -1,26 +1,17 @@
 -- A checker that goes on by one entry.
 use Rattle.std.proofs.Common.{◌≡◌, ℕ, suc, ◌+◌, ◌-◌, ◌<◌, ◌≤◌, List, [], ◌∷◌, ◌++◌, length, take, get_or, refl, sym, ◌∙◌, ap, subst, arith}
-use Rattle.std.specs.Prelude.{Option, Some, None, Result, Ok, Err, IfOk}
 use Rattle.std.proofs.lemmas.List.{take_more, take_all, reverse-append, length-reverse}
-use Rattle.nitro_bytes.specs.declared.fault.NoMemory.{NoMemory}
 use Rattle.channel_calls.specs.History.{Legal, newest_first, flow_of, flows_of, reply_to}
 use Rattle.channel_calls.specs.declared.entry.Entry.{Entry}
 use Rattle.channel_calls.specs.declared.funds.Flow.{Flow}
 use Rattle.channel_calls.specs.declared.refusal.Reply.{Reply}
-use Rattle.channel_calls.specs.declared.view.WorldView.{WorldView}
-use Rattle.channel_calls.specs.Naming.{name_of, NamesChannels}
 use Rattle.channel_calls.proofs.Conservation.{flows_of-push}
 use Rattle.adjudicator_core.specs.Standing as core
 use Rattle.adjudicator_core.specs.Standing.{Serves}
-use Rattle.history_view.specs.Standing as views
-use Rattle.history_view.specs.Room.{CanFollow}
-use Rattle.history_view.proofs.Stands.{following_keeps_standing}
 use Rattle.support_chain.specs.Real.{real}
+use Rattle.history_check.specs.Past.{Rests, AreRests}
 use Rattle.history_check.specs.Sound.{IsLegal, IsFirstWrong}
-use Rattle.history_check.specs.Walking.{WalksTo, Walks, Tells}
-
-pub names_real : NamesChannels real
-names_real f = refl
+use Rattle.history_check.specs.Walking.{WalksTo}
 
 -- the newest entry comes first
 pub newest_push : (g : List Entry) (e : Entry) → newest_first (g ++ e ∷ []) ≡ e ∷ newest_first g
@@ -46,31 +37,38 @@ was_next g e legal =
     let parts : Legal real (e ∷ newest_first g) = subst (Legal real) (newest_push g e) legal in
     record { number = parts.1; reply = parts.2 }
 
-pub follows : (g : List Entry) (e : Entry) (w : WorldView) → IsLegal g → IsNext g e → views.StandsFor real (newest_first g) w → CanFollow name_of e w
-follows g e w legal next sees = (following_keeps_standing real (newest_first g) e w (next_legal g e legal next) sees).can
-
-pub goes_on : (g : List Entry) (e : Entry) (reply : Reply) (old new : core.Standing) (w v : WorldView) (flows more : List Flow)
+pub goes_on : (g : List Entry) (e : Entry) (reply : Reply) (old new : core.Standing) (rests : Rests) (flows more : List Flow)
     → IsLegal g → flows ≡ flows_of g → core.StandsFor real (newest_first g) old → e.reply ≡ reply → IsNext g e
-    → Serves real old e.op reply new → views.StandsFor real (e ∷ newest_first g) v → more ≡ flows ++ flow_of e.op e.reply
-    → WalksTo (g ++ e ∷ []) new v more
-goes_on g e reply old new w v flows more legal flow stands same next serves sees adds =
+    → Serves real old e.op reply new → AreRests (e ∷ newest_first g) rests → more ≡ flows ++ flow_of e.op e.reply
+    → WalksTo (g ++ e ∷ []) new rests more
+goes_on g e reply old new rests flows more legal flow stand same next serves are adds =
     let pushed = newest_push g e in
-    let stood : core.StandsFor real (record { number = e.number; by = e.by; op = e.op; reply = reply } ∷ newest_first g) new = serves.stands (newest_first g) e.number e.by stands in
+    let stood : core.StandsFor real (record { number = e.number; by = e.by; op = e.op; reply = reply } ∷ newest_first g) new = serves.stands (newest_first g) e.number e.by stand in
     let stood_for : core.StandsFor real (e ∷ newest_first g) new = subst (λ (r : Reply). core.StandsFor real (record { number = e.number; by = e.by; op = e.op; reply = r } ∷ newest_first g) new) (sym same) stood in
     record {
       legal = subst (Legal real) (sym pushed) (next_legal g e legal next);
-      stands = subst (λ (h : List Entry). core.StandsFor real h new) (sym pushed) stood_for;
-      sees = subst (λ (h : List Entry). views.StandsFor real h v) (sym pushed) sees;
+      past = record {
+        stands = subst (λ (h : List Entry). core.StandsFor real h new) (sym pushed) stood_for;
+        left = subst (λ (h : List Entry). AreRests h rests) (sym pushed) are;
+      };
       flow = adds ∙ ap (λ (fs : List Flow). fs ++ flow_of e.op e.reply) flow ∙ sym (flows_of-push g e);
     }
 
--- what is walked to after one more entry of a list
-pub walked_on : (h : List Entry) (i : ℕ) (e : Entry) (a : core.Standing) (w : WorldView) (flows : List Flow) → i < length h → e ≡ get_or h i e → WalksTo (take i h ++ e ∷ []) a w flows → WalksTo (take (i + 1) h) a w flows
-walked_on h i e a w flows inside is walked =
-    subst (λ (g : List Entry). WalksTo g a w flows) (ap (λ (x : Entry). take i h ++ x ∷ []) is ∙ sym (take_more h i e inside)) walked
+-- at the start
+pub walks_from : (a : core.Standing) (rests : Rests) (flows : List Flow) → core.StandsFor real [] a → rests ≡ [] → flows ≡ [] → WalksTo [] a rests flows
+walks_from a rests flows stand none no_flows = record {
+  legal = tt;
+  past = record { stands = stand; left = subst (AreRests []) (sym none) (λ channel. refl) };
+  flow = no_flows;
+}
 
-pub walked_all : (h : List Entry) (i : ℕ) (a : core.Standing) (w : WorldView) (flows : List Flow) → length h ≤ i → WalksTo (take i h) a w flows → WalksTo h a w flows
-walked_all h i a w flows le walked = subst (λ (g : List Entry). WalksTo g a w flows) (take_all i h le) walked
+-- what is walked to after one more entry of a list
+pub walked_on : (h : List Entry) (i : ℕ) (e : Entry) (a : core.Standing) (rests : Rests) (flows : List Flow) → i < length h → e ≡ get_or h i e → WalksTo (take i h ++ e ∷ []) a rests flows → WalksTo (take (i + 1) h) a rests flows
+walked_on h i e a rests flows inside is walked =
+    subst (λ (g : List Entry). WalksTo g a rests flows) (ap (λ (x : Entry). take i h ++ x ∷ []) is ∙ sym (take_more h i e inside)) walked
+
+pub walked_all : (h : List Entry) (i : ℕ) (a : core.Standing) (rests : Rests) (flows : List Flow) → length h ≤ i → WalksTo (take i h) a rests flows → WalksTo h a rests flows
+walked_all h i a rests flows le walked = subst (λ (g : List Entry). WalksTo g a rests flows) (take_all i h le) walked
 
 -- one more of a list
 pub first_wrong : (h : List Entry) (i : ℕ) (e : Entry) → i < length h → e ≡ get_or h i e → IsLegal (take i h) → (IsLegal (take i h ++ e ∷ []) → ⊥) → IsFirstWrong h (i + 1)
@@ -83,12 +81,3 @@ first_wrong h i e inside is before wrong = record {
   where
     at : i ≡ i + 1 - 1
     at = omega arith
-
--- of a walk the view and the flows alone are told on
-pub tells : (o : Option ℕ) (h : List Entry) (a : core.Standing) (w : WorldView) (flows : List Flow) → Walks o h a w flows → Tells o h w flows
-tells None h a w flows walked = (walked.legal, walked.sees, walked.flow)
-tells (Some k) h a w flows wrong = wrong
-
-pub tells_result : (r : Result (Option ℕ) NoMemory) (h : List Entry) (a : core.Standing) (w : WorldView) (flows : List Flow) → IfOk r (λ o. Walks o h a w flows) → IfOk r (λ o. Tells o h w flows)
-tells_result (Ok o) h a w flows walked = tells o h a w flows walked
-tells_result (Err e) h a w flows walked = tt

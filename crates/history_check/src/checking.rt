@@ -3,16 +3,15 @@
 ghost use Rattle.std.specs.Prelude.{◌≡◌, ◌↔◌, IfOk};
 ghost use Rattle.channel_calls.specs.Flows.{AreWithinAmounts};
 ghost use Rattle.channel_calls.specs.History.{newest_first, flows_of};
-ghost use Rattle.history_view.specs.Standing.{StandsFor};
 ghost use Rattle.history_check.specs.Sound.{Says, IsLegal, HasPlan, HasShares, HasSums, Differs, Lacks, sums_wanted};
-ghost use Rattle.support_chain.specs.Real.{real};
 
 use crate::comparing::first_difference;
+use crate::past::Past;
 use crate::plans::first_bad_plan;
 use crate::shares::first_bad_share;
 use crate::sums::{assets_of, sums_of};
 use crate::walking::{Walked, walk_through};
-use channel_calls::{Flow, WorldView};
+use channel_calls::Flow;
 use flow_balances::Balances;
 use nitro_bytes::NoMemory;
 use record_bytes::Record;
@@ -34,45 +33,44 @@ pub enum Verdict {
 
 /// The first ending whose plan doesn't keep the conditions of a share.
 #[tactic(auto, using(crate::proofs::Lacking::plans_told))]
-fn plan_fault(alloc: Global, value: &Record, view: &WorldView) -> Result<Option<usize>, NoMemory>
-    requires { StandsFor real (newest_first value.now.history) view.now }
+fn plan_fault(alloc: Global, value: &Record, past: &Past) -> Result<Option<usize>, NoMemory>
+    requires { past.now ≡ newest_first value.now.history }
     ensures { IfOk result (Lacks (HasPlan value.now.history) value.now.ends) }
 {
-    first_bad_plan(alloc, view, value.ends.as_slice())
+    first_bad_plan(alloc, past, value.ends.as_slice())
 }
 
 /// The first ending whose shares aren't those of its plan.
-#[tactic(auto, using(crate::proofs::Lacking::shares_told))]
 fn share_fault(
     alloc: Global,
     value: &Record,
-    view: &WorldView,
+    past: &Past,
     balances: &Balances,
 ) -> Result<Option<usize>, NoMemory>
-    requires sees { StandsFor real (newest_first value.now.history) view.now }
+    requires past { past.now ≡ newest_first value.now.history }
     requires flows { balances.now ≡ flows_of value.now.history }
     ensures { IfOk result (Lacks (HasShares value.now.history) value.now.ends) }
 {
     let assets = assets_of(alloc, balances)?;
-    first_bad_share(alloc, view, &assets, value.ends.as_slice())
+    first_bad_share(alloc, past, &assets, value.ends.as_slice())
 }
 
 /// The verdict on the endings, where the history is legal and the sums are those of its flows.
 fn check_ends(
     alloc: Global,
     value: &Record,
-    view: &WorldView,
+    past: &Past,
     balances: &Balances,
 ) -> Result<Verdict, NoMemory>
     requires summed { HasSums value.now }
-    requires sees { StandsFor real (newest_first value.now.history) view.now }
+    requires past { past.now ≡ newest_first value.now.history }
     requires flows { balances.now ≡ flows_of value.now.history }
     ensures { IfOk result (λ verdict. Says verdict value.now) }
 {
-    if let Some(place) = plan_fault(alloc, value, view)? {
+    if let Some(place) = plan_fault(alloc, value, past)? {
         return Ok(Verdict::Plan(place));
     }
-    match share_fault(alloc, value, view, balances)? {
+    match share_fault(alloc, value, past, balances)? {
         Some(place) => Ok(Verdict::Share(place)),
         None => Ok(Verdict::Sound),
     }
@@ -92,11 +90,11 @@ fn sum_fault(alloc: Global, value: &Record, balances: &Balances) -> Result<Optio
 fn check_sums(
     alloc: Global,
     value: &Record,
-    view: &WorldView,
+    past: &Past,
     flows: Vec<Flow>,
 ) -> Result<Verdict, NoMemory>
     requires legal { IsLegal value.now.history }
-    requires sees { StandsFor real (newest_first value.now.history) view.now }
+    requires past { past.now ≡ newest_first value.now.history }
     requires flows { flows.items ≡ flows_of value.now.history }
     requires within { AreWithinAmounts flows.items }
     ensures { IfOk result (λ verdict. Says verdict value.now) }
@@ -104,7 +102,7 @@ fn check_sums(
     let balances = Balances::of(alloc, flows)?;
     match sum_fault(alloc, value, &balances)? {
         Some(place) => Ok(Verdict::Sums(place)),
-        None => check_ends(alloc, value, view, &balances),
+        None => check_ends(alloc, value, past, &balances),
     }
 }
 
@@ -118,6 +116,6 @@ pub fn check_record(alloc: Global, value: &Record) -> Result<Verdict, NoMemory>
 {
     match walk_through(alloc, value.history.as_slice())? {
         Walked::Wrong(number) => Ok(Verdict::Reply(number)),
-        Walked::Whole(view, flows) => check_sums(alloc, value, &view, flows),
+        Walked::Whole(past, flows) => check_sums(alloc, value, &past, flows),
     }
 }

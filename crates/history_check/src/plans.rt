@@ -1,6 +1,6 @@
 //! Whether the share of a plan can be told.
 
-ghost use Rattle.std.specs.Prelude.{◌≡◌, ◌++◌, ◌∷◌, [], IfOk, OnOk, count_by};
+ghost use Rattle.std.specs.Prelude.{◌≡◌, ◌++◌, ◌∷◌, [], IfOk, OnOk, count_by, option_copied};
 ghost use Rattle.std.specs.Result.{result_ok};
 ghost use Rattle.std.specs.List.{list_all};
 ghost use Rattle.channel_calls.specs.Flows.{is_among};
@@ -11,10 +11,9 @@ ghost use Rattle.history_check.specs.Sound.{Lacks};
 ghost use Rattle.nitro_bytes.specs.Reading.{outcome_of};
 ghost use Rattle.share_model.specs.Places.{proposed};
 
-use channel_calls::{Known, WorldView};
-use deadline_clock::{Standing, mode};
+use crate::past::Past;
+use channel_calls::Known;
 use funding_value::{Part, Plan, Virtual};
-use history_view::view_of;
 use nitro_bytes::{ByteFault, Name, NoMemory, Outcome, read_outcome};
 use record_bytes::Ending;
 use std::alloc::Global;
@@ -99,7 +98,7 @@ fn put_joined(names: &mut Vec<Name>, part: &Part) -> Result<(), NoMemory>
 }
 
 /// The channels of parts in which their person is a participant, in their order.
-fn joined(alloc: Global, all: &[Part]) -> Result<Vec<Name>, NoMemory>
+pub(crate) fn joined(alloc: Global, all: &[Part]) -> Result<Vec<Name>, NoMemory>
     ensures { IfOk result (λ names. names.items ≡ plans.joined all.now) }
 {
     let mut names = Vec::new(alloc);
@@ -207,58 +206,60 @@ pub(crate) fn firsts(alloc: Global, plan: &Plan, known: &[Known]) -> Result<Vec<
     Ok(all)
 }
 
-fn is_final_in(view: &WorldView, channel: &Name) -> bool
-    ensures { result ≡ seen.is_final_seen view.entry.now channel.now }
-{
-    match view_of(view, channel) {
-        None => false,
-        Some(seen) => mode(seen.deadline, view.now) == Standing::Final,
-    }
-}
-
-/// Whether bytes spell an outcome, and another one than this.
-fn spells_other(alloc: Global, own: &Outcome, bytes: &[u8]) -> Result<bool, NoMemory>
-    ensures { IfOk result (λ b. b ≡ plans.other_than own.now (result_ok (outcome_of bytes.now))) }
+/// The outcome that the bytes spell, if they spell one.
+fn spelled(alloc: Global, bytes: &[u8]) -> Result<Option<Outcome>, NoMemory>
+    ensures { IfOk result (λ o. o ≡ result_ok (outcome_of bytes.now)) }
 {
     match read_outcome(alloc, bytes) {
-        Ok(other) => Ok(other.bytes() != own.bytes()),
+        Ok(outcome) => Ok(Some(outcome)),
         Err(ByteFault::NoMemory) => Err(NoMemory),
-        Err(_) => Ok(false),
+        Err(_) => Ok(None),
     }
 }
 
-/// Whether a state's data have votes for another outcome than this.
-fn proposes_other(alloc: Global, own: &Outcome, app_bytes: &[u8]) -> Result<bool, NoMemory>
-    ensures { IfOk result (λ b. b ≡ plans.other_than own.now (proposed app_bytes.now)) }
+/// The outcome that the votes of a state's data are for, if there are votes.
+pub(crate) fn proposed(alloc: Global, app_bytes: &[u8]) -> Result<Option<Outcome>, NoMemory>
+    ensures { IfOk result (λ o. o ≡ proposed app_bytes.now) }
 {
     match app_bytes {
-        [] => Ok(false),
+        [] => Ok(None),
         [votes, bytes @ ..] => {
             if 1 <= *votes && *votes <= 3 {
-                spells_other(alloc, own, bytes)
+                spelled(alloc, bytes)
             } else {
-                Ok(false)
+                Ok(None)
             }
         }
     }
 }
 
-fn has_two(alloc: Global, view: &WorldView, known: &Known) -> Result<bool, NoMemory>
-    ensures { IfOk result (λ b. b ≡ seen.two_seen view.entry.now known.now) }
+/// Whether there is a proposal of another outcome than this.
+fn is_other(own: &Outcome, proposal: Option<&Outcome>) -> bool
+    ensures { result ≡ plans.other_than own.now (option_copied proposal.entry) }
 {
-    if is_final_in(view, &known.channel) {
+    match proposal {
+        None => false,
+        Some(other) => other.bytes() != own.bytes(),
+    }
+}
+
+fn has_two(alloc: Global, past: &Past, known: &Known) -> Result<bool, NoMemory>
+    ensures { IfOk result (λ b. b ≡ seen.two_seen past.now known.now) }
+{
+    if past.is_final(&known.channel) {
         return Ok(false);
     }
-    proposes_other(alloc, known.last.outcome(), known.last.app_bytes())
+    let proposal = proposed(alloc, known.last.app_bytes())?;
+    Ok(is_other(known.last.outcome(), proposal.as_ref()))
 }
 
 /// How many of these channels can end with two outcomes.
-fn count_two(alloc: Global, view: &WorldView, known: &[Known]) -> Result<usize, NoMemory>
-    ensures { IfOk result (λ n. n ≡ count_by (seen.two_seen view.entry.now) known.now) }
+fn count_two(alloc: Global, past: &Past, known: &[Known]) -> Result<usize, NoMemory>
+    ensures { IfOk result (λ n. n ≡ count_by (seen.two_seen past.now) known.now) }
 {
     let mut count = 0;
     for state in known {
-        if has_two(alloc, view, state)? {
+        if has_two(alloc, past, state)? {
             count += 1;
         }
     }
@@ -266,11 +267,11 @@ fn count_two(alloc: Global, view: &WorldView, known: &[Known]) -> Result<usize, 
 }
 
 /// Whether at most two channels of a plan can end with two outcomes.
-fn has_few(alloc: Global, view: &WorldView, plan: &Plan, known: &[Known]) -> Result<bool, NoMemory>
-    ensures { IfOk result (λ b. b ≡ seen.few_seen view.entry.now plan.now known.now) }
+fn has_few(alloc: Global, past: &Past, plan: &Plan, known: &[Known]) -> Result<bool, NoMemory>
+    ensures { IfOk result (λ b. b ≡ seen.few_seen past.now plan.now known.now) }
 {
     let first = firsts(alloc, plan, known)?;
-    let two = count_two(alloc, view, &first)?;
+    let two = count_two(alloc, past, &first)?;
     Ok(two <= 2)
 }
 
@@ -281,9 +282,9 @@ fn is_distinct(alloc: Global, all: &[Part]) -> Result<bool, NoMemory>
     Ok(are_distinct(&names))
 }
 
-/// Whether the conditions of an ending's plan hold, by a view.
-fn has_plan(alloc: Global, view: &WorldView, ending: &Ending) -> Result<bool, NoMemory>
-    ensures { IfOk result (λ b. b ≡ seen.is_tellable_seen view.entry.now ending.now.plan ending.now.known) }
+/// Whether the conditions of an ending's plan hold.
+fn has_plan(alloc: Global, past: &Past, ending: &Ending) -> Result<bool, NoMemory>
+    ensures { IfOk result (λ b. b ≡ seen.is_tellable_seen past.now ending.now.plan ending.now.known) }
 {
     let all = ending.plan.parts.as_slice();
     if !is_distinct(alloc, all)? {
@@ -292,20 +293,20 @@ fn has_plan(alloc: Global, view: &WorldView, ending: &Ending) -> Result<bool, No
     if !stand_on(&mut Vec::new(alloc), all)? {
         return Ok(false);
     }
-    has_few(alloc, view, &ending.plan, ending.known.as_slice())
+    has_few(alloc, past, &ending.plan, ending.known.as_slice())
 }
 
-/// The first ending whose plan doesn't keep its conditions, by a view.
+/// The first ending whose plan doesn't keep its conditions.
 pub(crate) fn first_bad_plan(
     alloc: Global,
-    view: &WorldView,
+    past: &Past,
     ends: &[Ending],
 ) -> Result<Option<usize>, NoMemory>
-    ensures { IfOk result (Lacks (seen.HasPlanSeen view.entry.now) ends.now) }
+    ensures { IfOk result (Lacks (seen.HasPlanSeen past.now) ends.now) }
 {
     let mut count = 0;
     for ending in ends {
-        if !has_plan(alloc, view, ending)? {
+        if !has_plan(alloc, past, ending)? {
             return Ok(Some(count));
         }
         count += 1;

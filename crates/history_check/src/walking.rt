@@ -1,23 +1,23 @@
 //! A history, entry after entry.
 
-ghost use Rattle.std.specs.Prelude.{◌≡◌, ◌↔◌, ◌+◌, ◌++◌, List, [], length, IsTrue, IfOk, OnOk};
+ghost use Rattle.std.specs.Prelude.{◌≡◌, ◌↔◌, ◌≤◌, ◌+◌, ◌++◌, List, [], length, IsTrue, IfOk, OnOk};
 ghost use Rattle.channel_calls.specs.History.{flow_of};
 ghost use Rattle.channel_calls.specs.declared.entry.Entry.{Entry as AnEntry};
-ghost use Rattle.history_check.specs.Walking.{WalksTo, HasWalked, Steps, Walks, Tells, Ends};
-ghost use Rattle.history_view.specs.Standing.{StandsFor};
-ghost use Rattle.support_chain.specs.Real.{real};
+ghost use Rattle.history_check.specs.Walking.{WalksTo, Steps, Walks, Ends};
 
+use crate::past::Past;
+use crate::rests::note;
 use adjudicator_core::Adjudicator;
-use channel_calls::{Entry, Flow, Reply, WorldView, flow_of};
-use history_view::{follow, unseen};
-use nitro_bytes::NoMemory;
+use channel_calls::{Entry, Flow, Reply, flow_of};
+use indexmap::IndexMap;
+use nitro_bytes::{Name, NoMemory, Outcome};
 use reply_bytes::same_reply;
 use std::alloc::Global;
 
-/// What a history is: legal, and then what a view of it and its flows say; or else the number of its first wrong entry.
+/// What a history is: legal, and then what it says and its flows; or else the number of its first wrong entry.
 #[derive(Drop)]
-pub(crate) enum Walked {
-    Whole(WorldView, Vec<Flow>),
+pub(crate) enum Walked<'a> {
+    Whole(Past<'a>, Vec<Flow>),
     Wrong(usize),
 }
 
@@ -39,25 +39,26 @@ fn is_next(alloc: Global, entry: &Entry, number: usize, reply: &Reply) -> Result
     Ok(entry.number as usize == number && same)
 }
 
-/// Whether the entry has this number and the reply that the adjudicator gives; then it is applied and followed.
+/// Whether the entry has this number and the reply that the adjudicator gives; then it is applied and noted.
 fn step(
     alloc: Global,
     adjudicator: &mut Adjudicator,
-    view: &mut WorldView,
+    rests: &mut IndexMap<Name, Option<Outcome>>,
     flows: &mut Vec<Flow>,
     entry: &Entry,
     number: usize,
 ) -> Result<bool, NoMemory>
-    requires { HasWalked adjudicator.old view.old flows.old.items number }
-    ensures { (g : List AnEntry) → WalksTo g adjudicator.old view.old flows.old.items → number ≡ length g + 1
-        → IfOk result (λ follows. Steps follows g entry.now adjudicator.new view.new flows.new.items) }
+    requires { 1 ≤ number }
+    ensures { (g : List AnEntry) → WalksTo g adjudicator.old rests.old.entries flows.old.items → number ≡ length g + 1
+        → IfOk result (λ follows. Steps follows g entry.now adjudicator.new rests.new.entries flows.new.items) }
 {
     adjudicator.reserve()?;
+    let now = adjudicator.now();
     let reply = adjudicator.apply(&entry.op);
     if !is_next(alloc, entry, number, &reply)? {
         return Ok(false);
     }
-    follow(view, entry)?;
+    note(alloc, rests, now, entry)?;
     add_flow(flows, entry)?;
     Ok(true)
 }
@@ -66,16 +67,16 @@ fn step(
 fn walk_on(
     alloc: Global,
     adjudicator: &mut Adjudicator,
-    view: &mut WorldView,
+    rests: &mut IndexMap<Name, Option<Outcome>>,
     flows: &mut Vec<Flow>,
     history: &[Entry],
 ) -> Result<Option<usize>, NoMemory>
-    requires { WalksTo [] adjudicator.old view.old flows.old.items }
-    ensures { IfOk result (λ wrong. Walks wrong history.now adjudicator.new view.new flows.new.items) }
+    requires { WalksTo [] adjudicator.old rests.old.entries flows.old.items }
+    ensures { IfOk result (λ wrong. Walks wrong history.now adjudicator.new rests.new.entries flows.new.items) }
 {
     let mut count = 0;
     for entry in history {
-        if !step(alloc, adjudicator, view, flows, entry, count + 1)? {
+        if !step(alloc, adjudicator, rests, flows, entry, count + 1)? {
             return Ok(Some(count + 1));
         }
         count += 1;
@@ -83,29 +84,15 @@ fn walk_on(
     Ok(None)
 }
 
-/// Applies the entries to a new adjudicator, whose work ends with this call.
-fn apply_all(
-    alloc: Global,
-    view: &mut WorldView,
-    flows: &mut Vec<Flow>,
-    history: &[Entry],
-) -> Result<Option<usize>, NoMemory>
-    requires seen { StandsFor real [] view.old }
-    requires none { flows.old.items ≡ [] }
-    ensures { IfOk result (λ wrong. Tells wrong history.now view.new flows.new.items) }
-{
-    let mut adjudicator = Adjudicator::make(alloc);
-    walk_on(alloc, &mut adjudicator, view, flows, history)
-}
-
-/// What a history is.
-pub(crate) fn walk_through(alloc: Global, history: &[Entry]) -> Result<Walked, NoMemory>
+/// What a history is, by a new adjudicator.
+pub(crate) fn walk_through<'a>(alloc: Global, history: &'a [Entry]) -> Result<Walked<'a>, NoMemory>
     ensures { IfOk result (Ends history.now) }
 {
-    let mut view = unseen(alloc);
+    let mut adjudicator = Adjudicator::make(alloc);
+    let mut rests = IndexMap::new(alloc);
     let mut flows = Vec::new(alloc);
-    match apply_all(alloc, &mut view, &mut flows, history)? {
+    match walk_on(alloc, &mut adjudicator, &mut rests, &mut flows, history)? {
         Some(number) => Ok(Walked::Wrong(number)),
-        None => Ok(Walked::Whole(view, flows)),
+        None => Ok(Walked::Whole(Past::make(history, adjudicator, rests), flows)),
     }
 }

@@ -1,13 +1,17 @@
 //! From words and a source to a status and the picture that was put.
 
-ghost use Rattle.std.specs.Prelude.{◌≡◌, ℕ, List, true, IfOk, IfErr};
+ghost use Rattle.std.specs.Prelude.{◌≡◌, ℕ, List, true, IfOk, IfErr, IsOk};
 ghost use Rattle.std.specs.Io.KnownBytes.{Keeps, Appends};
 ghost use Rattle.nitro_picture.specs.declared.drawing.Status.{Status};
 ghost use Rattle.run_text.specs.Lines.{line_feeds, IsInLines};
-ghost use Rattle.nitro_picture.specs.Drawing.{told, asks, code_of, EndsAs, puts_nothing};
+ghost use Rattle.nitro_bytes.specs.Reading.{Fails};
+ghost use Rattle.record_bytes.specs.Reading.{record_of};
+ghost use Rattle.nitro_picture.specs.Drawing.{told, asks, is_record, code_of, AreDrawn, HasFault, EndsAs, puts_nothing};
 
 use byte_source::{ReadEnd, Source, read_all};
-use nitro_bytes::Label;
+use nitro_bytes::{ByteFault, Label};
+use record_bytes::read_record;
+use record_run::{run_of, told_of};
 use run_picture::picture_of;
 use run_text::{LineFault, Unread, read_run};
 use std::alloc::Global;
@@ -21,9 +25,21 @@ pub enum Status {
     Usage,
     /// The text is none of a run.
     Unread(LineFault),
+    /// The bytes are no record.
+    Unspelled(ByteFault),
     ReadFault,
     WriteFault,
     TooLong,
+}
+
+/// Why bytes aren't drawn.
+#[derive(Clone, Copy, Debug, PartialEq, Eq)]
+pub enum Undrawn {
+    NoMemory,
+    /// Those of a text.
+    Line(LineFault),
+    /// Those of a record.
+    Byte(ByteFault),
 }
 
 impl Status {
@@ -35,7 +51,7 @@ impl Status {
             Status::Done => 0,
             Status::NoMemory => 1,
             Status::Usage => 2,
-            Status::Unread(_) => 3,
+            Status::Unread(_) | Status::Unspelled(_) => 3,
             Status::ReadFault => 4,
             Status::WriteFault => 5,
             Status::TooLong => 6,
@@ -64,6 +80,48 @@ fn picture_of_text(alloc: Global, text: &[u8]) -> Result<Vec<u8>, Unread>
     }
 }
 
+/// Whether bytes begin as those of each record do, and those of no text.
+fn is_record(bytes: &[u8]) -> bool
+    ensures { result ≡ is_record bytes.now }
+{
+    match bytes {
+        [first, ..] => *first == 0,
+        [] => false,
+    }
+}
+
+/// The picture of a record.
+fn picture_of_record(alloc: Global, bytes: &[u8]) -> Result<Vec<u8>, ByteFault>
+    ensures spelled { IfOk result (λ svg. IsOk (record_of bytes.now)) }
+    ensures fault { IfErr result (λ fault. Fails fault (record_of bytes.now)) }
+{
+    let value = read_record(alloc, bytes)?;
+    let told = told_of(alloc, &value)?;
+    let run = run_of(alloc, &value, &told)?;
+    let svg = picture_of(alloc, &run)?;
+    Ok(svg)
+}
+
+/// The picture of the record or the text that bytes are.
+#[tactic(auto, using(crate::proofs::Faults::record_is_drawn, crate::proofs::Faults::text_is_drawn, crate::proofs::Faults::byte_fault))]
+fn picture_of_bytes(alloc: Global, bytes: &[u8]) -> Result<Vec<u8>, Undrawn>
+    ensures drawn { IfOk result (λ svg. AreDrawn bytes.now) }
+    ensures fault { IfErr result (HasFault bytes.now) }
+{
+    if is_record(bytes) {
+        return match picture_of_record(alloc, bytes) {
+            Ok(svg) => Ok(svg),
+            Err(ByteFault::NoMemory) => Err(Undrawn::NoMemory),
+            Err(fault) => Err(Undrawn::Byte(fault)),
+        };
+    }
+    match picture_of_text(alloc, bytes) {
+        Ok(svg) => Ok(svg),
+        Err(Unread::NoMemory) => Err(Undrawn::NoMemory),
+        Err(Unread::Line(fault)) => Err(Undrawn::Line(fault)),
+    }
+}
+
 /// The picture of what the source tells, or the end without one.
 fn work<S: Source>(alloc: Global, words: &[Label], source: &mut S) -> Result<Vec<u8>, Status>
     ensures done { IfOk result (λ svg. EndsAs words.now (told S.remaining S.faults source.old source.new) Status.Done) }
@@ -79,14 +137,15 @@ fn work<S: Source>(alloc: Global, words: &[Label], source: &mut S) -> Result<Vec
         Err(ReadEnd::Failed) => return Err(Status::ReadFault),
         Err(ReadEnd::TooLong) => return Err(Status::TooLong),
     };
-    match picture_of_text(alloc, &bytes) {
+    match picture_of_bytes(alloc, &bytes) {
         Ok(svg) => Ok(svg),
-        Err(Unread::NoMemory) => Err(Status::NoMemory),
-        Err(Unread::Line(fault)) => Err(Status::Unread(fault)),
+        Err(Undrawn::NoMemory) => Err(Status::NoMemory),
+        Err(Undrawn::Line(fault)) => Err(Status::Unread(fault)),
+        Err(Undrawn::Byte(fault)) => Err(Status::Unspelled(fault)),
     }
 }
 
-/// Does all that the program does: reads the text of a run and writes its picture.
+/// Does all that the program does: reads the text or the record of a run and writes its picture.
 pub fn draw<S: Source, W: Write>(
     alloc: Global,
     words: &[Label],

@@ -1,4 +1,4 @@
-//! The program: `nitro_picture picture` reads the text of a run from standard input and writes its picture.
+//! The program: `nitro_picture picture` reads the text or the record of a run from standard input and writes its picture.
 #![tactic(auto)]
 
 mod drawing;
@@ -9,6 +9,7 @@ use nitro_bytes::{Label, NoMemory};
 use std::process::ExitCode;
 use std::rt::Env;
 use std::{env, io};
+use verdict_lines::fault_line;
 
 /// The words after the program's name. Words that aren't text count as none.
 fn words<R: Env + AllocGlobal>(rt: &R) -> Result<Vec<Label>, NoMemory> {
@@ -34,8 +35,16 @@ fn main(rt: HostRuntime) -> ExitCode {
     };
     let mut writer = rt.stdout();
     let status = draw(rt.alloc(), &words, &mut source, &mut writer);
-    if let Status::Unread(fault) = status {
-        let _ = eprintln!(rt; "{fault}");
+    match status {
+        Status::Unread(fault) => {
+            let _ = eprintln!(rt; "{fault}");
+        }
+        Status::Unspelled(fault) => {
+            if let Ok(line) = fault_line(rt.alloc(), fault) {
+                let _ = eprint!(rt; "{line}");
+            }
+        }
+        _ => {}
     }
     ExitCode::from(status.code())
 }

@@ -1,8 +1,7 @@
 //! What the channels held, and what the persons were paid, after the entries of a run.
 
-use crate::flows::{Flow, Flows, Goes};
-use crate::names::Names;
-use crate::receivers::Who;
+use crate::flows::{Flow, Flows, receiver_of};
+use crate::names::{Names, Who};
 use std::alloc::{AllocError, Global};
 
 /// Layers, one above the other, at columns of entries. The layers are the channels, then the persons, then what was
@@ -40,14 +39,11 @@ fn take(amounts: &mut [u64], at: usize, amount: u64) -> u64 {
     }
 }
 
-fn layer_of(amounts: &Amounts, receivers: &[Option<Who>], goes: Goes) -> usize {
-    match goes {
-        Goes::Channel(channel) => channel,
-        Goes::Item(item) => match receivers.get(item).copied().flatten() {
-            Some(Who::Channel(channel)) => channel,
-            Some(Who::Person(person)) => amounts.channels.saturating_add(person),
-            None => amounts.untold,
-        },
+fn layer_of(amounts: &Amounts, who: Option<Who>) -> usize {
+    match who {
+        Some(Who::Channel(channel)) => channel,
+        Some(Who::Person(person)) => amounts.channels.saturating_add(person),
+        None => amounts.untold,
     }
 }
 
@@ -56,7 +52,7 @@ fn follow(amounts: &mut Amounts, receivers: &[Option<Who>], flow: &Flow) {
         let lacking = take(&mut amounts.amounts, from, flow.amount);
         let _ = take(&mut amounts.amounts, amounts.untold, lacking);
     }
-    let layer = layer_of(amounts, receivers, flow.goes);
+    let layer = layer_of(amounts, receiver_of(flow, receivers));
     add(&mut amounts.amounts, layer, flow.amount);
 }
 

@@ -1,6 +1,6 @@
 //! What went where of an asset, by the entries.
 
-use crate::names::{Names, place_of};
+use crate::names::{Names, Who, place_of};
 use run_text::{Call, Entry, Reply, Run};
 use std::alloc::{AllocError, Global};
 
@@ -15,8 +15,8 @@ pub(crate) struct Item {
 /// Where a flow goes.
 #[derive(Clone, Copy, PartialEq, Eq)]
 pub enum Goes {
-    /// To the channel at this place.
-    Channel(usize),
+    /// To whom it is told.
+    To(Who),
     /// To whoever is paid by the item at this place.
     Item(usize),
 }
@@ -31,11 +31,19 @@ pub struct Flow {
     pub amount: u64,
 }
 
-/// The flows of an asset, and how many items they were paid by.
+/// The flows of an asset, and by how many items those were paid whose receivers aren't told.
 #[derive(Drop)]
 pub struct Flows {
     pub flows: Vec<Flow>,
     pub items: usize,
+}
+
+/// Who receives a flow, by the receivers of items as far as they are known.
+pub fn receiver_of(flow: &Flow, receivers: &[Option<Who>]) -> Option<Who> {
+    match flow.goes {
+        Goes::To(who) => Some(who),
+        Goes::Item(item) => receivers.get(item).copied().flatten(),
+    }
 }
 
 /// The item by which a call pays of an asset.
@@ -87,7 +95,7 @@ fn deposit_of(names: &Names, at: usize, entry: &Entry, asset: u64) -> Option<Flo
         ) if given == asset => Some(Flow {
             entry: at,
             from: None,
-            goes: Goes::Channel(place_of(&names.channels, channel)?),
+            goes: Goes::To(Who::Channel(place_of(&names.channels, channel)?)),
             amount,
         }),
         _ => None,
@@ -104,11 +112,14 @@ fn payment_of(
     let (Reply::Paid(amount), Some(item)) = (entry.reply, item_of(names, &entry.call, asset)) else {
         return Ok(None);
     };
-    let place = place_of_item(items, item)?;
+    let goes = match entry.payee.and_then(|payee| names.who(&payee)) {
+        Some(who) => Goes::To(who),
+        None => Goes::Item(place_of_item(items, item)?),
+    };
     Ok(Some(Flow {
         entry: at,
         from: Some(item.from),
-        goes: Goes::Item(place),
+        goes,
         amount,
     }))
 }

@@ -1,7 +1,8 @@
 //! The lanes of channels: bands, marks, words.
 
-use crate::bands::{Band, Mode, bands_of, is_on_lane};
+use crate::bands::{Band, Mode, bands_of, channel_of, is_on_lane};
 use crate::frame::{Frame, LEFT, RIGHT, Spaced, TOP};
+use crate::names::{Names, place_of};
 use crate::px::{minus, plus};
 use crate::shapes::{Look, Run as Runs, Sketch};
 use run_text::{Call, Entry, Reply, Run, TurnCall};
@@ -35,12 +36,29 @@ fn is_refused(entry: &Entry) -> bool {
     matches!(entry.reply, Reply::No(_))
 }
 
-/// Whether a call on a channel's lane was accepted, or it holds something.
-fn moves(run: &Run, name: &[u8]) -> bool {
-    run.entries
-        .iter()
-        .any(|entry| is_on_lane(entry, name) && !is_refused(entry))
-        || run.held.iter().any(|balance| balance.name == name)
+fn note_moves(moves: &mut [bool], names: &Names, name: &[u8]) {
+    let Some(at) = place_of(&names.channels, name) else {
+        return;
+    };
+    if let Some(moved) = moves.get_mut(at) {
+        *moved = true;
+    }
+}
+
+/// Of each channel whether a call on its lane was accepted, or it holds something.
+fn moves_of(alloc: Global, run: &Run, names: &Names) -> Result<Vec<bool>, AllocError> {
+    let mut moves = vec![in alloc; false; names.channels.len()]?;
+    for entry in &run.entries {
+        if let Some(name) = channel_of(entry) {
+            if !is_refused(entry) {
+                note_moves(&mut moves, names, name);
+            }
+        }
+    }
+    for balance in &run.held {
+        note_moves(&mut moves, names, balance.name);
+    }
+    Ok(moves)
 }
 
 /// Where a lane stands that begins here.
@@ -67,13 +85,15 @@ pub(crate) fn lanes_of<'a>(
     alloc: Global,
     frame: Frame,
     run: &Run<'a>,
-    channels: &[&'a [u8]],
+    names: &Names<'a>,
 ) -> Result<Lanes<'a>, AllocError> {
+    let moves = moves_of(alloc, run, names)?;
+    let channels = names.channels.as_slice();
     let mut lanes = Vec::new(alloc);
     let mut rows = Vec::new(alloc);
     let mut top = TOP;
-    for name in channels {
-        let is_shown = lanes.len() < MOST && (channels.len() <= FEW || moves(run, name));
+    for (name, moved) in channels.iter().zip(&moves) {
+        let is_shown = lanes.len() < MOST && (channels.len() <= FEW || *moved);
         if is_shown {
             rows.push(Some(lanes.len()))?;
             let lane = lane_at(frame, run, name, top);

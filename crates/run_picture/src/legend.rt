@@ -82,6 +82,11 @@ fn draw_callers(sketch: &mut Sketch, entries: &[Entry], y: u64) -> Result<(), Al
     Ok(())
 }
 
+/// Whether an entry pays, and doesn't tell whom.
+fn is_untold(entry: &Entry) -> bool {
+    matches!(entry.reply, Reply::Paid(_)) && entry.payee.is_none()
+}
+
 /// Draws two rows of signs: bands, marks and arrows, and the callers.
 pub(crate) fn draw_legend(
     sketch: &mut Sketch,
@@ -98,10 +103,9 @@ pub(crate) fn draw_legend(
     });
     row.mark(sketch, 0, &no, b"refused")?;
     row.arrow(sketch, Look::Arrow, b"pays")?;
-    row.arrow(
-        sketch,
-        Look::ArrowUntold,
-        b"pays, the text doesn't tell whom",
-    )?;
+    if entries.iter().any(|entry| is_untold(entry)) {
+        let text = b"pays, the text doesn't tell whom";
+        row.arrow(sketch, Look::ArrowUntold, text)?;
+    }
     draw_callers(sketch, entries, plus(y, 24))
 }

@@ -1,12 +1,12 @@
 //! Arrows from payers to those who are paid, and the areas of money.
 
 use crate::columns::{Columns, columns_of, end_of_column};
-use crate::flows::{Flow, Flows, Goes, flows_of};
+use crate::flows::{Flows, flows_of, receiver_of};
 use crate::frame::{Frame, LEFT, RIGHT, Spaced};
 use crate::lanes::{Lanes, short};
-use crate::names::Names;
+use crate::names::{Names, Who};
 use crate::px::{minus, plus, scaled};
-use crate::receivers::{Who, receivers_of_items};
+use crate::receivers::receivers_of_items;
 use crate::shapes::{Look, Run as Runs, Sketch, joined};
 use run_text::{AssetEnd, Run};
 use std::alloc::{AllocError, Global};
@@ -100,13 +100,6 @@ fn draw_arrow(
     Ok(())
 }
 
-fn who_of(money: &Money, flow: &Flow) -> Option<Who> {
-    match flow.goes {
-        Goes::Channel(channel) => Some(Who::Channel(channel)),
-        Goes::Item(item) => money.receivers.get(item).copied().flatten(),
-    }
-}
-
 /// The arrows of an asset, as far as they have room.
 pub(crate) fn draw_arrows(
     sketch: &mut Sketch,
@@ -123,7 +116,7 @@ pub(crate) fn draw_arrows(
             continue;
         };
         let x = frame.middle(flow.entry);
-        let who = who_of(money, flow);
+        let who = receiver_of(flow, &money.receivers);
         if let Some(band) = band_of(lanes, from) {
             if let Some(tip) = tip_of(lanes, rows, band, who, length) {
                 if room.takes(x) {
@@ -242,11 +235,11 @@ fn thickest(columns: &Columns, count: usize, layer: usize) -> (usize, u64) {
 
 /// What a layer is, and what is told of it.
 fn look_of_layer<'a>(names: &Names<'a>, layer: usize) -> (Look, &'a [u8], &'a [u8]) {
-    if let Some(name) = names.channels.get(layer) {
+    if let Some(name) = names.channels.get_index(layer) {
         return (Look::Held(layer), b"held by ", name);
     }
     let person = layer.saturating_sub(names.channels.len());
-    match names.persons.get(person) {
+    match names.persons.get_index(person) {
         Some(name) => (Look::Paid(person), b"paid to ", name),
         None => (Look::Untold, b"paid, ", b"not told to whom"),
     }

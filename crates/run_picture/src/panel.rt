@@ -1,9 +1,10 @@
 //! Who ended with what.
 
 use crate::frame::{PANEL, TOP};
+use crate::lanes::short;
 use crate::px::plus;
 use crate::shapes::{Look, Run as Runs, Sketch};
-use run_text::{PersonAsset, PersonEnd, Refused, Run};
+use run_text::{PersonAsset, PersonEnd, Premises, Refused, Run};
 use std::alloc::AllocError;
 
 /// Lines of text below one another.
@@ -49,6 +50,16 @@ fn put_premise(
     }
 }
 
+fn put_premises(
+    sketch: &mut Sketch,
+    lines: &mut Lines,
+    premises: Premises,
+) -> Result<(), AllocError> {
+    put_premise(sketch, lines, premises.unforged, "unforged")?;
+    put_premise(sketch, lines, premises.distinct, "distinct")?;
+    put_premise(sketch, lines, premises.in_time, "in time")
+}
+
 fn put_refused(
     sketch: &mut Sketch,
     lines: &mut Lines,
@@ -73,13 +84,13 @@ fn put_person(
     person: &PersonEnd,
 ) -> Result<(), AllocError> {
     lines.y = plus(lines.y, 8);
-    lines.put(sketch, Look::Strong, &[person.name])?;
+    lines.put(sketch, Look::Strong, &short(person.name))?;
     for end in &person.assets {
         put_asset(sketch, lines, end)?;
     }
-    put_premise(sketch, lines, person.unforged, "unforged")?;
-    put_premise(sketch, lines, person.distinct, "distinct")?;
-    put_premise(sketch, lines, person.in_time, "in time")?;
+    if let Some(premises) = person.premises {
+        put_premises(sketch, lines, premises)?;
+    }
     put_refused(sketch, lines, &run.refused, person.name)
 }
 
@@ -91,7 +102,7 @@ fn put_paid(sketch: &mut Sketch, lines: &mut Lines, run: &Run) -> Result<(), All
         if !is_told {
             let asset = sketch.number(balance.asset)?;
             let amount = sketch.number(balance.amount)?;
-            let name = crate::lanes::short(balance.name);
+            let name = short(balance.name);
             let pieces = [
                 name[0],
                 name[1],

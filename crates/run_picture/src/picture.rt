@@ -113,7 +113,7 @@ fn draw_payments(
 ) -> Result<u64, AllocError> {
     let frame = Frame::of(run.entries.len());
     let rows = PersonRows { top: lanes.end };
-    let end = draw_persons(sketch, rows, &names.persons)?;
+    let end = draw_persons(sketch, rows, names.persons.as_slice())?;
     for one_asset in money {
         draw_arrows(sketch, frame, run, one_asset, lanes, rows)?;
     }
@@ -159,7 +159,7 @@ fn draw_body(
 
 /// The shapes of a run.
 fn shapes_of(alloc: Global, run: &Run, names: &Names, title: &str) -> Result<Picture, AllocError> {
-    let lanes = lanes_of(alloc, Frame::of(run.entries.len()), run, &names.channels)?;
+    let lanes = lanes_of(alloc, Frame::of(run.entries.len()), run, names)?;
     let mut sketch = Sketch::new(alloc);
     let (drawn, end) = draw_body(&mut sketch, run, names, &lanes)?;
     let note = note_of(alloc, run, names, &lanes, drawn)?;

@@ -1,21 +1,15 @@
-//! Who was paid. The text names the payer and the item, and not who is paid by it; but it tells what each person was
-//! paid and what each channel holds, and so mostly leaves one way.
+//! Who was paid, where it isn't told. A text names the payer and the item, and not who is paid by it; but it tells what
+//! each person was paid and what each channel holds, and so mostly leaves one way.
 
 use crate::flows::{Flow, Flows, Goes};
-use crate::names::{Names, place_of};
-use run_text::{Balance, Run};
+use crate::names::{Names, Who, place_of};
+use run_text::Run;
 use std::alloc::{AllocError, Global};
 
 /// So many flows are gone over in all before the search is given up.
 const SEARCH_LIMIT: usize = 2_000_000;
 
-#[derive(Clone, Copy, Debug, PartialEq, Eq)]
-pub enum Who {
-    Channel(usize),
-    Person(usize),
-}
-
-/// Who was paid, and how much of the asset in all.
+/// Who was paid by items, and how much of the asset in all.
 #[derive(Clone, Copy)]
 struct Receiver {
     who: Who,
@@ -33,47 +27,73 @@ enum Way {
     Fits,
 }
 
-fn amount_of(balances: &[Balance], name: &[u8], asset: u64) -> u64 {
-    let mut sum = 0u64;
-    for balance in balances {
-        if balance.asset == asset && balance.name == name {
-            sum = sum.saturating_add(balance.amount);
-        }
+fn add_to(amounts: &mut [u64], to: usize, amount: u64) {
+    if let Some(place) = amounts.get_mut(to) {
+        *place = place.saturating_add(amount);
     }
-    sum
 }
 
-/// What a channel was paid by items: what it holds at the end and has paid, but for what was deposited.
-fn paid_to_channel(flows: &[Flow], channel: usize, held: u64) -> u64 {
-    let mut gained = held;
-    let mut given = 0u64;
-    for flow in flows {
-        if flow.from == Some(channel) {
-            gained = gained.saturating_add(flow.amount);
-        }
-        if flow.goes == Goes::Channel(channel) {
-            given = given.saturating_add(flow.amount);
-        }
+fn lower(amounts: &mut [u64], from: usize, amount: u64) {
+    if let Some(place) = amounts.get_mut(from) {
+        *place = place.saturating_sub(amount);
     }
-    gained.saturating_sub(given)
 }
 
-fn add_channels(
-    receivers: &mut Vec<Receiver>,
+/// Notes what everybody has of an asset at the end: the channels, then the persons.
+fn note_ends(totals: &mut [u64], run: &Run, names: &Names, asset: u64) {
+    for balance in &run.held {
+        if balance.asset == asset {
+            if let Some(at) = place_of(&names.channels, balance.name) {
+                add_to(totals, names.place(Who::Channel(at)), balance.amount);
+            }
+        }
+    }
+    for balance in &run.paid {
+        if balance.asset == asset {
+            if let Some(at) = place_of(&names.persons, balance.name) {
+                add_to(totals, names.place(Who::Person(at)), balance.amount);
+            }
+        }
+    }
+}
+
+/// What everybody was paid by items: what it has at the end and has paid, but for what is told to have gone to it.
+fn paid_by_items(
+    alloc: Global,
     run: &Run,
     names: &Names,
     flows: &[Flow],
     asset: u64,
-) -> Result<(), AllocError> {
-    for (at, name) in names.channels.iter().enumerate() {
-        let held = amount_of(&run.held, name, asset);
-        let total = paid_to_channel(flows, at, held);
-        if total > 0 {
-            let who = Who::Channel(at);
-            receivers.push(Receiver { who, total })?;
+) -> Result<Vec<u64>, AllocError> {
+    let count = names.channels.len().saturating_add(names.persons.len());
+    let mut totals = vec![in alloc; 0u64; count]?;
+    note_ends(&mut totals, run, names, asset);
+    for flow in flows {
+        if let Some(from) = flow.from {
+            add_to(&mut totals, from, flow.amount);
         }
     }
-    Ok(())
+    for flow in flows {
+        if let Goes::To(who) = flow.goes {
+            lower(&mut totals, names.place(who), flow.amount);
+        }
+    }
+    Ok(totals)
+}
+
+fn add_receiver(
+    receivers: &mut Vec<Receiver>,
+    names: &Names,
+    totals: &[u64],
+    who: Who,
+) -> Result<(), AllocError> {
+    match totals.get(names.place(who)) {
+        Some(total) if *total > 0 => {
+            receivers.push(Receiver { who, total: *total })?;
+            Ok(())
+        }
+        _ => Ok(()),
+    }
 }
 
 /// The persons in the order of their first payment, and the channels.
@@ -84,17 +104,18 @@ fn receivers_of(
     flows: &[Flow],
     asset: u64,
 ) -> Result<Vec<Receiver>, AllocError> {
+    let totals = paid_by_items(alloc, run, names, flows, asset)?;
     let mut receivers = Vec::new(alloc);
     for balance in &run.paid {
         if balance.asset == asset {
             if let Some(at) = place_of(&names.persons, balance.name) {
-                let who = Who::Person(at);
-                let total = balance.amount;
-                receivers.push(Receiver { who, total })?;
+                add_receiver(&mut receivers, names, &totals, Who::Person(at))?;
             }
         }
     }
-    add_channels(&mut receivers, run, names, flows, asset)?;
+    for at in 0..names.channels.len() {
+        add_receiver(&mut receivers, names, &totals, Who::Channel(at))?;
+    }
     Ok(receivers)
 }
 
@@ -112,12 +133,6 @@ fn take_from(held: &mut [u64], from: usize, amount: u64) -> bool {
             true
         }
         _ => false,
-    }
-}
-
-fn add_to(held: &mut [u64], to: usize, amount: u64) {
-    if let Some(place) = held.get_mut(to) {
-        *place = place.saturating_add(amount);
     }
 }
 
@@ -154,8 +169,10 @@ fn step(tally: &mut Tally, receivers: &[Receiver], choices: &[usize], flow: &Flo
         }
     }
     let fits = match flow.goes {
-        Goes::Channel(channel) => {
-            add_to(&mut tally.held, channel, flow.amount);
+        Goes::To(who) => {
+            if let Who::Channel(channel) = who {
+                add_to(&mut tally.held, channel, flow.amount);
+            }
             true
         }
         Goes::Item(item) => match choices.get(item) {
@@ -245,7 +262,7 @@ fn search(
     Ok(Vec::new(alloc))
 }
 
-/// For each item of the flows who is paid by it, where the text leaves no other way.
+/// For each item of the flows who is paid by it, where the text leaves no other way. Of a record there are none.
 pub fn receivers_of_items(
     alloc: Global,
     run: &Run,
@@ -253,6 +270,9 @@ pub fn receivers_of_items(
     flows: &Flows,
     asset: u64,
 ) -> Result<Vec<Option<Who>>, AllocError> {
+    if flows.items == 0 {
+        return Ok(Vec::new(alloc));
+    }
     let receivers = receivers_of(alloc, run, names, &flows.flows, asset)?;
     let found = search(alloc, names.channels.len(), flows, &receivers)?;
     let mut all = Vec::new(alloc);

@@ -215,7 +215,7 @@ pub(crate) fn check_line(run: &Run, line: &Line) -> Result<(), Wanted> {
         Line::End(end) => check_end(run, end),
         Line::Asset(asset) => check_asset(run.assets.last(), asset),
         Line::Held(balance) | Line::Paid(balance) => check_balance(balance),
-        Line::Premises(_) => check_last_person(run),
+        Line::Premises(_, _) => check_last_person(run),
         Line::Person(line) => check_person_line(run, line),
         Line::Exit(line) => check_exit_line(run, line),
     }

@@ -1,8 +1,8 @@
 //! A run, line by line.
 
 use crate::checks::{check_line, check_stage, check_whole};
-use crate::line::{Line, Premises, read_line};
-use crate::model::{End, PersonAsset, PersonEnd, Run};
+use crate::line::{Line, read_line};
+use crate::model::{End, PersonAsset, PersonEnd, Premises, Run};
 use crate::stage::Stage;
 use std::alloc::{AllocError, Global};
 use text_lines::{LineReader, Untaken};
@@ -24,13 +24,12 @@ fn push<T: Copy>(lines: &mut Vec<T>, line: T) -> Result<(), AllocError> {
 fn add_person<'a>(
     alloc: Global,
     persons: &mut Vec<PersonEnd<'a>>,
-    premises: &Premises<'a>,
+    name: &'a [u8],
+    premises: Premises,
 ) -> Result<(), AllocError> {
     persons.push(PersonEnd {
-        name: premises.name,
-        unforged: premises.unforged,
-        distinct: premises.distinct,
-        in_time: premises.in_time,
+        name,
+        premises: Some(premises),
         assets: Vec::new(alloc),
     })?;
     Ok(())
@@ -71,7 +70,7 @@ fn keep<'a>(alloc: Global, run: &mut Run<'a>, line: Line<'a>) -> Result<(), Allo
         Line::Asset(asset) => push(&mut run.assets, asset),
         Line::Held(held) => push(&mut run.held, held),
         Line::Paid(paid) => push(&mut run.paid, paid),
-        Line::Premises(premises) => add_person(alloc, &mut run.persons, &premises),
+        Line::Premises(name, premises) => add_person(alloc, &mut run.persons, name, premises),
         Line::Person(line) => add_asset_of(&mut run.persons, line.told()),
         Line::Exit(line) => {
             note_exit(&mut run.persons, line.share);

@@ -1,7 +1,7 @@
 //! The lines that are no entries.
 
-use crate::line::{ExitLine, Line, PersonLine, Premises};
-use crate::model::{AssetEnd, Balance, End, Made, Refused};
+use crate::line::{ExitLine, Line, PersonLine};
+use crate::model::{AssetEnd, Balance, End, Made, Premises, Refused};
 use crate::refusals::read_node_refusal;
 use crate::words::Words;
 use text_lines::Wanted;
@@ -87,12 +87,14 @@ fn read_premises<'a>(words: &mut Words<'a>) -> Result<Line<'a>, Wanted> {
     let unforged = words.yes_or_no_after("unforged")?;
     let distinct = words.yes_or_no_after("distinct")?;
     let in_time = words.yes_or_no_after("intime")?;
-    Ok(Line::Premises(Premises {
+    Ok(Line::Premises(
         name,
-        unforged,
-        distinct,
-        in_time,
-    }))
+        Premises {
+            unforged,
+            distinct,
+            in_time,
+        },
+    ))
 }
 
 /// `P K paid N share S`.

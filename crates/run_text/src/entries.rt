@@ -1,7 +1,7 @@
 //! The lines of entries.
 
 use crate::line::Line;
-use crate::model::{Call, Entry, Reply, TurnCall};
+use crate::model::{Call, Entry, Payee, Reply, TurnCall};
 use crate::refusals::read_refusal;
 use crate::words::Words;
 use text_lines::Wanted;
@@ -87,22 +87,28 @@ fn ok_word(call: &Call) -> &'static str {
     }
 }
 
-fn ok_reply<'a>(call: &Call, value: u64) -> Reply<'a> {
-    match call {
-        Call::Deposit { .. } => Reply::Held(value),
-        Call::Time(_) => Reply::Now(value),
-        Call::Turn { call, .. } => match call {
-            TurnCall::Challenge => Reply::Until(value),
-            TurnCall::Respond | TurnCall::Refute | TurnCall::Checkpoint => Reply::Open(value),
-            TurnCall::Conclude => Reply::Final(value),
-        },
-        Call::Transfer { .. } | Call::Claim { .. } => Reply::Paid(value),
+/// The reply with a word and a number.
+fn ok_reply<'a>(word: &str, value: u64) -> Option<Reply<'a>> {
+    match word {
+        "held" => Some(Reply::Held(value)),
+        "now" => Some(Reply::Now(value)),
+        "until" => Some(Reply::Until(value)),
+        "open" => Some(Reply::Open(value)),
+        "final" => Some(Reply::Final(value)),
+        "paid" => Some(Reply::Paid(value)),
+        _ => None,
     }
 }
 
-fn read_accepted<'a>(words: &mut Words<'a>, call: &Call) -> Result<Reply<'a>, Wanted> {
-    let value = words.number_after(ok_word(call))?;
-    Ok(ok_reply(call, value))
+/// The reply to a call that was accepted: one that fits such a call, or any.
+fn read_accepted<'a>(words: &mut Words<'a>, call: &Call, fits: bool) -> Result<Reply<'a>, Wanted> {
+    let wanted = ok_word(call);
+    let word = words.keyword();
+    if fits && word != wanted {
+        return Err(Wanted::Word(wanted));
+    }
+    let value = words.number()?;
+    ok_reply(word, value).ok_or(Wanted::Word(wanted))
 }
 
 fn read_refused<'a>(words: &mut Words<'a>) -> Result<Reply<'a>, Wanted> {
@@ -110,25 +116,54 @@ fn read_refused<'a>(words: &mut Words<'a>) -> Result<Reply<'a>, Wanted> {
     Ok(Reply::No(said))
 }
 
-fn read_reply<'a>(words: &mut Words<'a>, call: &Call) -> Result<Reply<'a>, Wanted> {
+fn read_reply<'a>(words: &mut Words<'a>, call: &Call, fits: bool) -> Result<Reply<'a>, Wanted> {
     match words.keyword() {
-        "ok" => read_accepted(words, call),
+        "ok" => read_accepted(words, call, fits),
         "no" => read_refused(words),
         _ => Err(Wanted::OkOrNo),
     }
 }
 
-/// `NUMBER BY CALL REPLY`.
-pub(crate) fn read_entry<'a>(line: &'a [u8], words: &mut Words<'a>) -> Result<Line<'a>, Wanted> {
+fn read_words<'a>(line: &'a [u8], words: &mut Words<'a>, fits: bool) -> Result<Entry<'a>, Wanted> {
     let number = words.number()?;
     let by = words.number()?;
     let call = read_call(words)?;
-    let reply = read_reply(words, &call)?;
-    Ok(Line::Entry(Entry {
+    let reply = read_reply(words, &call, fits)?;
+    Ok(Entry {
         line,
         number,
         by,
         call,
         reply,
-    }))
+        payee: None,
+    })
+}
+
+/// `NUMBER BY CALL REPLY`.
+pub(crate) fn read_entry<'a>(line: &'a [u8], words: &mut Words<'a>) -> Result<Line<'a>, Wanted> {
+    let entry = read_words(line, words, true)?;
+    Ok(Line::Entry(entry))
+}
+
+/// `to person NAME` or `to channel NAME`, or nothing.
+fn read_payee<'a>(words: &mut Words<'a>) -> Result<Option<Payee<'a>>, Wanted> {
+    if words.keyword() != "to" {
+        return Ok(None);
+    }
+    let is_person = words.keyword() == "person";
+    let name = words.name()?;
+    if is_person {
+        Ok(Some(Payee::Person(name)))
+    } else {
+        Ok(Some(Payee::Channel(name)))
+    }
+}
+
+/// The entry of a line `NUMBER BY CALL REPLY`, whose reply may be one to another call, and which may end with
+/// ` to person NAME` or ` to channel NAME`: whom the entry pays.
+pub fn read_paying_entry(line: &[u8]) -> Result<Entry<'_>, Wanted> {
+    let mut words = Words::of(line);
+    let mut entry = read_words(line, &mut words, false)?;
+    entry.payee = read_payee(&mut words)?;
+    Ok(entry)
 }

@@ -1,4 +1,4 @@
-//! The text that `nitro run` prints, as a model, and its reader.
+//! The text that `nitro run` prints, as a model that records share, and its reader.
 #![tactic(auto)]
 
 mod checks;
@@ -12,9 +12,10 @@ mod refusals;
 mod stage;
 mod words;
 
+pub use entries::read_paying_entry;
 pub use model::{
-    AssetEnd, Balance, Call, End, Entry, Made, PersonAsset, PersonEnd, Refused, Reply, Run, Said,
-    TurnCall,
+    AssetEnd, Balance, Call, End, Entry, Made, Payee, PersonAsset, PersonEnd, Premises, Refused,
+    Reply, Run, Said, TurnCall,
 };
 pub use reading::read_run;
 pub use text_lines::{LineFault, Unread, Wanted};

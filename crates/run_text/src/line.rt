@@ -2,18 +2,9 @@
 
 use crate::endings::read_ending;
 use crate::entries::read_entry;
-use crate::model::{AssetEnd, Balance, End, Entry, Made, PersonAsset, Refused};
+use crate::model::{AssetEnd, Balance, End, Entry, Made, PersonAsset, Premises, Refused};
 use crate::words::Words;
 use text_lines::Wanted;
-
-/// The premises of a person, as their line tells them.
-#[derive(Clone, Copy)]
-pub(crate) struct Premises<'a> {
-    pub(crate) name: &'a [u8],
-    pub(crate) unforged: bool,
-    pub(crate) distinct: bool,
-    pub(crate) in_time: bool,
-}
 
 /// What a person was paid, and its share, of an asset.
 #[derive(Clone, Copy)]
@@ -54,7 +45,7 @@ pub(crate) enum Line<'a> {
     Asset(AssetEnd),
     Held(Balance<'a>),
     Paid(Balance<'a>),
-    Premises(Premises<'a>),
+    Premises(&'a [u8], Premises),
     Person(PersonLine<'a>),
     Exit(ExitLine<'a>),
 }

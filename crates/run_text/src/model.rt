@@ -1,6 +1,6 @@
-//! What a printed text tells. Names, and lines where they are kept, are bytes of the text itself.
+//! What a printed text or a record tells. Names, and lines where they are kept, are bytes of the text itself.
 
-/// A run, as its text tells it.
+/// A run, as its text or its record tells it.
 #[derive(Debug, Drop)]
 pub struct Run<'a> {
     /// The script that the program made itself, if it did: then entries aren't told.
@@ -31,6 +31,15 @@ pub struct Entry<'a> {
     pub by: u64,
     pub call: Call<'a>,
     pub reply: Reply<'a>,
+    /// Whom it pays, which a record alone tells.
+    pub payee: Option<Payee<'a>>,
+}
+
+/// Who is paid.
+#[derive(Clone, Copy, Debug)]
+pub enum Payee<'a> {
+    Channel(&'a [u8]),
+    Person(&'a [u8]),
 }
 
 /// What was entered.
@@ -121,13 +130,20 @@ pub struct Balance<'a> {
     pub amount: u64,
 }
 
-/// The premises of a person with a node, and how each asset ended for it.
-#[derive(Debug, Drop)]
-pub struct PersonEnd<'a> {
-    pub name: &'a [u8],
+/// Whether the premises of a person hold.
+#[derive(Clone, Copy, Debug)]
+pub struct Premises {
     pub unforged: bool,
     pub distinct: bool,
     pub in_time: bool,
+}
+
+/// A person with a node, and how each asset ended for it.
+#[derive(Debug, Drop)]
+pub struct PersonEnd<'a> {
+    pub name: &'a [u8],
+    /// They are told by a text alone.
+    pub premises: Option<Premises>,
     /// One for each asset of the run, in the same order.
     pub assets: Vec<PersonAsset>,
 }

@@ -68,7 +68,7 @@ impl Stage {
             Line::Asset(_) => Some(Stage::Assets),
             Line::Held(_) => Some(Stage::Held),
             Line::Paid(_) => Some(Stage::Paid),
-            Line::Premises(_) => Some(Stage::Persons),
+            Line::Premises(_, _) => Some(Stage::Persons),
             Line::Person(_) | Line::Exit(_) => None,
         }
     }
