@@ -1,0 +1,13 @@
+-- Steps but for the routes of their virtual channels.
+use Rattle.std.specs.Prelude.{List, map}
+use Rattle.net_party.specs.declared.command.Route.TheVariants.{Plain}
+use Rattle.script_rules.specs.declared.step.Step.{Step}
+use Rattle.script_rules.specs.declared.step.Step.TheVariants as steps
+
+-- the step with the plain route
+abbrev pub plain : Step → Step
+plain (steps.OpenVirtual who route ledgers guarantors joint channel asset amounts) = steps.OpenVirtual who Plain ledgers guarantors joint channel asset amounts
+plain step = step
+
+abbrev pub plainly : List Step → List Step
+plainly steps = map plain steps
