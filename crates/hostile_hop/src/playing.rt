@@ -1,14 +1,21 @@
 //! From routes and a source to a status and a text.
 
+ghost use Rattle.std.specs.Prelude.{◌≡◌, ◌≤◌, All, IfOk, length};
+ghost use Rattle.channel_calls.specs.History.{Legal, newest_first};
+ghost use Rattle.script_rules.specs.Bounds.{Fits, persons_of, rounds_of, signers_of};
+ghost use Rattle.support_chain.specs.Real.{real};
+
 use crate::routes::take_routes;
 use byte_source::{ReadEnd, Source, read_all};
 use net_node::Node;
 use net_party::Route;
 use nitro_bytes::NoMemory;
 use play_report::report_play;
-use report_text::text_of;
+use report_text::{Report, text_of};
 use script_reader::{ScriptFault, read_script_with_signers};
+use script_rules::{STEP_LIMIT, Step};
 use script_run::{Records, Status, line_of};
+use sign_index::Signer;
 use std::alloc::Global;
 
 /// What the program ends with, and what it prints.
@@ -27,22 +34,47 @@ pub(crate) fn unplayed(alloc: Global, status: Status) -> Result<Played, NoMemory
     })
 }
 
-#[tactic(auto, using(crate::proofs::Alike::fits_alike, crate::proofs::Alike::few_alike, crate::proofs::Alike::rounds_alike, crate::proofs::Alike::short_alike, crate::proofs::Alike::signers_alike))]
+/// Plays the steps by these routes.
+fn report_of(
+    alloc: Global,
+    steps: &mut [Step],
+    signers: Vec<Signer>,
+    routes: &[Route],
+) -> Result<Report, NoMemory>
+    requires fit { All Fits steps.old }
+    requires few { persons_of steps.old ≤ 16 }
+    requires rounds { rounds_of steps.old ≤ 4096 }
+    requires short { length steps.old ≤ STEP_LIMIT }
+    requires fresh { signers.items ≡ signers_of steps.old }
+    ensures { IfOk result (λ report. Legal real (newest_first report.history)) }
+{
+    take_routes(steps, routes);
+    report_play::<Node, Records>(alloc, steps, signers, None)
+}
+
 fn play_bytes(alloc: Global, bytes: &[u8], routes: &[Route]) -> Result<Played, NoMemory> {
     let (script, signers) = match read_script_with_signers(alloc, bytes, false) {
         Ok(read) => read,
         Err(ScriptFault::NoMemory) => return Err(NoMemory),
-        Err(ScriptFault::Broken { step, rule }) => return unplayed(alloc, Status::Script(step, rule)),
+        Err(ScriptFault::Broken { step, rule }) => {
+            return unplayed(alloc, Status::Script(step, rule));
+        }
     };
     let mut steps = script.steps.into_vec();
-    take_routes(&mut steps, routes);
-    let report = report_play::<Node, Records>(alloc, &steps, signers, None)?;
+    let report = report_of(alloc, &mut steps, signers, routes)?;
     let text = text_of(&report)?;
-    Ok(Played { status: Status::Done, text })
+    Ok(Played {
+        status: Status::Done,
+        text,
+    })
 }
 
 /// Plays the script that the source has.
-pub(crate) fn play_source<S: Source>(alloc: Global, source: &mut S, routes: &[Route]) -> Result<Played, NoMemory> {
+pub(crate) fn play_source<S: Source>(
+    alloc: Global,
+    source: &mut S,
+    routes: &[Route],
+) -> Result<Played, NoMemory> {
     match read_all(alloc, source) {
         Ok(bytes) => play_bytes(alloc, &bytes, routes),
         Err(ReadEnd::NoMemory) => Err(NoMemory),
