@@ -149,8 +149,9 @@ fn turn_text(sketch: &Sketch, band: &Band) -> Result<String, AllocError> {
     }
 }
 
-fn fits(text: &str, width: u64) -> bool {
-    plus((text.len() as u64).saturating_mul(6), 8) < width
+/// Whether a text of so many letters fits, with some room beside it.
+pub(crate) fn fits(letters: usize, width: u64) -> bool {
+    plus((letters as u64).saturating_mul(6), 8) < width
 }
 
 fn draw_band(
@@ -172,11 +173,11 @@ fn draw_band(
     )?;
     let at = (plus(from, 4), plus(lane.band.0, 11));
     let width = minus(to, from);
-    if fits(text.as_str(), width) {
+    if fits(text.len(), width) {
         return sketch.text(Look::Plain, at, Runs::Right, &[text.as_bytes()]);
     }
     let turn = turn_text(sketch, band)?;
-    if fits(turn.as_str(), width) {
+    if fits(turn.len(), width) {
         return sketch.text(Look::Plain, at, Runs::Right, &[turn.as_bytes()]);
     }
     Ok(())
