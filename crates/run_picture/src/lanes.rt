@@ -225,7 +225,7 @@ fn draw_words(sketch: &mut Sketch, x: u64, lane: &Lane, entry: &Entry) -> Result
     Ok(())
 }
 
-/// The marks of a lane, as far as they have room: how many.
+/// The marks of a lane and their words, as far as they have room: how many marks.
 fn draw_marks(
     sketch: &mut Sketch,
     frame: Frame,
@@ -234,13 +234,14 @@ fn draw_marks(
 ) -> Result<u64, AllocError> {
     let radius = frame.radius();
     let mut room = Spaced::by(minus(radius.saturating_mul(2), 1));
+    let mut words = Spaced::by(18);
     let mut drawn = 0u64;
     for (at, entry) in entries.iter().enumerate() {
         let x = frame.middle(at);
         if is_on_lane(entry, lane.name) && room.takes(x) {
             drawn = drawn.saturating_add(1);
             sketch.mark(entry.by, &entry.reply, (x, lane.marks), radius, entry.line)?;
-            if frame.has_words() {
+            if frame.has_words() && words.takes(x) {
                 draw_words(sketch, x, lane, entry)?;
             }
         }

@@ -2,7 +2,7 @@
 
 use crate::columns::{Columns, columns_of, end_of_column};
 use crate::flows::{Flows, flows_of, receiver_of};
-use crate::frame::{Frame, LEFT, RIGHT, Spaced};
+use crate::frame::{Frame, LEFT, PANEL, RIGHT, Spaced};
 use crate::lanes::{Lanes, fits, short};
 use crate::names::{Names, Who};
 use crate::px::{minus, plus, scaled};
@@ -85,22 +85,43 @@ fn draw_arrow(
     x: u64,
     band: (u64, u64),
     tip: (Look, u64),
-    told: (&[u8], u64),
-    has_words: bool,
+    title: &[u8],
 ) -> Result<(), AllocError> {
     let (look, end) = tip;
-    let (title, amount) = told;
     let start = if end < band.0 { band.0 } else { band.1 };
-    sketch.line(look, (x, start), (x, end), title)?;
-    if has_words {
-        let number = sketch.number(amount)?;
-        let at = (plus(x, 4), plus(band.1, 12));
+    sketch.line(look, (x, start), (x, end), title)
+}
+
+/// Whether a number of so many digits has room below the band of a channel, behind the one before it and ahead of the
+/// panel; it is taken then.
+fn takes(ends: &mut [u64], channel: usize, from: u64, digits: usize) -> bool {
+    let next = plus(from, (digits as u64).saturating_mul(7));
+    match ends.get_mut(channel) {
+        Some(end) if *end <= from && next < PANEL => {
+            *end = next;
+            true
+        }
+        _ => false,
+    }
+}
+
+/// Puts an amount below the band of a channel, where there is room.
+fn draw_amount(
+    sketch: &mut Sketch,
+    ends: &mut [u64],
+    channel: usize,
+    at: (u64, u64),
+    amount: u64,
+) -> Result<(), AllocError> {
+    let number = sketch.number(amount)?;
+    if takes(ends, channel, at.0, number.len()) {
         sketch.text(Look::Word, at, Runs::Right, &[number.as_bytes()])?;
     }
     Ok(())
 }
 
-/// The arrows of an asset, as far as they have room.
+/// The arrows of an asset, as far as they have room, and their amounts; `ends` are where the last amounts of channels
+/// end.
 pub(crate) fn draw_arrows(
     sketch: &mut Sketch,
     frame: Frame,
@@ -108,6 +129,7 @@ pub(crate) fn draw_arrows(
     money: &Money,
     lanes: &Lanes,
     rows: PersonRows,
+    ends: &mut [u64],
 ) -> Result<(), AllocError> {
     let mut room = Spaced::by(5);
     let length = if frame.has_words() { 24 } else { 14 };
@@ -120,8 +142,11 @@ pub(crate) fn draw_arrows(
         if let Some(band) = band_of(lanes, from) {
             if let Some(tip) = tip_of(lanes, rows, band, who, length) {
                 if room.takes(x) {
-                    let told = (entry.line, flow.amount);
-                    draw_arrow(sketch, x, band, tip, told, frame.has_words())?;
+                    draw_arrow(sketch, x, band, tip, entry.line)?;
+                    if frame.has_words() {
+                        let at = (plus(x, 4), plus(band.1, 12));
+                        draw_amount(sketch, ends, from, at, flow.amount)?;
+                    }
                 }
             }
         }

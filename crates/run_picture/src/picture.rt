@@ -114,8 +114,9 @@ fn draw_payments(
     let frame = Frame::of(run.entries.len());
     let rows = PersonRows { top: lanes.end };
     let end = draw_persons(sketch, rows, names.persons.as_slice())?;
+    let mut ends = vec![in sketch.alloc(); 0u64; names.channels.len()]?;
     for one_asset in money {
-        draw_arrows(sketch, frame, run, one_asset, lanes, rows)?;
+        draw_arrows(sketch, frame, run, one_asset, lanes, rows, &mut ends)?;
     }
     Ok(end)
 }
