@@ -62,11 +62,10 @@ fn note_of(
     drawn: u64,
 ) -> Result<String, AllocError> {
     let mut note = String::new(alloc);
+    let entries = run.end.entries;
     if run.made.is_some() {
         note.push_str("The entries of a load or a hop aren't told. ")?;
-    }
-    let entries = run.entries.len() as u64;
-    if drawn < entries {
+    } else if drawn < entries {
         let more = format!(in alloc; "Marks are thinned: {drawn} of {entries} are drawn. ")?;
         note.push_str(more.as_str())?;
     }
