@@ -2,7 +2,6 @@
 
 use crate::told::Told;
 use channel_calls::{Entry as Entered, time_after};
-use indexmap::IndexMap;
 use nitro_bytes::Name;
 use record_bytes::{Ending, Record, Sum, SumOf};
 use run_text::{AssetEnd, Balance, End, Entry, PersonAsset, PersonEnd, Run, read_paying_entry};
@@ -36,11 +35,20 @@ fn total_of(totals: &BTreeMap<u32, u64>, asset: u32) -> u64 {
     }
 }
 
-/// What the sums of a kind come to of each asset.
-fn totals_of(alloc: Global, sums: &[Sum], kind: SumOf) -> Result<BTreeMap<u32, u64>, AllocError> {
+/// What the sums of a kind come to of each asset: those of one name, or all.
+fn totals_of(
+    alloc: Global,
+    sums: &[Sum],
+    kind: SumOf,
+    name: Option<&Name>,
+) -> Result<BTreeMap<u32, u64>, AllocError> {
     let mut totals: BTreeMap<u32, u64> = BTreeMap::new(alloc);
     for sum in sums {
-        if sum.kind == kind {
+        let is_named = match name {
+            Some(name) => sum.name == *name,
+            None => true,
+        };
+        if sum.kind == kind && is_named {
             let total = total_of(&totals, sum.asset).saturating_add(sum.amount);
             totals.insert(sum.asset, total)?;
         }
@@ -50,8 +58,8 @@ fn totals_of(alloc: Global, sums: &[Sum], kind: SumOf) -> Result<BTreeMap<u32, u
 
 /// How the assets of which something was deposited ended.
 fn assets_of(alloc: Global, sums: &[Sum]) -> Result<Vec<AssetEnd>, AllocError> {
-    let held = totals_of(alloc, sums, SumOf::Held)?;
-    let paid = totals_of(alloc, sums, SumOf::Paid)?;
+    let held = totals_of(alloc, sums, SumOf::Held, None)?;
+    let paid = totals_of(alloc, sums, SumOf::Paid, None)?;
     let mut assets = Vec::new(alloc);
     for sum in sums {
         if sum.kind == SumOf::Deposited {
@@ -86,35 +94,15 @@ fn balances_of<'a>(
     Ok(balances)
 }
 
-/// What each person was paid of each asset.
-type Paid = IndexMap<(Name, u32), u64>;
-
-fn paid_to(paid: &Paid, person: Name, asset: u32) -> u64 {
-    match paid.get(&(person, asset)) {
-        Some(amount) => *amount,
-        None => 0,
-    }
-}
-
-fn paid_of(alloc: Global, sums: &[Sum]) -> Result<Paid, AllocError> {
-    let mut paid: Paid = IndexMap::new(alloc);
-    for sum in sums {
-        if sum.kind == SumOf::Paid {
-            let total = paid_to(&paid, sum.name, sum.asset).saturating_add(sum.amount);
-            paid.insert((sum.name, sum.asset), total)?;
-        }
-    }
-    Ok(paid)
-}
-
 /// The shares of an ending, and what its person was paid.
-fn shares_of(alloc: Global, paid: &Paid, ending: &Ending) -> Result<Vec<PersonAsset>, AllocError> {
+fn shares_of(alloc: Global, sums: &[Sum], ending: &Ending) -> Result<Vec<PersonAsset>, AllocError> {
+    let paid = totals_of(alloc, sums, SumOf::Paid, Some(&ending.person))?;
     let mut shares = Vec::new(alloc);
     for pair in ending.shares.as_slice() {
         let (asset, share) = *pair;
         shares.push(PersonAsset {
             asset: asset as u64,
-            paid: paid_to(paid, ending.person, asset),
+            paid: total_of(&paid, asset),
             share,
             exit: None,
         })?;
@@ -127,10 +115,9 @@ fn persons_of<'a>(
     value: &Record,
     names: &'a [String],
 ) -> Result<Vec<PersonEnd<'a>>, AllocError> {
-    let paid = paid_of(alloc, value.sums.as_slice())?;
     let mut persons = Vec::new(alloc);
     for (ending, name) in value.ends.as_slice().iter().zip(names) {
-        let assets = shares_of(alloc, &paid, ending)?;
+        let assets = shares_of(alloc, value.sums.as_slice(), ending)?;
         persons.push(PersonEnd {
             name: name.as_bytes(),
             premises: None,

@@ -2,12 +2,10 @@
 
 use crate::frame::{PANEL, TOP};
 use crate::lanes::short;
-use crate::names::place_of;
 use crate::px::plus;
 use crate::shapes::{Look, Run as Runs, Sketch};
-use indexmap::IndexSet;
-use run_text::{Balance, PersonAsset, PersonEnd, Premises, Refused, Run};
-use std::alloc::{AllocError, Global};
+use run_text::{PersonAsset, PersonEnd, Premises, Refused, Run};
+use std::alloc::AllocError;
 
 /// Lines of text below one another.
 #[derive(Drop)]
@@ -96,42 +94,24 @@ fn put_person(
     put_refused(sketch, lines, &run.refused, person.name)
 }
 
-/// The persons of whom lines on shares tell what they were paid.
-fn told_persons<'a>(alloc: Global, run: &Run<'a>) -> Result<IndexSet<&'a [u8]>, AllocError> {
-    let mut told = IndexSet::new(alloc);
-    for person in &run.persons {
-        if !person.assets.is_empty() {
-            told.insert(person.name)?;
-        }
-    }
-    Ok(told)
-}
-
-fn put_balance(
-    sketch: &mut Sketch,
-    lines: &mut Lines,
-    balance: &Balance,
-) -> Result<(), AllocError> {
-    let asset = sketch.number(balance.asset)?;
-    let amount = sketch.number(balance.amount)?;
-    let name = short(balance.name);
-    let pieces = [
-        name[0],
-        name[1],
-        b": paid ",
-        amount.as_bytes(),
-        b" of asset ",
-        asset.as_bytes(),
-    ];
-    lines.put(sketch, Look::Plain, &pieces)
-}
-
 /// The persons of whom no line on shares tells it, with what they were paid.
 fn put_paid(sketch: &mut Sketch, lines: &mut Lines, run: &Run) -> Result<(), AllocError> {
-    let told = told_persons(sketch.alloc(), run)?;
     for balance in &run.paid {
-        if place_of(&told, balance.name).is_none() {
-            put_balance(sketch, lines, balance)?;
+        let is_told = run.persons.iter().any(|person| person.name == balance.name
+            && !person.assets.is_empty());
+        if !is_told {
+            let asset = sketch.number(balance.asset)?;
+            let amount = sketch.number(balance.amount)?;
+            let name = short(balance.name);
+            let pieces = [
+                name[0],
+                name[1],
+                b": paid ",
+                amount.as_bytes(),
+                b" of asset ",
+                asset.as_bytes(),
+            ];
+            lines.put(sketch, Look::Plain, &pieces)?;
         }
     }
     Ok(())
