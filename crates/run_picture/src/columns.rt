@@ -5,7 +5,7 @@ use crate::names::{Names, Who};
 use std::alloc::{AllocError, Global};
 
 /// Layers, one above the other, at columns of entries. The layers are the channels, then the persons, then what was
-/// paid to somebody that the text doesn't tell.
+/// paid and isn't told to whom.
 #[derive(Drop)]
 pub struct Columns {
     pub layers: usize,

@@ -149,8 +149,9 @@ fn turn_text(sketch: &Sketch, band: &Band) -> Result<String, AllocError> {
     }
 }
 
-fn fits(text: &str, width: u64) -> bool {
-    plus((text.len() as u64).saturating_mul(6), 8) < width
+/// Whether a text of so many letters fits, with some room beside it.
+pub(crate) fn fits(letters: usize, width: u64) -> bool {
+    plus((letters as u64).saturating_mul(6), 8) < width
 }
 
 fn draw_band(
@@ -172,11 +173,11 @@ fn draw_band(
     )?;
     let at = (plus(from, 4), plus(lane.band.0, 11));
     let width = minus(to, from);
-    if fits(text.as_str(), width) {
+    if fits(text.len(), width) {
         return sketch.text(Look::Plain, at, Runs::Right, &[text.as_bytes()]);
     }
     let turn = turn_text(sketch, band)?;
-    if fits(turn.as_str(), width) {
+    if fits(turn.len(), width) {
         return sketch.text(Look::Plain, at, Runs::Right, &[turn.as_bytes()]);
     }
     Ok(())
@@ -224,7 +225,7 @@ fn draw_words(sketch: &mut Sketch, x: u64, lane: &Lane, entry: &Entry) -> Result
     Ok(())
 }
 
-/// The marks of a lane, as far as they have room: how many.
+/// The marks of a lane and their words, as far as they have room: how many marks.
 fn draw_marks(
     sketch: &mut Sketch,
     frame: Frame,
@@ -233,13 +234,14 @@ fn draw_marks(
 ) -> Result<u64, AllocError> {
     let radius = frame.radius();
     let mut room = Spaced::by(minus(radius.saturating_mul(2), 1));
+    let mut words = Spaced::by(18);
     let mut drawn = 0u64;
     for (at, entry) in entries.iter().enumerate() {
         let x = frame.middle(at);
         if is_on_lane(entry, lane.name) && room.takes(x) {
             drawn = drawn.saturating_add(1);
             sketch.mark(entry.by, &entry.reply, (x, lane.marks), radius, entry.line)?;
-            if frame.has_words() {
+            if frame.has_words() && words.takes(x) {
                 draw_words(sketch, x, lane, entry)?;
             }
         }

@@ -104,8 +104,7 @@ pub(crate) fn draw_legend(
     row.mark(sketch, 0, &no, b"refused")?;
     row.arrow(sketch, Look::Arrow, b"pays")?;
     if entries.iter().any(|entry| is_untold(entry)) {
-        let text = b"pays, the text doesn't tell whom";
-        row.arrow(sketch, Look::ArrowUntold, text)?;
+        row.arrow(sketch, Look::ArrowUntold, b"pays, not told whom")?;
     }
     draw_callers(sketch, entries, plus(y, 24))
 }

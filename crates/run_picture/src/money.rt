@@ -2,8 +2,8 @@
 
 use crate::columns::{Columns, columns_of, end_of_column};
 use crate::flows::{Flows, flows_of, receiver_of};
-use crate::frame::{Frame, LEFT, RIGHT, Spaced};
-use crate::lanes::{Lanes, short};
+use crate::frame::{Frame, LEFT, PANEL, RIGHT, Spaced};
+use crate::lanes::{Lanes, fits, short};
 use crate::names::{Names, Who};
 use crate::px::{minus, plus, scaled};
 use crate::receivers::receivers_of_items;
@@ -85,22 +85,43 @@ fn draw_arrow(
     x: u64,
     band: (u64, u64),
     tip: (Look, u64),
-    told: (&[u8], u64),
-    has_words: bool,
+    title: &[u8],
 ) -> Result<(), AllocError> {
     let (look, end) = tip;
-    let (title, amount) = told;
     let start = if end < band.0 { band.0 } else { band.1 };
-    sketch.line(look, (x, start), (x, end), title)?;
-    if has_words {
-        let number = sketch.number(amount)?;
-        let at = (plus(x, 4), plus(band.1, 12));
+    sketch.line(look, (x, start), (x, end), title)
+}
+
+/// Whether a number of so many digits has room below the band of a channel, behind the one before it and ahead of the
+/// panel; it is taken then.
+fn takes(ends: &mut [u64], channel: usize, from: u64, digits: usize) -> bool {
+    let next = plus(from, (digits as u64).saturating_mul(7));
+    match ends.get_mut(channel) {
+        Some(end) if *end <= from && next < PANEL => {
+            *end = next;
+            true
+        }
+        _ => false,
+    }
+}
+
+/// Puts an amount below the band of a channel, where there is room.
+fn draw_amount(
+    sketch: &mut Sketch,
+    ends: &mut [u64],
+    channel: usize,
+    at: (u64, u64),
+    amount: u64,
+) -> Result<(), AllocError> {
+    let number = sketch.number(amount)?;
+    if takes(ends, channel, at.0, number.len()) {
         sketch.text(Look::Word, at, Runs::Right, &[number.as_bytes()])?;
     }
     Ok(())
 }
 
-/// The arrows of an asset, as far as they have room.
+/// The arrows of an asset, as far as they have room, and their amounts; `ends` are where the last amounts of channels
+/// end.
 pub(crate) fn draw_arrows(
     sketch: &mut Sketch,
     frame: Frame,
@@ -108,6 +129,7 @@ pub(crate) fn draw_arrows(
     money: &Money,
     lanes: &Lanes,
     rows: PersonRows,
+    ends: &mut [u64],
 ) -> Result<(), AllocError> {
     let mut room = Spaced::by(5);
     let length = if frame.has_words() { 24 } else { 14 };
@@ -120,8 +142,11 @@ pub(crate) fn draw_arrows(
         if let Some(band) = band_of(lanes, from) {
             if let Some(tip) = tip_of(lanes, rows, band, who, length) {
                 if room.takes(x) {
-                    let told = (entry.line, flow.amount);
-                    draw_arrow(sketch, x, band, tip, told, frame.has_words())?;
+                    draw_arrow(sketch, x, band, tip, entry.line)?;
+                    if frame.has_words() {
+                        let at = (plus(x, 4), plus(band.1, 12));
+                        draw_amount(sketch, ends, from, at, flow.amount)?;
+                    }
                 }
             }
         }
@@ -216,21 +241,90 @@ fn round(
     Ok(points)
 }
 
-fn thickness(columns: &Columns, column: usize, layer: usize) -> u64 {
-    let upper = edge_of(columns, column, layer.saturating_add(1));
-    minus(upper, edge_of(columns, column, layer))
-}
-
-/// The last column where a layer is thickest, and how thick it is.
-fn thickest(columns: &Columns, count: usize, layer: usize) -> (usize, u64) {
-    let mut best = (0, 0);
+/// Whether a layer has nothing in any column.
+fn is_empty(columns: &Columns, count: usize, layer: usize) -> bool {
     for column in 0..count {
-        let here = thickness(columns, column, layer);
-        if here > 0 && here >= best.1 {
-            best = (column, here);
+        let upper = edge_of(columns, column, layer.saturating_add(1));
+        if upper != edge_of(columns, column, layer) {
+            return false;
         }
     }
-    best
+    true
+}
+
+/// Room for a name in a layer.
+#[derive(Clone, Copy)]
+struct Room {
+    left: u64,
+    right: u64,
+    upper: u64,
+    lower: u64,
+}
+
+impl Room {
+    fn none() -> Room {
+        Room {
+            left: 0,
+            right: 0,
+            upper: 0,
+            lower: 0,
+        }
+    }
+
+    /// What a layer has in a column.
+    fn of(frame: Frame, chart: Chart, columns: &Columns, column: usize, layer: usize) -> Room {
+        Room {
+            left: chart.x(frame, column),
+            right: chart.x(frame, column.saturating_add(1)),
+            upper: chart.y(edge_of(columns, column, layer.saturating_add(1))),
+            lower: chart.y(edge_of(columns, column, layer)),
+        }
+    }
+
+    /// From the left of one to the right of the next, as high as both are.
+    fn joined(self, next: Room) -> Room {
+        Room {
+            left: self.left,
+            right: next.right,
+            upper: self.upper.max(next.upper),
+            lower: self.lower.min(next.lower),
+        }
+    }
+
+    fn width(self) -> u64 {
+        minus(self.right, self.left)
+    }
+
+    fn is_high(self) -> bool {
+        minus(self.lower, self.upper) >= 12
+    }
+}
+
+/// The last of the widest rooms that are high enough.
+fn widest_room(frame: Frame, chart: Chart, columns: &Columns, layer: usize) -> Room {
+    let mut widest = Room::none();
+    let mut last = Room::none();
+    for column in 0..chart.columns {
+        let here = Room::of(frame, chart, columns, column, layer);
+        let both = last.joined(here);
+        last = if both.is_high() { both } else { here };
+        if last.is_high() && last.width() >= widest.width() {
+            widest = last;
+        }
+    }
+    widest
+}
+
+/// Puts a name at the right of its room, where it fits.
+fn draw_name(sketch: &mut Sketch, room: Room, name: &[u8]) -> Result<(), AllocError> {
+    let name = short(name);
+    let letters = name[0].len().saturating_add(name[1].len());
+    if !fits(letters, room.width()) {
+        return Ok(());
+    }
+    let middle = plus(room.upper, minus(room.lower, room.upper) / 2);
+    let at = (minus(room.right, 4), plus(middle, 4));
+    sketch.text(Look::Plain, at, Runs::Left, &name)
 }
 
 /// What a layer is, and what is told of it.
@@ -253,8 +347,7 @@ fn draw_layer(
     columns: &Columns,
     layer: usize,
 ) -> Result<(), AllocError> {
-    let (column, thick) = thickest(columns, chart.columns, layer);
-    if thick == 0 {
+    if is_empty(columns, chart.columns, layer) {
         return Ok(());
     }
     let alloc = sketch.alloc();
@@ -262,16 +355,7 @@ fn draw_layer(
     let points = round(alloc, frame, chart, columns, layer)?;
     let title = joined(alloc, &[word, name])?;
     sketch.area(look, points, &title)?;
-    let upper = chart.y(edge_of(columns, column, layer.saturating_add(1)));
-    let lower = chart.y(edge_of(columns, column, layer));
-    if minus(lower, upper) >= 12 {
-        let next = chart.x(frame, column.saturating_add(1));
-        let middle = plus(upper, plus(minus(lower, upper) / 2, 4));
-        let text = short(name);
-        let at = (minus(next, 4), middle);
-        sketch.text(Look::Plain, at, Runs::Left, &text)?;
-    }
-    Ok(())
+    draw_name(sketch, widest_room(frame, chart, columns, layer), name)
 }
 
 fn draw_heading(sketch: &mut Sketch, end: &AssetEnd, top: u64) -> Result<(), AllocError> {

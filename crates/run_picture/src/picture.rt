@@ -62,11 +62,10 @@ fn note_of(
     drawn: u64,
 ) -> Result<String, AllocError> {
     let mut note = String::new(alloc);
+    let entries = run.end.entries;
     if run.made.is_some() {
         note.push_str("The entries of a load or a hop aren't told. ")?;
-    }
-    let entries = run.entries.len() as u64;
-    if drawn < entries {
+    } else if drawn < entries {
         let more = format!(in alloc; "Marks are thinned: {drawn} of {entries} are drawn. ")?;
         note.push_str(more.as_str())?;
     }
@@ -114,8 +113,9 @@ fn draw_payments(
     let frame = Frame::of(run.entries.len());
     let rows = PersonRows { top: lanes.end };
     let end = draw_persons(sketch, rows, names.persons.as_slice())?;
+    let mut ends = vec![in sketch.alloc(); 0u64; names.channels.len()]?;
     for one_asset in money {
-        draw_arrows(sketch, frame, run, one_asset, lanes, rows)?;
+        draw_arrows(sketch, frame, run, one_asset, lanes, rows, &mut ends)?;
     }
     Ok(end)
 }
