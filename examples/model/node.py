@@ -48,9 +48,10 @@ class Node:
     def __init__(self, me, number, height, adjudicator):
         self.me, self.number, self.adjudicator = me, number, adjudicator
         self.signatures, self.used = 2**height, 0
-        self.parts, self.records, self.journal, self.outbox = [], {}, [], []
+        self.parts, self.owners, self.records, self.journal, self.outbox = [], {}, {}, [], []
         self.seen, self.exited, self.exit_given = 0, False, False
         self.tally, self.known, self.known_at, self.changes = Counter(), {}, None, 0
+        self.idle_at = None
 
     # ---- facts
 
@@ -78,9 +79,13 @@ class Node:
     def paid(self, asset):
         return self.adjudicator.paid(self.me, asset)
 
+    def _now(self):
+        """Grows with each change of what the node knows."""
+        return self.changes, len(self.adjudicator.history)
+
     def _remembered(self, key, find):
         """What was found since anything changed."""
-        now = self.changes, len(self.adjudicator.history)
+        now = self._now()
         if self.known_at != now:
             self.known, self.known_at = {}, now
         if key not in self.known:
@@ -92,7 +97,7 @@ class Node:
 
     def part_of(self, name):
         """The part to which a channel belongs, or None where it isn't in the plan."""
-        return next((part for part in self.parts if name in part.channels()), None)
+        return self.owners.get(name)
 
     def standing_on(self, ledger):
         return [part for part in self.parts if ledger in part.ledgers]
@@ -237,6 +242,7 @@ class Node:
         if isinstance(part, Virtual):
             own = list(part.own_guarantors()) + [part.joint] + ([part.channel] if part.is_end() else [])
         self.parts.append(part)
+        self.owners.update((name, part) for name in part.channels())
         self.records.update((it.name, Record(it, self.me)) for it in own)
         self.changes += 1
 
@@ -321,6 +327,14 @@ class Node:
 
     def tick(self):
         """Signs in each channel what is wanted there, and answers the calls."""
+        if self.idle_at == self._now():
+            return []
+        changes, calls = self.changes, self._act()
+        if not calls and self.changes == changes:
+            self.idle_at = self._now()
+        return calls
+
+    def _act(self):
         if self.exited:
             return self._leave()
         for record in self._ordered():
