@@ -52,7 +52,24 @@ class Acts:
         known = [it for _, it in self.stage.known_states(channel) if it.turn == state.turn - 1]
         follow = self.followers(channel, self.random.choice(known)) if known and self.chance(0.5) else []
         forged = self.random.choice(follow) if follow else self.forged(channel, state)
+        if self.chance(0.25):
+            self.show(liar, channel, forged)
+            return []
         return self.random.choice(([], [forged], [forged, state], [state, forged]))
+
+    def show(self, liar, name, state):
+        """A liar brings a state before the adjudicator, after those that others signed, and tells nobody."""
+        channel, n = self.world.channels[name], len(self.world.channels[name].people)
+        known = self.stage.known_states(name)
+        chain = [next((self.stage.name_of(signer, name, it) for signer, it in known
+                       if it.turn == turn and signer == channel.mover(turn)), None)
+                 for turn in range(max(0, state.turn - n + 1), state.turn)]
+        chain = [it for it in chain + [self.stage.sign(liar, name, state)] if it]
+        if self.chance(0.8) or not self.stage.left[liar]:
+            self.stage.do("checkpoint", channel=name, chain=chain)
+        else:
+            self.stage.left[liar] -= 1
+            self.stage.do("challenge", channel=name, chain=chain, by=liar)
 
     def forged(self, name, state):
         """Another state in place of this one."""
@@ -326,9 +343,12 @@ class Acts:
         """Something comes into a channel that is final already."""
         book = self.world.adjudicator
         final = [name for name in self.world.channels if book.mode(name) == FINAL]
+        short = [name for name in final for it in book.rest(name) if isinstance(it, Allocation)
+                 and it.total() > book.held(name, it.asset)]
         if final:
+            name = self.random.choice(short) if short and self.chance(0.7) else self.random.choice(final)
             asset, amount = self.random.choice(self.shape.assets), self.random.choice((1, 10, 100))
-            self.stage.do("deposit", channel=self.random.choice(final), asset=asset, expected=0, amount=amount)
+            self.stage.do("deposit", channel=name, asset=asset, expected=0, amount=amount)
 
     # ---- time and messages
 

@@ -1,5 +1,6 @@
 #!/usr/bin/env python3
-"""Makes random hostile plays: `make(seed)` is a script and its routes; `plays.py SEED` prints them as JSON.
+"""Makes random hostile plays: `make(seed)` is a script and its routes; `plays.py SEED` prints the script, and the routes
+to the standard error. With `--scripts` all virtual channels are plain.
 
 A play opens calmly, mostly, so that late stages are reached; then come lies, losses, odd commands, challenges and time;
 then people close or leave. What liars know to say they take from the model, which plays along.
@@ -22,15 +23,15 @@ BY_LIARS = ("lie", "challenge", "surprise", "dispute", "barrage")
 
 class Maker:
     """One play. `onward` allows virtual ledgers; `notice` is told of each node after it acted. In a hasty play people
-    leave while something opens."""
+    leave while something opens; in a deceitful one liars go along at first and then lie at their turns."""
 
     def __init__(self, seed, onward=True, notice=None):
         self.random = random.Random(f"{seed} {onward}")
         self.stage = Stage(self.random, notice)
-        self.shape = shape_of(self.random, onward)
+        self.kind = self.random.choice(("mixed",) * 9 + ("hasty",) * 3 + ("deceitful",) * 8)
+        self.shape = shape_of(self.random, onward, self.kind == "deceitful")
         self.routes = (PLAIN, LEDGER, ONWARD) if onward else (PLAIN,)
         self.acts = Acts(self.stage, self.shape, self.routes)
-        self.hasty = self.chance(0.2)
 
     def chance(self, part):
         return self.random.random() < part
@@ -40,6 +41,7 @@ class Maker:
         people, choice = list(self.shape.people), self.random
         choice.shuffle(people)
         liars = choice.choice((0, 0, 1, 1, 1, 2)) if len(people) > 2 else choice.choice((0, 0, 1))
+        liars = max(liars, 1) if self.kind == "deceitful" else liars
         deceivers = set(choice.sample(people, liars))
         if liars and self.chance(0.3):
             people.append("S")
@@ -48,7 +50,7 @@ class Maker:
         for place, name in enumerate(people):
             node = name not in deceivers
             height = 5 if low or not node else 10
-            if not node and not low and len(self.shape.openings) > 3:
+            if not node and len(self.shape.openings) > (2 if self.kind == "deceitful" else 4):
                 height = 10
             self.stage.person(name, f"{place + 1:064x}", height, node, choice.choice((1, 1, 1, 2)) if node else 0)
         durations = choice.choice(((5,), (2, 3, 6), (20,)))
@@ -58,17 +60,19 @@ class Maker:
 
     def begin(self):
         """The openings, one after another; seldom something goes wrong between."""
-        acts, wild = self.acts, self.chance(0.25)
+        acts, wild = self.acts, self.kind != "deceitful" and self.chance(0.25)
         depth = len(self.shape.openings)
         openings = self.shape.openings[:depth if self.chance(0.8) else self.random.randint(1, depth)]
+        lies_from = self.random.randrange(depth + 2) if self.kind == "deceitful" else depth + 2
         for place, opening in enumerate(openings):
-            acts.honesty = 0.9 if wild else 1.0
+            acts.honesty = 0.6 if place >= lies_from else 0.9 if wild else 1.0
+            self.stage.miserly = acts.honesty < 1 and self.chance(0.3)
             people = None if not wild or self.chance(0.85) else acts.some(opening.people)
             if self.chance(0.03):
                 acts.deposit()
             acts.open(opening, people)
             last = place == len(openings) - 1
-            cut = last and (self.hasty or self.chance(0.2)) or wild and self.chance(0.2)
+            cut = last and self.chance(1 if self.kind == "hasty" else 0.2) or wild and self.chance(0.2)
             self.stage.settle(self.random.randint(0, 18) if cut else 60, acts.alter)
             if wild and self.chance(0.4):
                 self.act()
@@ -105,6 +109,8 @@ class Maker:
                 return
             people = list(opening.people) if self.chance(0.85) else self.acts.some(opening.people)
             self.acts.close(opening.channel(), people)
+            if self.chance(0.15):
+                self.acts.close(self.random.choice(openings).channel(), list(opening.people))
             cut = self.chance(0.35)
             self.stage.settle(self.random.randint(0, 14) if cut else 60, self.acts.alter)
             if cut and self.chance(0.6):
@@ -125,13 +131,24 @@ class Maker:
                 (acts.late_deposit if late else acts.payout)()
                 stage.rounds(self.random.choice((1, 2)))
 
+    def deceive(self):
+        """Liars lie at their turns and between, and nothing else goes wrong."""
+        self.acts.honesty = self.random.choice((0.4, 0.6, 0.8))
+        for _ in range(self.random.choice((0, 1, 3))):
+            if not self.stage.is_full():
+                self.acts.lie()
+                self.stage.settle(2, self.acts.alter)
+
     def make(self):
         self.declare()
         self.begin()
-        if not self.hasty:
+        if self.kind == "mixed":
             self.use()
             self.disturb()
-        if self.chance(0.5) and not self.hasty:
+        if self.kind == "deceitful":
+            self.use()
+            self.deceive()
+        if self.kind == "deceitful" or (self.kind == "mixed" and self.chance(0.5)):
             self.wind_up()
         if self.chance(0.2):
             self.disturb()
@@ -147,9 +164,9 @@ def make(seed, onward=True, notice=None):
 
 def main(words):
     script, routes = make(int(words[0]), "--scripts" not in words)
-    print(json.dumps({"routes": routes, "script": script}))
-    broken = rules.first_broken(json.dumps(script).encode())
-    return 1 if broken else 0
+    print(json.dumps(script))
+    print(*routes, file=sys.stderr)
+    return 0 if rules.first_broken(json.dumps(script).encode()) is None else 1
 
 
 if __name__ == "__main__":

@@ -218,10 +218,18 @@ OVER_TWO = (hop, hop, hop, mirrored_hop, turned_hop, hop_twice, forked_hop, two_
 OVER_ONE = (through_one, through_one, through_one_twice, on_a_ledger, of_three)
 
 
-def shape_of(random, onward):
+SMALL_OVER_TWO = (virtual_ledger_alone, virtual_ledger_alone, hop, mirrored_hop)
+SMALL_OVER_ONE = (through_one, through_one, on_a_ledger, of_three)
+
+
+def shape_of(random, onward, small):
     """A random shape; without `onward` all its virtual channels are plain."""
     shape = Shape(random)
     shape.assets_may_differ(0.2)
-    random.choice(OVER_TWO if onward and random.random() < 0.8 else OVER_ONE)(shape)
+    over_two = onward and random.random() < (0.65 if small else 0.8)
+    if small:
+        random.choice(SMALL_OVER_TWO if over_two else SMALL_OVER_ONE)(shape)
+    else:
+        random.choice(OVER_TWO if over_two else OVER_ONE)(shape)
     shape.add_spares((PLAIN, LEDGER, ONWARD, ONWARD) if onward else (PLAIN,), 2)
     return shape

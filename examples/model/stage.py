@@ -6,9 +6,9 @@ script makes `sign` and `send` steps. So a liar can go along until it lies.
 from calls import Conclude, Deposit, Transfer
 from node import Node
 from play import Play
-from values import Allocation, Guarantee
+from values import Guarantee, State
 
-STEPS, ROUNDS = 150, 560
+STEPS, ROUNDS = 160, 560
 
 
 def written(outcome):
@@ -44,6 +44,7 @@ class Stage:
         self.random, self.steps, self.routes = random, [], []
         self.world = World([], notice)
         self.named, self.count, self.rounds_done, self.left = {}, 0, 0, {}
+        self.miserly = False
 
     # ---- steps
 
@@ -152,7 +153,8 @@ class Stage:
             for to, signed in outbox:
                 self._hand_on(liar, to, signed, alter)
             for call in calls:
-                self._enter(liar, call)
+                if not (isinstance(call, Deposit) and self.miserly):
+                    self._enter(liar, call)
 
     def _hand_on(self, liar, to, signed, alter):
         if to in self.world.shadows:
@@ -205,9 +207,4 @@ class Stage:
 
 
 def _plain_state(outcome):
-    from values import State
     return State(0, False, outcome)
-
-
-def is_allocation(it):
-    return isinstance(it, Allocation)
