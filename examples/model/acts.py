@@ -2,7 +2,6 @@
 from dataclasses import replace
 
 from adjudicator import CHALLENGED, FINAL
-from node import LEDGER, ONWARD, PLAIN
 from steps import step_fault
 from values import CONSENSUS, FIXED, PAYMENT, Allocation, Guarantee, State, with_items
 
@@ -46,16 +45,19 @@ class Acts:
     # ---- lies
 
     def alter(self, liar, channel, state):
-        """The states that a liar signs and sends where an honest person would this one."""
-        if self.random.random() < self.honesty:
+        """What a liar signs and sends where an honest person would this state; it seldom lies while a channel opens."""
+        early = state.turn < 2 * len(self.world.channels[channel].people)
+        if self.random.random() < self.honesty or (early and self.chance(0.8)):
             return [state]
         known = [it for _, it in self.stage.known_states(channel) if it.turn == state.turn - 1]
-        follow = self.followers(channel, self.random.choice(known)) if known and self.chance(0.5) else []
+        follow = self.followers(channel, self.random.choice(known)) if known and self.chance(0.8) else []
+        follow = [it for it in follow if it != state and (not it.final or self.chance(0.2))]
         forged = self.random.choice(follow) if follow else self.forged(channel, state)
-        if self.chance(0.25):
+        way = self.random.choices(("before", "shown", "after", "instead", "lost"), (6, 5, 1, 1, 1))[0]
+        if way == "shown":
             self.show(liar, channel, forged)
-            return []
-        return self.random.choice(([], [forged], [forged, state], [state, forged]))
+            return [state] if self.chance(0.3) else []
+        return {"before": [forged, state], "after": [state, forged], "instead": [forged], "lost": []}[way]
 
     def show(self, liar, name, state):
         """A liar brings a state before the adjudicator, after those that others signed, and tells nobody."""
@@ -89,8 +91,10 @@ class Acts:
     def other_outcome(self, name, outcome):
         """An outcome near to this one, or one that the channel had."""
         seen = [it for _, state in self.stage.known_states(name) for it in (state.outcome, state.proposal) if it]
-        if seen and self.chance(0.4):
-            return self.random.choice(seen)
+        if seen and self.chance(0.5):
+            outcome = self.random.choice(seen)
+            if self.chance(0.5):
+                return outcome
         listed = [it for it in outcome if isinstance(it, Allocation) and it.items]
         if not listed:
             return outcome
@@ -123,8 +127,8 @@ class Acts:
             fewer = state.votes - 1
             found.append(replace(follow, votes=fewer) if fewer else State(follow.turn, False, state.proposal))
         elif channel.app == CONSENSUS:
-            proposal = self.other_outcome(name, state.outcome)
-            found.append(replace(follow, votes=len(channel.people) - 1, proposal=proposal))
+            votes, proposals = len(channel.people) - 1, [self.other_outcome(name, state.outcome) for _ in range(3)]
+            found += [replace(follow, votes=votes, proposal=it) for it in proposals]
         elif channel.app == PAYMENT:
             found.append(replace(follow, outcome=self.other_outcome(name, state.outcome)))
         return found
@@ -148,8 +152,12 @@ class Acts:
         newest = known[-1][1]
         mover = channel.mover(newest.turn + 1)
         if mover in self.world.shadows and self.chance(0.8):
-            return mover, self.random.choice(self.followers(name, newest)), self.chance(0.3)
-        own = [state for signer, state in known if signer in self.world.shadows and channel.mover(state.turn) == signer]
+            follow = self.followers(name, newest)
+            ends = self.chance(0.35)
+            follow = [it for it in follow if it.final == ends] or follow
+            return mover, self.random.choice(follow), self.chance(0.3)
+        liars = self.world.shadows
+        own = [state for signer, state in known if signer in liars and channel.mover(state.turn) == signer]
         if own and self.chance(0.8):
             turn = self.random.choice(own[-2:]).turn
             before = [state for _, state in known if state.turn == turn - 1]
@@ -220,10 +228,14 @@ class Acts:
         self.challenge()
         if self.chance(0.5):
             self.deposit()
-        now, rows = self.world.adjudicator.now, self.world.adjudicator.rows.values()
-        deadlines = [row.deadline for row in rows if row.deadline and row.deadline > now]
+        deadlines = self._deadlines()
         if deadlines:
             self.stage.do("time", to=max(deadlines))
+
+    def _deadlines(self):
+        """When the challenges that stand run out."""
+        book = self.world.adjudicator
+        return [row.deadline for row in book.rows.values() if row.deadline and row.deadline > book.now]
 
     def barrage(self):
         """Challenges of several channels at once."""
@@ -355,7 +367,7 @@ class Acts:
     def time(self):
         """Time goes on, often past a deadline, and seldom back."""
         now = self.world.adjudicator.now
-        deadlines = [row.deadline for row in self.world.adjudicator.rows.values() if row.deadline and row.deadline > now]
+        deadlines = self._deadlines()
         if deadlines and self.chance(0.7):
             self.stage.do("time", to=self.random.choice(deadlines) - (1 if self.chance(0.2) else 0))
         else:
@@ -400,7 +412,8 @@ class Acts:
 
     def odd_open(self):
         """An opening that doesn't fit, comes out of order, or only to some."""
-        opening = self.random.choice(self.shape.spares if self.shape.spares and self.chance(0.6) else self.shape.openings)
+        spares = self.shape.spares if self.chance(0.6) else []
+        opening = self.random.choice(spares or self.shape.openings)
         step, route = dict(opening.step), opening.route
         names = list(self.world.channels)
         change = self.random.choice(("none", "route", "ledgers", "amounts", "channel", "names", "order"))

@@ -1,10 +1,10 @@
 #!/usr/bin/env python3
 """Compares a program with the model on random hostile plays: `compare.py PROGRAM FIRST COUNT [--scripts]`.
 
-PROGRAM, which may have words of its own (`"./nitro run"`), is given the routes of a play as further words and its script
-as standard input; status and text must be the model's. With `--scripts` all virtual channels are plain and no routes are
-given. Four plays run at a time. Each difference is told by its seed and the first line that differs; `plays.py SEED` prints
-the script. Ends with 1 where one differs.
+PROGRAM, which may have words of its own (`"./nitro run"`), is given the routes of a play as further words and its
+script as standard input; status and text must be the model's. With `--scripts` all virtual channels are plain and no
+routes are given. Four plays run at a time. Each difference is told by its seed and the first line that differs;
+`plays.py SEED` prints the script. Ends with 1 where one differs.
 """
 import json
 import shlex

@@ -38,7 +38,7 @@ def refusal(name, *values):
 
 @dataclass(frozen=True)
 class Event:
-    """What a node did after it had seen so many entries: it signed or took a state of a channel, or a watcher looked."""
+    """What happened after so many entries were seen: a state of a channel was signed or taken, or a watcher looked."""
     seen: int
     deed: str
     channel: object = None
@@ -204,7 +204,7 @@ class Node:
         return record.channel if lends and self.stage(part) == part.running else None
 
     def _is_virtual(self, route, side, lenders, guarantors, joint, channel):
-        """Whether people and applications are those of a virtual channel on this route, and the node is one of them."""
+        """Whether people and applications are those of a virtual channel on this route, and the node is among them."""
         if len(joint.people) != 3:
             return False
         first, middle, second = joint.people

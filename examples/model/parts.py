@@ -7,7 +7,7 @@ from dataclasses import dataclass
 from adjudicator import FINAL, OPEN
 from calls import Conclude, Deposit, Transfer
 from steps import is_settled, move_toward
-from values import (CONSENSUS, FIXED, MOST, PAYMENT, TURNS, Allocation, Channel, State, allocation_of, amount_of, names,
+from values import (FIXED, MOST, PAYMENT, TURNS, Allocation, Channel, State, allocation_of, amount_of, names,
                     with_items)
 
 
@@ -159,8 +159,9 @@ class Root(Part):
     def _dues(self, facts):
         """Asset and place of each own item of the settled outcome with something due."""
         name, outcome = self.channel.name, facts.settled(self.channel.name)
-        return [(it.asset, place) for it in outcome if isinstance(it, Allocation)
-                for place, (to, _) in enumerate(it.items) if to == facts.me and facts.due(name, outcome, it.asset, place)]
+        own = [(it.asset, place) for it in outcome if isinstance(it, Allocation)
+               for place, (to, _) in enumerate(it.items) if to == facts.me]
+        return [(asset, place) for asset, place in own if facts.due(name, outcome, asset, place)]
 
     def wanted(self, facts, name):
         record, stage = facts.record(name), facts.stage(self)

@@ -1,8 +1,8 @@
 #!/usr/bin/env python3
 """Plays a script over the model and prints what comes of it: `play.py ROUTE.. < SCRIPT`.
 
-The words are the routes of the script's `open_virtual` steps in their order: `plain` (also where a word is missing) opens
-a payment channel on direct ledgers, `ledger` a virtual ledger, `onward` a payment channel that may stand on one.
+The words are the routes of the script's `open_virtual` steps in their order: `plain` (also where a word is missing)
+opens a payment channel on direct ledgers, `ledger` a virtual ledger, `onward` a payment channel that may stand on one.
 """
 import json
 import os

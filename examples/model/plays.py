@@ -1,9 +1,9 @@
 #!/usr/bin/env python3
-"""Makes random hostile plays: `make(seed)` is a script and its routes; `plays.py SEED` prints the script, and the routes
-to the standard error. With `--scripts` all virtual channels are plain.
+"""Makes random hostile plays: `make(seed)` is a script and its routes; `plays.py SEED` prints the script, and the
+routes to the standard error. With `--scripts` all virtual channels are plain.
 
-A play opens calmly, mostly, so that late stages are reached; then come lies, losses, odd commands, challenges and time;
-then people close or leave. What liars know to say they take from the model, which plays along.
+A play opens calmly, mostly, so that late stages are reached; then come lies, losses, odd commands, challenges and
+time; then people close or leave. What liars know to say they take from the model, which plays along.
 """
 import json
 import random
@@ -50,7 +50,7 @@ class Maker:
         for place, name in enumerate(people):
             node = name not in deceivers
             height = 5 if low or not node else 10
-            if not node and len(self.shape.openings) > (2 if self.kind == "deceitful" else 4):
+            if not node and len(self.shape.openings) > 3:
                 height = 10
             self.stage.person(name, f"{place + 1:064x}", height, node, choice.choice((1, 1, 1, 2)) if node else 0)
         durations = choice.choice(((5,), (2, 3, 6), (20,)))
@@ -63,10 +63,10 @@ class Maker:
         acts, wild = self.acts, self.kind != "deceitful" and self.chance(0.25)
         depth = len(self.shape.openings)
         openings = self.shape.openings[:depth if self.chance(0.8) else self.random.randint(1, depth)]
-        lies_from = self.random.randrange(depth + 2) if self.kind == "deceitful" else depth + 2
+        lies_from = self.random.randrange(depth) if self.kind == "deceitful" and self.chance(0.4) else depth
         for place, opening in enumerate(openings):
-            acts.honesty = 0.6 if place >= lies_from else 0.9 if wild else 1.0
-            self.stage.miserly = acts.honesty < 1 and self.chance(0.3)
+            acts.honesty = 0.7 if place >= lies_from else 0.9 if wild else 1.0
+            self.stage.miserly = self.stage.miserly or self.kind == "deceitful" and self.chance(0.06)
             people = None if not wild or self.chance(0.85) else acts.some(opening.people)
             if self.chance(0.03):
                 acts.deposit()
@@ -101,17 +101,17 @@ class Maker:
 
     def wind_up(self):
         """People close what they opened, in order or not, and some stop halfway."""
-        openings = self.shape.openings[::-1]
-        if self.chance(0.3):
+        openings, calm = self.shape.openings[::-1], self.kind == "deceitful"
+        if self.chance(0.1 if calm else 0.3):
             self.random.shuffle(openings)
         for opening in openings[:self.random.randint(1, len(openings))]:
             if self.stage.is_full():
                 return
-            people = list(opening.people) if self.chance(0.85) else self.acts.some(opening.people)
+            people = list(opening.people) if self.chance(0.95 if calm else 0.8) else self.acts.some(opening.people)
             self.acts.close(opening.channel(), people)
             if self.chance(0.15):
                 self.acts.close(self.random.choice(openings).channel(), list(opening.people))
-            cut = self.chance(0.35)
+            cut = self.chance(0.15 if calm else 0.35)
             self.stage.settle(self.random.randint(0, 14) if cut else 60, self.acts.alter)
             if cut and self.chance(0.6):
                 return
@@ -123,7 +123,7 @@ class Maker:
         stage.rounds(self.random.choice((1, 2, 4, 8)))
         if self.chance(0.3):
             self.act()
-        late = self.chance(0.25)
+        late = self.chance(0.8 if stage.miserly else 0.2)
         for _ in range(self.random.choice((1, 1, 1, 2))):
             stage.do("time", to=stage.world.adjudicator.now + self.random.choice((2, 6, 20, 20)))
             stage.rounds(self.random.choice((1, 3, 6, 10)))
@@ -132,9 +132,9 @@ class Maker:
                 stage.rounds(self.random.choice((1, 2)))
 
     def deceive(self):
-        """Liars lie at their turns and between, and nothing else goes wrong."""
-        self.acts.honesty = self.random.choice((0.4, 0.6, 0.8))
-        for _ in range(self.random.choice((0, 1, 3))):
+        """Liars lie at their turns from now on, and perhaps between."""
+        self.acts.honesty = self.random.choice((0.2, 0.4, 0.7))
+        for _ in range(self.random.choice((0, 0, 1, 2, 4))):
             if not self.stage.is_full():
                 self.acts.lie()
                 self.stage.settle(2, self.acts.alter)

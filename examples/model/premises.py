@@ -29,8 +29,8 @@ def expired(history):
 
 
 def in_time(history, journal):
-    """Whether at each challenge that ran out, of a channel with states in the journal, a watcher had looked after all of
-    them. What watchers call is entered at once."""
+    """Whether at each challenge that ran out, of a channel with states in the journal, a watcher had looked after all
+    of them. What watchers call is entered at once."""
     return all(_is_watched(journal, *challenge) for challenge in expired(history))
 
 

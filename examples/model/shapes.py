@@ -47,8 +47,8 @@ class Shape:
         pairs = [self.channels[ledger][0] for ledger in ledgers]
         most = [min(self.funds.get((ledger, asset, pair[j]), 0) for ledger, pair in zip(ledgers, pairs))
                 for j in range(2)]
-        amounts = [self.random.randint(0, has // 2) if self.random.random() < 0.1 else has // self.random.choice((2, 3))
-                   for has in most]
+        odd = self.random.random() < 0.15
+        amounts = [self.random.randint(0, has // 2) if odd else has // self.random.choice((2, 3)) for has in most]
         for ledger, pair in zip(ledgers, pairs):
             for j in range(2):
                 self.funds[ledger, asset, pair[j]] = self.funds.get((ledger, asset, pair[j]), 0) - amounts[j]

@@ -1,7 +1,7 @@
 """The stage on which a random play is made: the script grows step by step while the model plays it.
 
-People without nodes have shadows here: nodes of the model that tell what an honest person would sign next, of which the
-script makes `sign` and `send` steps. So a liar can go along until it lies.
+People without nodes have shadows here: nodes of the model that tell what an honest person would sign next, of which
+the script makes `sign` and `send` steps. So a liar can go along until it lies.
 """
 from calls import Conclude, Deposit, Transfer
 from node import Node

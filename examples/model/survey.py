@@ -1,5 +1,5 @@
 #!/usr/bin/env python3
-"""What random plays reach: `survey.py FIRST COUNT` prints of each stage, refusal, reply and end in how many plays it was met."""
+"""What random plays reach: `survey.py FIRST COUNT` prints in how many plays each stage, refusal and reply was met."""
 import sys
 from collections import Counter
 
@@ -48,7 +48,7 @@ class Survey:
 
 
 def survey(seed, onward=True):
-    found, script_world = Survey(), {}
+    found = Survey()
     script, routes = make(seed, onward)
     world = Play(routes, found.notice)
     for step in script["steps"]:

@@ -1,7 +1,7 @@
 """Values of the network: outcomes, states, channels, signatures and chains.
 
-A person or a channel is its declared name, and names are never shared. A signature is ideal: it tells who signed what, so
-no key and no digest is needed, and nobody can make the signature of another.
+A person or a channel is its declared name, and names are never shared. A signature is ideal: it tells who signed what,
+so no key and no digest is needed, and nobody can make the signature of another.
 """
 from dataclasses import dataclass, replace
 
@@ -150,7 +150,8 @@ class Chain:
 
 def first_chain(channel, signed):
     """The chain of the first turns, each marked by its mover."""
-    return Chain(channel, tuple(it.state for it in signed), tuple(Mark(i, it.signature) for i, it in enumerate(signed)))
+    marks = tuple(Mark(place, it.signature) for place, it in enumerate(signed))
+    return Chain(channel, tuple(it.state for it in signed), marks)
 
 
 def answered(chain, signed):
