@@ -1,39 +1,15 @@
-"""Hostile acts of random plays: what liars sign, send and call, and what people command out of order."""
+"""Hostile acts of random plays: what is entered, sent and lost, and what people command out of order."""
 from dataclasses import replace
 
 from adjudicator import CHALLENGED, FINAL
+from lies import Lies
+from play import outcome_of
 from steps import step_fault
-from values import CONSENSUS, FIXED, PAYMENT, Allocation, Guarantee, State, with_items
+from values import FIXED, PAYMENT, Allocation, Guarantee
 
 
-class Acts:
+class Acts(Lies):
     """Acts on a stage. Each adds some steps, or none where it can't."""
-
-    def __init__(self, stage, shape, routes):
-        self.stage, self.shape, self.random, self.routes = stage, shape, stage.random, routes
-        self.world, self.honesty = stage.world, 1.0
-
-    # ---- choices
-
-    def chance(self, part):
-        return self.random.random() < part
-
-    def liar_of(self, name):
-        """A liar of a channel, or None."""
-        people = self.world.channels[name].people
-        found = [person for person in people if person in self.world.shadows]
-        return self.random.choice(found) if found else None
-
-    def some_channel(self, wanted=None):
-        """A channel in which something was signed, where there is one, and of which `wanted` holds."""
-        names = [name for name in self.world.channels if wanted is None or wanted(name)]
-        if not names:
-            return None
-        live = [name for name in names if self.stage.known_states(name)]
-        return self.random.choice(live if live and self.chance(0.9) else names)
-
-    def nodes_of(self, people):
-        return [person for person in people if person in self.world.nodes]
 
     def some(self, people):
         """Some of the people, not none, perhaps in another order."""
@@ -42,129 +18,7 @@ class Acts:
             people = self.random.sample(people, self.random.randint(1, len(people)))
         return people
 
-    # ---- lies
-
-    def alter(self, liar, channel, state):
-        """What a liar signs and sends where an honest person would this state; it seldom lies while a channel opens."""
-        early = state.turn < 2 * len(self.world.channels[channel].people)
-        if self.random.random() < self.honesty or (early and self.chance(0.8)):
-            return [state]
-        known = [it for _, it in self.stage.known_states(channel) if it.turn == state.turn - 1]
-        follow = self.followers(channel, self.random.choice(known)) if known and self.chance(0.8) else []
-        follow = [it for it in follow if it != state and (not it.final or self.chance(0.2))]
-        forged = self.random.choice(follow) if follow else self.forged(channel, state)
-        way = self.random.choices(("before", "shown", "after", "instead", "lost"), (6, 5, 1, 1, 1))[0]
-        if way == "shown":
-            self.show(liar, channel, forged)
-            return [state] if self.chance(0.3) else []
-        return {"before": [forged, state], "after": [state, forged], "instead": [forged], "lost": []}[way]
-
-    def show(self, liar, name, state):
-        """A liar brings a state before the adjudicator, after those that others signed, and tells nobody."""
-        channel, n = self.world.channels[name], len(self.world.channels[name].people)
-        known = self.stage.known_states(name)
-        chain = [next((self.stage.name_of(signer, name, it) for signer, it in known
-                       if it.turn == turn and signer == channel.mover(turn)), None)
-                 for turn in range(max(0, state.turn - n + 1), state.turn)]
-        chain = [it for it in chain + [self.stage.sign(liar, name, state)] if it]
-        if self.chance(0.8) or not self.stage.left[liar]:
-            self.stage.do("checkpoint", channel=name, chain=chain)
-        else:
-            self.stage.left[liar] -= 1
-            self.stage.do("challenge", channel=name, chain=chain, by=liar)
-
-    def forged(self, name, state):
-        """Another state in place of this one."""
-        channel = self.world.channels[name]
-        change = self.random.choice(("outcome", "outcome", "votes", "final", "turn", "pass"))
-        if change == "outcome":
-            return replace(state, outcome=self.other_outcome(name, state.outcome))
-        if change == "votes" and channel.app == CONSENSUS:
-            proposal = self.other_outcome(name, state.proposal or state.outcome)
-            return replace(state, votes=self.random.choice((1, len(channel.people) - 1)), proposal=proposal)
-        if change == "final":
-            return replace(state, final=not state.final, votes=0, proposal=())
-        if change == "turn":
-            return replace(state, turn=max(0, state.turn + self.random.choice((-2, -1, 1, 2, 3))))
-        return replace(state, votes=0, proposal=())
-
-    def other_outcome(self, name, outcome):
-        """An outcome near to this one, or one that the channel had."""
-        seen = [it for _, state in self.stage.known_states(name) for it in (state.outcome, state.proposal) if it]
-        if seen and self.chance(0.5):
-            outcome = self.random.choice(seen)
-            if self.chance(0.5):
-                return outcome
-        listed = [it for it in outcome if isinstance(it, Allocation) and it.items]
-        if not listed:
-            return outcome
-        it = self.random.choice(listed)
-        items = list(it.items)
-        i, j = (self.random.randrange(len(items)) for _ in range(2))
-        amount = self.random.randint(0, items[i][1])
-        change = self.random.choice(("move", "move", "move", "less", "more", "gone", "named"))
-        if change == "move" and i != j:
-            items[i] = items[i][0], items[i][1] - amount
-            items[j] = items[j][0], items[j][1] + amount
-        elif change == "less":
-            items[i] = items[i][0], items[i][1] - amount
-        elif change == "more":
-            items[i] = items[i][0], items[i][1] + 1 + amount
-        elif change == "gone":
-            del items[i]
-        elif change == "named":
-            other = self.random.choice(list(self.world.channels) + list(self.world.people))
-            if len(items) < 16 and other not in dict(items):
-                items.append((other, amount))
-        return with_items(outcome, it.asset, items)
-
-    def followers(self, name, state):
-        """States that may follow a state of a channel."""
-        channel = self.world.channels[name]
-        follow = replace(state, turn=state.turn + 1)
-        found = [follow, replace(follow, votes=0, proposal=()), replace(follow, final=True)]
-        if channel.app == CONSENSUS and state.votes:
-            fewer = state.votes - 1
-            found.append(replace(follow, votes=fewer) if fewer else State(follow.turn, False, state.proposal))
-        elif channel.app == CONSENSUS:
-            votes, proposals = len(channel.people) - 1, [self.other_outcome(name, state.outcome) for _ in range(3)]
-            found += [replace(follow, votes=votes, proposal=it) for it in proposals]
-        elif channel.app == PAYMENT:
-            found.append(replace(follow, outcome=self.other_outcome(name, state.outcome)))
-        return found
-
-    def lie(self):
-        """A liar signs a state of its own: often one that may follow, or a second one of a turn that it had."""
-        live = [name for name in self.world.channels if self.liar_of(name) and self.stage.known_states(name)]
-        if not live:
-            return
-        weights = [1 if self.world.channels[name].app == FIXED else 4 for name in live]
-        name = self.random.choices(live, weights)[0]
-        liar, state, keeps = self._lied(name)
-        signed = self.stage.sign(liar, name, state)
-        if signed and not keeps:
-            for person in self.nodes_of(self.world.channels[name].people):
-                self.stage.do("send", to=person, state=signed)
-
-    def _lied(self, name):
-        """Who lies in a channel, the state, and whether it is kept for a challenge."""
-        known, channel = self.stage.known_states(name), self.world.channels[name]
-        newest = known[-1][1]
-        mover = channel.mover(newest.turn + 1)
-        if mover in self.world.shadows and self.chance(0.8):
-            follow = self.followers(name, newest)
-            ends = self.chance(0.35)
-            follow = [it for it in follow if it.final == ends] or follow
-            return mover, self.random.choice(follow), self.chance(0.3)
-        liars = self.world.shadows
-        own = [state for signer, state in known if signer in liars and channel.mover(state.turn) == signer]
-        if own and self.chance(0.8):
-            turn = self.random.choice(own[-2:]).turn
-            before = [state for _, state in known if state.turn == turn - 1]
-            if before:
-                follow = self.followers(name, self.random.choice(before))
-                return channel.mover(turn), self.random.choice(follow), self.chance(0.8)
-        return self.liar_of(name), self.forged(name, newest), self.chance(0.4)
+    # ---- chains
 
     def resend(self):
         """Some known state goes to some node once more."""
@@ -177,8 +31,6 @@ class Acts:
             if found:
                 to = self.random.choice(people if people and self.chance(0.9) else list(self.world.nodes))
                 self.stage.do("send", to=to, state=found)
-
-    # ---- chains
 
     def chain(self, name, liar):
         """Names of a chain of some turn, seldom a broken one."""
@@ -388,7 +240,7 @@ class Acts:
 
     # ---- commands
 
-    def open(self, opening, people=None, settle=True):
+    def open(self, opening, people=None):
         """The opening command of all, or of some; the liars' shadows get it too."""
         people = list(opening.people) if people is None else people
         step, who, stage = opening.step, self.nodes_of(people), self.stage
@@ -399,7 +251,6 @@ class Acts:
         stage.command_shadows(people, lambda node: self._command(node, opening))
 
     def _command(self, node, opening):
-        from play import outcome_of
         step, channels = opening.step, self.world.channels
         channel = channels[step["channel"]]
         if step["do"] == "open":
@@ -444,18 +295,22 @@ class Acts:
 
     def pay(self):
         """A payment, mostly one that is covered and at the own turn."""
-        if not self.world.nodes:
-            return
         payments = [name for name, channel in self.world.channels.items() if channel.app == PAYMENT]
-        ready = [(person, name) for name in payments for person, node in self.world.nodes.items()
+        people = {**self.world.nodes, **self.world.shadows}
+        ready = [(person, name) for name in payments for person, node in people.items()
                  if name in node.records and node.records[name].is_own_turn() and node.records[name].holds(3)]
-        if ready and self.chance(0.85):
-            who, name = self.random.choice(ready)
-        else:
-            who, name = self.random.choice(list(self.world.nodes)), self.some_channel()
+        if not ready or self.chance(0.15):
+            ready = [(person, self.some_channel()) for person in self.world.nodes]
+        if not ready:
+            return
+        who, name = self.random.choice(ready)
         amount = self.random.choice((0, 0, 1, 1, 2, 5, 9, 10**5))
         asset = self.random.choice(self.shape.assets)
-        self.stage.do("pay", who=who, channel=name, asset=asset, amount=amount)
+        if who in self.world.nodes:
+            self.stage.do("pay", who=who, channel=name, asset=asset, amount=amount)
+        else:
+            people[who].see()
+            people[who].pay(name, asset, amount)
 
     def close(self, name=None, people=None):
         """A closing of some channel, by all or some; mostly by a name that people use."""

@@ -43,10 +43,12 @@ class Maker:
         liars = choice.choice((0, 0, 1, 1, 1, 2)) if len(people) > 2 else choice.choice((0, 0, 1))
         liars = max(liars, 1) if self.kind == "deceitful" else liars
         deceivers = set(choice.sample(people, liars))
+        if self.kind == "deceitful" and self.chance(0.2):
+            deceivers = set(self.shape.openings[-1].people[::2])
         if liars and self.chance(0.3):
             people.append("S")
             deceivers.add("S")
-        low = self.chance(0.55)
+        low = self.chance(0.5 if len(self.shape.openings) > 3 else 0.9)
         for place, name in enumerate(people):
             node = name not in deceivers
             height = 5 if low or not node else 10
@@ -112,9 +114,19 @@ class Maker:
             if self.chance(0.15):
                 self.acts.close(self.random.choice(openings).channel(), list(opening.people))
             cut = self.chance(0.15 if calm else 0.35)
+            if calm and self.chance(0.6):
+                self.stage.settle(self.random.choice((0, 0, 0, 1, 2, 4)), self.acts.alter)
+                self._lie_while_closing(opening)
             self.stage.settle(self.random.randint(0, 14) if cut else 60, self.acts.alter)
             if cut and self.chance(0.6):
                 return
+
+    def _lie_while_closing(self, opening):
+        ends = opening.people[::2]
+        if opening.route and all(end in self.stage.world.shadows for end in ends):
+            self.acts.play_jointly(opening.step["joint"])
+        else:
+            self.acts.plot()
 
     def leave(self):
         """All or some leave; deadlines pass; they are paid what they are due."""
@@ -136,7 +148,7 @@ class Maker:
         self.acts.honesty = self.random.choice((0.2, 0.4, 0.7))
         for _ in range(self.random.choice((0, 0, 1, 2, 4))):
             if not self.stage.is_full():
-                self.acts.lie()
+                self.acts.plot()
                 self.stage.settle(2, self.acts.alter)
 
     def make(self):

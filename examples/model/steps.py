@@ -72,7 +72,7 @@ def _frame(outcome, people):
 
 
 def support_fault(chain):
-    """The first rule that the chain breaks, as the numbers that are printed, or None where it supports its last turn."""
+    """The first rule that the chain breaks, as the numbers that are printed, or None where it supports a turn."""
     channel, states = chain.channel, chain.states
     n, k = len(channel.people), len(states)
     if not 1 <= k <= n or len(chain.marks) != n:
