@@ -166,7 +166,24 @@ class Maker:
             self.disturb()
         if self.chance(0.8):
             self.leave()
+        if self.chance(0.2):
+            return garbled(self.random, self.stage.steps, self.stage.routes)
         return {"steps": self.stage.steps}, self.stage.routes
+
+
+def garbled(choice, steps, routes):
+    """The script with a few steps gone, doubled or earlier, where it still keeps the rules."""
+    waiting = list(routes)
+    pairs = [(step, waiting.pop(0) if step["do"] == "open_virtual" else None) for step in steps]
+    for _ in range(choice.choice((1, 2, 4))):
+        place, way = choice.randrange(len(pairs)), choice.choice(("gone", "doubled", "earlier"))
+        pair = pairs[place] if way == "doubled" else pairs.pop(place)
+        if way != "gone":
+            pairs.insert(max(0, place - choice.choice((1, 1, 2, 5))), pair)
+    script = {"steps": [step for step, _ in pairs]}
+    if rules.first_broken(json.dumps(script).encode()):
+        return {"steps": steps}, routes
+    return script, [route for _, route in pairs if route]
 
 
 def make(seed, onward=True, notice=None):

@@ -200,7 +200,7 @@ def on_a_ledger(shape):
     shape.root("L", "A", "B")
     shape.on_ledger("C", "L")
     if shape.random.random() < 0.6:
-        shape.on_ledger("D", "L")
+        shape.on_ledger("E", "L")
     if shape.random.random() < 0.5:
         shape.root("P", "A", "B", "payment")
 

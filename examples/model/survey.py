@@ -1,10 +1,11 @@
 #!/usr/bin/env python3
 """What random plays reach: `survey.py FIRST COUNT` prints in how many plays each stage, refusal and reply was met."""
+import json
 import sys
 from collections import Counter
 
 from parts import OnLedger, Root
-from play import Play
+from play import Play, rules
 from plays import make
 from values import CONSENSUS
 
@@ -50,6 +51,10 @@ class Survey:
 def survey(seed, onward=True):
     found = Survey()
     script, routes = make(seed, onward)
+    broken = rules.first_broken(json.dumps(script).encode())
+    if broken:
+        found.met.add(f"BROKEN {broken}")
+        return found.met, 0, 0
     world = Play(routes, found.notice)
     for step in script["steps"]:
         world.take(step)
