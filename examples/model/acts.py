@@ -161,6 +161,10 @@ class Acts(Lies):
         book = self.world.adjudicator
         final = [name for name in self.world.channels if book.mode(name) == FINAL]
         name = self.random.choice(final) if final and self.chance(0.9) else self.some_channel()
+        ready = [it for it in final if any(isinstance(owed, Guarantee) and book.mode(owed.target) == FINAL
+                                           for owed in book.settled(it))]
+        if ready and self.chance(0.4):
+            name = self.random.choice(ready)
         outcome = book.settled(name)
         known = self.stage.known_states(name)
         if outcome is None or self.chance(0.05):

@@ -138,6 +138,8 @@ class Maker:
         late = self.chance(0.8 if stage.miserly else 0.2)
         for _ in range(self.random.choice((1, 1, 1, 2))):
             stage.do("time", to=stage.world.adjudicator.now + self.random.choice((2, 6, 20, 20)))
+            for _ in range(self.random.choice((0, 0, 0, 1, 3))):
+                acts.payout()
             stage.rounds(self.random.choice((1, 3, 6, 10)))
             if late or self.chance(0.3):
                 (acts.late_deposit if late else acts.payout)()
