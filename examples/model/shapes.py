@@ -137,6 +137,16 @@ def forked_hop(shape):
     shape.virtual("X3", ONWARD, ("A", "I2", "C"), ("VL", "LC"))
 
 
+def crowd(shape):
+    """Six people, two virtual ledgers and channels onward on them."""
+    forked_hop(shape)
+    shape.root("LD", "D", "I1")
+    shape.virtual("VD", LEDGER, ("D", "I1", "I2"), ("LD", "LI"))
+    shape.virtual("X4", shape.random.choice((ONWARD, PLAIN)), ("D", "I2", shape.random.choice("BC")), ("VD", "LB"))
+    if shape.openings[-1].people[2] == "C":
+        shape.openings[-1].step["ledgers"][1] = "LC"
+
+
 def two_virtual_ledgers(shape):
     """One at each side, and a channel onward on each."""
     _ledgers(shape)
@@ -213,7 +223,7 @@ def of_three(shape):
     on_a_ledger(shape)
 
 
-OVER_TWO = (hop, hop, hop, mirrored_hop, turned_hop, hop_twice, forked_hop, two_virtual_ledgers,
+OVER_TWO = (hop, hop, hop, mirrored_hop, turned_hop, hop_twice, forked_hop, crowd, two_virtual_ledgers,
             beside_virtual_ledgers, mixed_hop, virtual_ledger_alone)
 OVER_ONE = (through_one, through_one, through_one_twice, on_a_ledger, of_three)
 
