@@ -79,6 +79,26 @@ def shares(n):
     return record([deposit(k, channel(k), k, 1) for k in range(1, n + 1)], sums, [ending] * 16)
 
 
+def outcome(assets, items):
+    people = b"".join(b"\x01" + digest(b"p", number(j, 4)) + number(j + 1, 8) for j in range(items))
+    return number(len(assets), 1) + b"".join(number(asset, 4) + b"\x01" + number(items, 1) + people for asset in assets)
+
+
+def named_shares(n):
+    """As shares, but that the channels are a root and 63 on it, whose outcomes name four assets each, with 16 items."""
+    names = [digest(b"other", number(k, 4)) for k in range(64)]
+    parts = b"\x01" + names[0] + b"".join(b"\x02" + names[0] + name for name in names[1:])
+    known = b""
+    for k, name in enumerate(names):
+        assets = sorted({1 + (4 * k + j) % n for j in range(4)})
+        votes = b"\x01" + outcome(assets, 17) if k > 61 else b""
+        known += name + number(4, 8) + b"\x00" + outcome(assets, 16) + number(len(votes), 2) + votes
+    got = b"".join(number(k, 4) + number(0, 16) for k in range(1, n + 1))
+    ending = Z + b"\x40" + parts + b"\x40" + known + b"\x00" + number(n, 4) + got
+    sums = [summed(1, Z, k, 1) for k in range(1, n + 1)] + [summed(2, channel(k), k, 1) for k in range(1, n + 1)]
+    return record([deposit(k, channel(k), k, 1) for k in range(1, n + 1)], sums, [ending] * 16)
+
+
 # ---- signed chains
 
 
@@ -140,7 +160,7 @@ def checked(data):
 
 def main():
     right = True
-    for make in (times, one_channel, channels, assets, checkpoints, shares):
+    for make in (times, one_channel, channels, assets, checkpoints, shares, named_shares):
         right, seconds = right and verdict_of(make(3)) == "sound entries 3", 0
         for n in (125, 250, 500, 1000, 2000, 4000, 8000, 16000, 32000, 65536):
             data = make(n)
