@@ -63,8 +63,9 @@ class Acts(Lies):
         names = [self.stage.name_of(signer, name, state), self.stage.sign(liar, name, state)]
         return [it for it in names if it]
 
-    def challenge(self):
-        name = self.some_channel(lambda name: self.liar_of(name)) if self.chance(0.95) else self.some_channel()
+    def challenge(self, name=None):
+        if name is None:
+            name = self.some_channel(lambda name: self.liar_of(name)) if self.chance(0.95) else self.some_channel()
         liars = list(self.world.shadows)
         if not name or not liars:
             return
@@ -136,6 +137,7 @@ class Acts(Lies):
             state = self._name_among(name, mine or known, None)
             if state:
                 self.stage.do("refute", channel=name, state=state)
+                self.challenge(name if self.chance(0.6) else None)
             return
         state = self._name_among(name, later, liar)
         before = [it for it in known if it[1] == row.state] if self.chance(0.9) else known

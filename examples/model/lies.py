@@ -207,7 +207,7 @@ class Lies:
         name, newest = self.random.choice(found)
         step, channel = joints[name].step, self.world.channels[name]
         odd = self.chance(0.4)
-        self._tell(channel.mover(newest.turn + 1), name, self._moved(name, step, newest, odd), 0.9 if odd else 0.2)
+        self._tell(channel.mover(newest.turn + 1), name, self._moved(name, step, newest, odd), 0.5 if odd else 0.2)
 
     def _moved(self, name, step, newest, odd, passes=0.25):
         """A move in a joint channel: a vote, a pass, or a proposal to go back, odd or not."""
@@ -218,7 +218,7 @@ class Lies:
         if not odd and self.chance(passes):
             return replace(newest, turn=turn, votes=0, proposal=())
         payments, amount = self.stage.known_states(step["channel"]), self.random.randint(0, total)
-        if payments and self.chance(0.5):
+        if payments and self.chance(0.7):
             amount = next((amount for it in payments[-1][1].outcome for _, amount in it.items), amount)
         first, middle, second = self.world.channels[name].people
         items = ((first, amount), (second, max(0, total - amount) + odd), (middle, total))

@@ -15,7 +15,7 @@ from shapes import shape_of
 from stage import Stage
 import rules
 
-HOSTILE = {"some_rounds": 10, "lie": 7, "resend": 2, "challenge": 3, "surprise": 1, "dispute": 2, "barrage": 1,
+HOSTILE = {"some_rounds": 10, "lie": 7, "resend": 2, "challenge": 3, "surprise": 1, "dispute": 2, "barrage": 2,
            "checkpoint": 1, "conclude": 1, "answer": 2, "payout": 2, "deposit": 1, "time": 1, "drop": 2, "odd_open": 4,
            "pay": 5, "close": 4, "leave_some": 0.5}
 BY_LIARS = ("lie", "challenge", "surprise", "dispute", "barrage")
@@ -114,7 +114,7 @@ class Maker:
             if self.chance(0.15):
                 self.acts.close(self.random.choice(openings).channel(), list(opening.people))
             cut = self.chance(0.15 if calm else 0.35)
-            if calm and self.chance(0.6):
+            if calm and self.chance(0.85):
                 self.stage.settle(self.random.choice((0, 0, 0, 1, 2, 4)), self.acts.alter)
                 self._lie_while_closing(opening)
             self.stage.settle(self.random.randint(0, 14) if cut else 60, self.acts.alter)
