@@ -17,6 +17,8 @@ pub(crate) const ASSETS: usize = 8;
 const COLUMNS: usize = 280;
 
 const HEIGHT: u64 = 150;
+/// So far above its band an arrow begins that goes up: above the mark.
+const ABOVE_MARK: u64 = 17;
 
 /// What is known of the money of an asset.
 #[derive(Drop)]
@@ -88,7 +90,11 @@ fn draw_arrow(
     title: &[u8],
 ) -> Result<(), AllocError> {
     let (look, end) = tip;
-    let start = if end < band.0 { band.0 } else { band.1 };
+    let start = if end < band.0 {
+        minus(band.0, ABOVE_MARK)
+    } else {
+        band.1
+    };
     sketch.line(look, (x, start), (x, end), title)
 }
 

@@ -1,10 +1,10 @@
 //! Who ended with what.
 
-use crate::frame::{PANEL, TOP};
-use crate::lanes::short;
+use crate::frame::{PANEL, TOP, WIDTH};
+use crate::lanes::{fits, short};
 use crate::px::plus;
-use crate::shapes::{Look, Run as Runs, Sketch};
-use run_text::{PersonAsset, PersonEnd, Premises, Refused, Run};
+use crate::shapes::{Look, Run as Runs, Sketch, joined};
+use run_text::{Balance, PersonAsset, PersonEnd, Premises, Refused, Run};
 use std::alloc::AllocError;
 
 /// Lines of text below one another.
@@ -20,6 +20,22 @@ impl Lines {
     }
 }
 
+/// Puts two texts in one line where they fit, and else in two.
+fn put_both(
+    sketch: &mut Sketch,
+    lines: &mut Lines,
+    first: &[u8],
+    between: &[u8],
+    second: &[u8],
+) -> Result<(), AllocError> {
+    let letters = first.len().saturating_add(second.len());
+    if fits(letters.saturating_add(between.len()), WIDTH - PANEL) {
+        return lines.put(sketch, Look::Plain, &[first, between, second]);
+    }
+    lines.put(sketch, Look::Plain, &[first])?;
+    lines.put(sketch, Look::Plain, &[second])
+}
+
 fn put_asset(sketch: &mut Sketch, lines: &mut Lines, end: &PersonAsset) -> Result<(), AllocError> {
     let PersonAsset {
         asset,
@@ -28,13 +44,14 @@ fn put_asset(sketch: &mut Sketch, lines: &mut Lines, end: &PersonAsset) -> Resul
         exit,
     } = *end;
     let alloc = sketch.alloc();
-    let text = match exit {
-        None => format!(in alloc; "asset {asset}: paid {paid}, share {share}")?,
-        Some(exit) => {
-            format!(in alloc; "asset {asset}: paid {paid}, share {share}, at the exit {exit}")?
-        }
-    };
-    lines.put(sketch, Look::Plain, &[text.as_bytes()])
+    let paid = format!(in alloc; "asset {asset}: paid {paid}")?;
+    let share = format!(in alloc; "share {share}")?;
+    put_both(sketch, lines, paid.as_bytes(), b", ", share.as_bytes())?;
+    if let Some(exit) = exit {
+        let text = format!(in alloc; "share at the exit {exit}")?;
+        lines.put(sketch, Look::Plain, &[text.as_bytes()])?;
+    }
+    Ok(())
 }
 
 fn put_premise(
@@ -94,24 +111,31 @@ fn put_person(
     put_refused(sketch, lines, &run.refused, person.name)
 }
 
+fn put_balance(
+    sketch: &mut Sketch,
+    lines: &mut Lines,
+    balance: &Balance,
+) -> Result<(), AllocError> {
+    let alloc = sketch.alloc();
+    let Balance {
+        name,
+        asset,
+        amount,
+    } = *balance;
+    let name = short(name);
+    let amount = sketch.number(amount)?;
+    let paid = joined(alloc, &[name[0], name[1], b": paid ", amount.as_bytes()])?;
+    let asset = format!(in alloc; "of asset {asset}")?;
+    put_both(sketch, lines, &paid, b" ", asset.as_bytes())
+}
+
 /// The persons of whom no line on shares tells it, with what they were paid.
 fn put_paid(sketch: &mut Sketch, lines: &mut Lines, run: &Run) -> Result<(), AllocError> {
     for balance in &run.paid {
         let is_told = run.persons.iter().any(|person| person.name == balance.name
             && !person.assets.is_empty());
         if !is_told {
-            let asset = sketch.number(balance.asset)?;
-            let amount = sketch.number(balance.amount)?;
-            let name = short(balance.name);
-            let pieces = [
-                name[0],
-                name[1],
-                b": paid ",
-                amount.as_bytes(),
-                b" of asset ",
-                asset.as_bytes(),
-            ];
-            lines.put(sketch, Look::Plain, &pieces)?;
+            put_balance(sketch, lines, balance)?;
         }
     }
     Ok(())
