@@ -20,7 +20,7 @@ use crate::walking::{journals_are_valid, journals_of, openings_are_fixed};
 use channel_calls::Entry;
 use net_model::entries_are_valid;
 use net_world::{Docket, Member};
-use nitro_bytes::{Listed, NoMemory};
+use nitro_bytes::{Dest, Label, Listed, NoMemory};
 use premises::Journal;
 use record_bytes::{Ending, Sum};
 use record_rules::sums_of;
@@ -81,7 +81,25 @@ fn sums_in(alloc: Global, history: &[Entry]) -> Result<Vec<Sum>, NoMemory>
     ensures { IfOk result (λ sums. sums.items ≡ sums_of (flows_of history.now)) }
 {
     let balances = balances_of(alloc, history)?;
-    sums_of(alloc, &balances)
+    let sums = sums_of(alloc, &balances);
+    drop(balances);
+    sums
+}
+
+/// The declared people and channels of these names.
+fn labels_of(names: Names) -> Listed<(Dest, Label)>
+    ensures { result ≡ names.labels }
+{
+    let Names {
+        people,
+        channels,
+        states,
+        labels,
+    } = names;
+    drop(people);
+    drop(channels);
+    drop(states);
+    labels
 }
 
 /// The report of these parts of a scene: what names stand for, how long the history was after each round, the entries in the
@@ -99,6 +117,7 @@ pub fn report_of<P: ReportedNode>(
         → IfOk result (λ report. IsMade P.ways P.lost P.shares P.exits P.facts load report s) }
     ensures history { IfOk result (λ report. report.history ≡ history.items) }
 {
+    let labels = labels_of(names);
     let tales = tales_of(alloc, &history, members)?;
     entries_are_valid(&history);
     let premises = judge_all(alloc, &history, &tales.journals)?;
@@ -107,7 +126,7 @@ pub fn report_of<P: ReportedNode>(
         history: Listed::make(history),
         journals: Listed::make(tales.journals),
         rounds,
-        labels: names.labels,
+        labels,
         premises: Listed::make(premises),
         shares: Listed::make(tales.shares),
         exits: Listed::make(tales.exits),
