@@ -3,7 +3,7 @@
 //! seed. `nitro_cli record run` and `nitro_cli record race` put the record of what was played instead.
 #![tactic(auto)]
 
-ghost use Rattle.std.specs.Prelude.{◌≡◌, ◌≤◌, [], All, IfOk, length};
+ghost use Rattle.std.specs.Prelude.{◌≡◌, []};
 
 use byte_sink::{Sink, StdSink};
 use byte_source::{Source, StdSource};
@@ -46,19 +46,6 @@ fn unseeing(alloc: Global, number: u32, actor: Box<dyn Actor + Send>) -> Cast
     }
 }
 
-/// The cast of a race: one plays old challenges again, one answers a challenge in two ways, and one rests.
-fn cast_of(alloc: Global) -> Result<Vec<Cast>, NoMemory>
-    ensures few { IfOk result (λ cast. length cast.items ≤ 16) }
-    ensures unseen { IfOk result (λ cast. All (λ c. c.notes.entries.items ≡ []) cast.items) }
-{
-    let mut cast = Vec::new(alloc);
-    cast.push(unseeing(alloc, 101, Box::new(alloc, Replayer)?))?;
-    let equivocator = Equivocator::make(alloc)?;
-    cast.push(unseeing(alloc, 102, Box::new(alloc, equivocator)?))?;
-    cast.push(unseeing(alloc, 103, Box::new(alloc, Idle::make())?))?;
-    Ok(cast)
-}
-
 /// Whether a record is asked for.
 fn asks_record(words: &[Label]) -> bool {
     match words {
@@ -67,7 +54,8 @@ fn asks_record(words: &[Label]) -> bool {
     }
 }
 
-/// Plays what the words ask for, and gives the status number. In a race the cast acts beside the nodes.
+/// Plays what the words ask for, and gives the status number. In a race three act beside the nodes: one plays old challenges
+/// again, one answers a challenge in two ways, and one rests.
 fn played<R: Threads + Wait + Sync, S: Source, K: Sink>(
     rt: &R,
     alloc: Global,
@@ -75,7 +63,11 @@ fn played<R: Threads + Wait + Sync, S: Source, K: Sink>(
     source: &mut S,
     sink: &mut K,
 ) -> Result<u8, NoMemory> {
-    let cast = cast_of(alloc)?;
+    let mut cast = Vec::new(alloc);
+    cast.push(unseeing(alloc, 101, Box::new(alloc, Replayer)?))?;
+    let equivocator = Equivocator::make(alloc)?;
+    cast.push(unseeing(alloc, 102, Box::new(alloc, equivocator)?))?;
+    cast.push(unseeing(alloc, 103, Box::new(alloc, Idle::make())?))?;
     if asks_record(words) {
         let status = run_record(rt, alloc, words, source, sink, cast);
         return Ok(status.code());

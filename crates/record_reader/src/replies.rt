@@ -9,7 +9,11 @@ use channel_calls::{Refusal, Reply};
 use nitro_bytes::{ByteFault, StepFault, SupportFault, place_of, take_byte, take_name, take_u64};
 
 /// What a number stands for, with the bytes behind it; its place is the fault where it stands for nothing.
-pub(crate) fn or_bad<T: Copy>(place: usize, found: Option<T>, rest: &[u8]) -> Result<(T, &[u8]), ByteFault>
+pub(crate) fn or_bad<T: Copy>(
+    place: usize,
+    found: Option<T>,
+    rest: &[u8],
+) -> Result<(T, &[u8]), ByteFault>
     ensures { Tells (λ x. (x.0, x.1.now)) result (reads.or_bad place found rest.now) }
 {
     match found {

@@ -67,7 +67,10 @@ impl Docket for Records {
     }
 
     fn into_entries(self) -> Vec<Entry> {
-        let Records { adjudicator, history } = self;
+        let Records {
+            adjudicator,
+            history,
+        } = self;
         drop(adjudicator);
         history
     }
