@@ -8,6 +8,7 @@ use Rattle.ending_laws.proofs.Few.{few-two}
 use Rattle.ending_laws.proofs.Firsts.{all-first}
 use Rattle.ending_laws.proofs.Grounded.{grounded}
 use Rattle.ending_laws.proofs.Lists.{distinct-of}
+use Rattle.ending_laws.proofs.Viewing.{shares_seen, HasSharesSeen, shares_told}
 use Rattle.ending_laws.specs.Laws.{NodesEndWell}
 use Rattle.fairness_laws.proofs.Kept.{is-fair}
 use Rattle.fairness_laws.proofs.Plan.Places.{apart-there}
@@ -18,10 +19,8 @@ use Rattle.fairness_laws.specs.PlanSettings.{IsFair}
 use Rattle.flow_balances.specs.Receipts.{assets_of}
 use Rattle.funding_value.specs.Known.{FactsOf}
 use Rattle.funding_value.specs.Parts.{channels}
-use Rattle.history_check.proofs.Seeing.{shares_told}
-use Rattle.history_check.specs.Plans.{joined, firsts, has_two}
-use Rattle.history_check.specs.Seen.{shares_seen, HasSharesSeen}
-use Rattle.history_check.specs.Sound.{HasPlan}
+use Rattle.record_rules.specs.Plans.{joined, firsts, has_two}
+use Rattle.record_rules.specs.Sound.{HasPlan}
 use Rattle.node_model.specs.Minds.{Mind, facts_of}
 use Rattle.node_model.specs.Places.{Told, mind_at}
 use Rattle.node_model.specs.Playing.{Signing}

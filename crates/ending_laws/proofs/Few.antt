@@ -14,7 +14,7 @@ use Rattle.fairness_laws.specs.PlanSettings.{IsFair}
 use Rattle.funding_value.specs.Parts.{ledgers_of}
 use Rattle.funding_value.specs.declared.plan.Part.{Part}
 use Rattle.funding_value.specs.declared.plan.Part.TheVariants.{Root, OnLedger, End, Middle}
-use Rattle.history_check.specs.Plans.{has_two}
+use Rattle.record_rules.specs.Plans.{has_two}
 use Rattle.net_model.specs.Journals.{In}
 use Rattle.node_model.specs.Minds.{Mind, facts_of}
 use Rattle.node_model.specs.Places.{Told, mind_at}

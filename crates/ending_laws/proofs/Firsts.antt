@@ -15,7 +15,7 @@ use Rattle.fairness_laws.proofs.Plan.Names.{in-among}
 use Rattle.fairness_laws.proofs.Plan.Places.{grown-there}
 use Rattle.fairness_laws.specs.PaymentLaws.{At}
 use Rattle.fairness_laws.specs.PlanSettings.{IsFair}
-use Rattle.history_check.specs.Plans.{joined, without, firsts}
+use Rattle.record_rules.specs.Plans.{joined, without, firsts}
 use Rattle.net_model.proofs.Members.{In-map, In-flat_map, mapped}
 use Rattle.net_model.proofs.Members as members
 use Rattle.net_model.specs.Journals.{In}

@@ -7,7 +7,7 @@ use Rattle.fairness_laws.proofs.Plan.Names.{in-among, among-in}
 use Rattle.funding_value.specs.Parts.{own_ledger, ledgers_of}
 use Rattle.funding_value.specs.declared.plan.Part.{Part}
 use Rattle.funding_value.specs.declared.plan.Part.TheVariants.{Root, OnLedger, End, Middle}
-use Rattle.history_check.specs.Plans.{bears, stand_on}
+use Rattle.record_rules.specs.Plans.{bears, stand_on}
 use Rattle.net_model.proofs.Members.{In-append_left, In-append_right}
 use Rattle.net_model.specs.Journals.{In}
 use Rattle.signing_laws.specs.Plans.{StandsOn, ledgers_after, AllStandOn}

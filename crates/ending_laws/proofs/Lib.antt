@@ -6,4 +6,5 @@ pub mod Votes
 pub mod Sites
 pub mod Few
 pub mod Grounded
+pub mod Viewing
 pub mod Ending

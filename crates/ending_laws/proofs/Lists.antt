@@ -7,7 +7,7 @@ use Rattle.channel_calls.proofs.Names.{bytes_eq_self}
 use Rattle.channel_calls.specs.Flows.{is_among}
 use Rattle.channel_calls.specs.declared.held_chain.Known.{Known}
 use Rattle.fairness_laws.proofs.Plan.Names.{in-filter, told-apart}
-use Rattle.history_check.specs.Plans.{without, are_distinct}
+use Rattle.record_rules.specs.Plans.{without, are_distinct}
 use Rattle.net_model.proofs.Members.{In-map}
 use Rattle.net_model.specs.Journals.{In}
 use Rattle.node_model.specs.Openings.{are_apart}

@@ -24,7 +24,7 @@ use Rattle.fairness_laws.proofs.Signing.{kept-of}
 use Rattle.fairness_laws.specs.PaymentLaws.{At}
 use Rattle.fairness_laws.specs.PlanSeats.{SeatIs}
 use Rattle.fairness_laws.specs.PlanSettings.{IsFair}
-use Rattle.history_check.specs.Plans.{are_two, has_two}
+use Rattle.record_rules.specs.Plans.{are_two, has_two}
 use Rattle.net_model.specs.Journals.{In, Line, made_in}
 use Rattle.node_model.specs.Minds.{Mind, facts_of}
 use Rattle.node_model.specs.Places.{Told, lines_of, mind_at}

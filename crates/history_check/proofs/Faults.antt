@@ -11,7 +11,8 @@ use Rattle.record_bytes.specs.declared.run_record.Record.{Record}
 use Rattle.history_check.specs.Laws.{VerdictsAreOne}
 use Rattle.history_check.specs.declared.checking.Verdict.{Verdict}
 use Rattle.history_check.specs.declared.checking.Verdict.TheVariants.{Sound, Reply, Sums, Plan, Share}
-use Rattle.history_check.specs.Sound.{IsLegal, IsFirstWrong, IsFirstDifference, IsFirstWithout, Lacks, HasPlan, HasShares, Says, sums_wanted}
+use Rattle.record_rules.specs.Sound.{IsLegal, HasPlan, HasShares, sums_wanted}
+use Rattle.history_check.specs.Faults.{IsFirstWrong, IsFirstDifference, IsFirstWithout, Lacks, Says}
 
 all_so : {X : Type 0} (P Q : X → Type 0) (xs : List X) → ((x : X) → P x → Q x) → All P xs → All Q xs
 all_so P Q xs so all k d lt = so (get_or xs k d) (all k d lt)

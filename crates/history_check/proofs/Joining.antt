@@ -28,7 +28,7 @@ use Rattle.share_model.specs.Share.{least_over, share_of}
 use Rattle.share_model.specs.Worth.{Table, no_reach, with_reach, affords, child, guarantor, claim, own_claim, virtual, end_reach, reach_after, second_amt, middle_worth, part_worth, worth}
 use Rattle.support_chain.specs.Real.{real}
 use Rattle.record_bytes.specs.declared.run_record.Ending.{Ending}
-use Rattle.history_check.specs.Plans.{joined, without, firsts, possible_then, counting_then, shares_then}
+use Rattle.record_rules.specs.Plans.{joined, without, firsts, possible_then, counting_then, shares_then}
 use Rattle.history_check.specs.Seen.{share_by, HasSharesBy, are_joined, channel_seen, plan_seen}
 use mathlib.Core.Path.{fun_ext}
 

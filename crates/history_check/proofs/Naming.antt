@@ -24,7 +24,7 @@ use Rattle.share_model.specs.Share.{least_over, worth_under}
 use Rattle.share_model.specs.Worth.{Table, no_reach, affords, own_claim, virtual, end_reach, reach_after, part_worth, worth}
 use Rattle.share_model.proofs.Least.{Takes, least_over-some}
 use Rattle.support_chain.specs.Real.{real}
-use Rattle.history_check.specs.Plans.{possible_then, counting_then}
+use Rattle.record_rules.specs.Plans.{possible_then, counting_then}
 use Rattle.history_check.specs.Seen.{share_by, assets_in, named_by, named, is_named}
 use mathlib.Core.Path.{fun_ext}
 

@@ -1,30 +1,21 @@
--- What tells the conditions of plans; and a view that stands for a history tells what they can get.
-use Rattle.std.proofs.Common.{◌≡◌, ℕ, Bool, true, false, not, ◌&&◌, leb, List, [], ◌∷◌, ◌++◌, map, refl, sym, ◌∙◌, ap}
+-- What tells the conditions of plans.
+use Rattle.std.proofs.Common.{◌≡◌, Bool, true, false, not, ◌&&◌, leb, List, [], ◌∷◌, refl, sym, ◌∙◌, ap}
 use Rattle.std.specs.Prelude.{Option, Some, None, count_by}
 use Rattle.std.proofs.lemmas.Bool.{leb-true, le-leb}
 use Rattle.nitro_bytes.specs.Parts.{StateParts}
 use Rattle.nitro_bytes.specs.declared.value.AssetOutcome.{AssetOutcome}
-use Rattle.deadline_clock.specs.Mode.{mode_at, is_final}
-use Rattle.channel_model.specs.Rules.{Rules}
-use Rattle.channel_calls.specs.History.{mode, row, paid_to, rest_of_channel, newest_first, flows_of}
+use Rattle.deadline_clock.specs.Mode.{is_final}
+use Rattle.channel_calls.specs.History.{mode, rest_of_channel, newest_first}
 use Rattle.channel_calls.specs.declared.entry.Entry.{Entry}
 use Rattle.channel_calls.specs.declared.held_chain.Known.{Known}
-use Rattle.channel_calls.specs.declared.view.ChannelView.{ChannelView}
-use Rattle.channel_calls.specs.declared.view.WorldView.{WorldView}
-use Rattle.flow_balances.specs.Receipts.{assets_of}
 use Rattle.funding_value.specs.Parts.{channels}
 use Rattle.funding_value.specs.declared.plan.Plan.{Plan}
-use Rattle.history_view.specs.Views.{view_of}
-use Rattle.history_view.specs.Standing.{KnowsChannel, StandsFor}
-use Rattle.share_model.specs.Books.{Counting}
-use Rattle.share_model.specs.Places.{possible_if, proposed, listed, counting_of, balances}
-use Rattle.share_model.specs.Share.{share_of}
-use Rattle.plan_share.specs.Seen.{held_seen, possible_seen, counting_seen, share_seen}
+use Rattle.share_model.specs.Places.{possible_if, proposed, listed}
 use Rattle.support_chain.specs.Real.{real}
 use Rattle.record_bytes.specs.declared.run_record.Ending.{Ending}
-use Rattle.history_check.specs.Plans.{joined, firsts, possible_then, other_than, are_two, counting_then, has_two, are_distinct, stand_on, share_then, shares_then}
-use Rattle.history_check.specs.Seen.{two_seen, few_seen, HasPlanSeen, HasSharesSeen}
-use Rattle.history_check.specs.Sound.{HasPlan, HasShares}
+use Rattle.record_rules.specs.Plans.{joined, firsts, other_than, are_two, has_two, are_distinct, stand_on}
+use Rattle.history_check.specs.Seen.{two_seen, few_seen, HasPlanSeen}
+use Rattle.record_rules.specs.Sound.{HasPlan}
 use mathlib.Core.Path.{fun_ext}
 
 -- ---- channels that can end with two outcomes
@@ -37,38 +28,6 @@ two_if : (final : Bool) (rest : Option (List AssetOutcome)) (last : StateParts) 
 two_if true None last = refl
 two_if true (Some o) last = refl
 two_if false rest last = two_listed last.outcome (proposed last.app_bytes)
-
-module _ (r : Rules) (h : List Entry) (w : WorldView) (stands : StandsFor r h w) where
-  -- what is known of a channel says what it can end with
-  possible_is : (k : Known) → possible_seen w.now (view_of w.channels k.channel) k.last ≡ possible_then r h k
-  possible_is k =
-      ap (λ (d : Option ℕ). possible_if (is_final (mode_at d w.now)) v.rest k.last) knows.deadline
-      ∙ (ap (λ (n : ℕ). possible_if (is_final (mode_at (row r k.channel h).deadline n)) v.rest k.last) stands.now
-      ∙ ap (λ (o : Option (List AssetOutcome)). possible_if (is_final (mode r k.channel h)) o k.last) knows.rest)
-    where
-      v : ChannelView
-      v = view_of w.channels k.channel
-
-      knows : KnowsChannel r k.channel h (view_of w.channels k.channel)
-      knows = stands.channels k.channel
-
-  counting_is : (ks : List Known) → counting_seen w ks ≡ counting_then r h ks
-  counting_is [] = refl
-  counting_is (k ∷ ks) =
-      ap (λ (os : List (List AssetOutcome)). counting_of k.channel os ++ counting_seen w ks) (possible_is k)
-      ∙ ap (λ (cs : List Counting). counting_of k.channel (possible_then r h k) ++ cs) (counting_is ks)
-
-  balances_are : (asset : ℕ) → held_seen w asset ≡ balances h asset
-  balances_are asset = fun_ext (λ channel. (stands.channels channel).held asset)
-
-  share_is : (own : Plan) (known : List Known) (asset : ℕ) → share_seen w own (firsts (joined own.parts) known) asset ≡ share_then r h own known asset
-  share_is own known asset =
-      ap (λ (n : ℕ). share_of own.me n own.parts (held_seen w asset) (counting_seen w ks) asset) (stands.paid own.me asset)
-      ∙ (ap (λ (held : List ℕ → ℕ). share_of own.me (paid_to h own.me asset) own.parts held (counting_seen w ks) asset) (balances_are asset)
-      ∙ ap (λ (cs : List Counting). share_of own.me (paid_to h own.me asset) own.parts (balances h asset) cs asset) (counting_is ks))
-    where
-      ks : List Known
-      ks = firsts (joined own.parts) known
 
 -- ---- conditions of plans
 
@@ -97,14 +56,3 @@ pub plan_tells : (h : List Entry) (e : Ending) → HasPlan h e → HasPlanSeen (
 plan_tells h e holds =
     and_true (are_distinct (channels e.plan.parts)) _ holds.once
     (and_true (stand_on [] e.plan.parts) _ holds.grounded (few_is (newest_first h) e.plan e.known ∙ le-leb _ _ holds.few))
-
--- ---- shares
-
-shares_are : (h : List Entry) (w : WorldView) (assets : List ℕ) (e : Ending) → StandsFor real (newest_first h) w → assets ≡ assets_of (flows_of h)
-    → map (λ asset. (asset, share_seen w e.plan (firsts (joined e.plan.parts) e.known) asset)) assets ≡ shares_then real (newest_first h) e.plan e.known (assets_of (flows_of h))
-shares_are h w assets e stands are =
-    ap (λ (f : ℕ → ℕ × ℕ). map f assets) (fun_ext (λ asset. ap (λ (n : ℕ). (asset, n)) (share_is real (newest_first h) w stands e.plan e.known asset)))
-    ∙ ap (shares_then real (newest_first h) e.plan e.known) are
-
-pub shares_told : (h : List Entry) (w : WorldView) (assets : List ℕ) (e : Ending) → StandsFor real (newest_first h) w → assets ≡ assets_of (flows_of h) → HasSharesSeen w assets e → HasShares h e
-shares_told h w assets e stands are holds = holds ∙ shares_are h w assets e stands are

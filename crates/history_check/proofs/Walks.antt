@@ -10,7 +10,8 @@ use Rattle.adjudicator_core.specs.Standing as core
 use Rattle.adjudicator_core.specs.Standing.{Serves}
 use Rattle.support_chain.specs.Real.{real}
 use Rattle.history_check.specs.Past.{Rests, AreRests}
-use Rattle.history_check.specs.Sound.{IsLegal, IsFirstWrong}
+use Rattle.record_rules.specs.Sound.{IsLegal}
+use Rattle.history_check.specs.Faults.{IsFirstWrong}
 use Rattle.history_check.specs.Walking.{WalksTo}
 
 -- the newest entry comes first

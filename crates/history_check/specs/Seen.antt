@@ -12,12 +12,11 @@ use Rattle.channel_calls.specs.declared.view.WorldView.{WorldView}
 use Rattle.funding_value.specs.Parts.{channels}
 use Rattle.funding_value.specs.declared.plan.Plan.{Plan}
 use Rattle.plan_share.specs.Pages.{or_empty}
-use Rattle.plan_share.specs.Seen.{share_seen}
 use Rattle.share_model.specs.Places.{proposed, balances}
 use Rattle.share_model.specs.Share.{share_of}
 use Rattle.support_chain.specs.Real.{real}
 use Rattle.record_bytes.specs.declared.run_record.Ending.{Ending}
-use Rattle.history_check.specs.Plans.{joined, firsts, are_distinct, stand_on, other_than, counting_then, shares_then}
+use Rattle.record_rules.specs.Plans.{joined, firsts, are_distinct, stand_on, other_than, counting_then, shares_then}
 
 -- ---- conditions of plans
 
@@ -85,11 +84,3 @@ named h ks = flat_map (named_by h) ks
 
 abbrev pub is_named : (asset : ℕ) → List ℕ → Bool
 is_named asset assets = list_any (λ other. other == asset) assets
-
--- ---- shares by a view of a whole history
-
-abbrev pub shares_seen : WorldView → Plan → List Known → (assets : List ℕ) → List (ℕ × ℕ)
-shares_seen w own known assets = map (λ asset. (asset, share_seen w own known asset)) assets
-
-abbrev pub HasSharesSeen : WorldView → (assets : List ℕ) → Ending → Type 0
-HasSharesSeen w assets e = e.shares ≡ shares_seen w e.plan (firsts (joined e.plan.parts) e.known) assets

@@ -3,18 +3,19 @@
 ghost use Rattle.std.specs.Prelude.{◌≡◌, ◌↔◌, IfOk};
 ghost use Rattle.channel_calls.specs.Flows.{AreWithinAmounts};
 ghost use Rattle.channel_calls.specs.History.{newest_first, flows_of};
-ghost use Rattle.history_check.specs.Sound.{Says, IsLegal, HasPlan, HasShares, HasSums, Differs, Lacks, sums_wanted};
+ghost use Rattle.record_rules.specs.Sound.{IsLegal, HasPlan, HasShares, HasSums, sums_wanted};
+ghost use Rattle.history_check.specs.Faults.{Says, Differs, Lacks};
 
 use crate::comparing::first_difference;
 use crate::past::Past;
 use crate::plans::first_bad_plan;
 use crate::shares::first_bad_share;
-use crate::sums::{assets_of, sums_of};
 use crate::walking::{Walked, walk_through};
 use channel_calls::Flow;
 use flow_balances::Balances;
 use nitro_bytes::NoMemory;
 use record_bytes::Record;
+use record_rules::{assets_of, sums_of};
 use std::alloc::Global;
 
 /// What is said of a record.

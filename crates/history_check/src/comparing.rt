@@ -1,7 +1,7 @@
 //! Lists that are compared.
 
 ghost use Rattle.std.specs.Prelude.{◌≡◌, ◌↔◌, IsTrue};
-ghost use Rattle.history_check.specs.Sound.{Differs};
+ghost use Rattle.history_check.specs.Faults.{Differs};
 
 use record_bytes::{Sum, SumOf};
 

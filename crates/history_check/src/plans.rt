@@ -5,9 +5,9 @@ ghost use Rattle.std.specs.Result.{result_ok};
 ghost use Rattle.std.specs.List.{list_all};
 ghost use Rattle.channel_calls.specs.Flows.{is_among};
 ghost use Rattle.funding_value.specs.Parts as parts;
-ghost use Rattle.history_check.specs.Plans as plans;
+ghost use Rattle.record_rules.specs.Plans as plans;
 ghost use Rattle.history_check.specs.Seen as seen;
-ghost use Rattle.history_check.specs.Sound.{Lacks};
+ghost use Rattle.history_check.specs.Faults.{Lacks};
 ghost use Rattle.nitro_bytes.specs.Reading.{outcome_of};
 ghost use Rattle.share_model.specs.Places.{proposed};
 

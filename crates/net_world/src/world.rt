@@ -212,6 +212,7 @@ pub fn world_step<P: Party, D: Docket>(
     ensures stays_lost { world.old.is_lost ≡ true → IsErr result }
 {
     if world.is_lost {
+        drop(event);
         return Err(NoMemory);
     }
     match world.step(event) {

@@ -63,19 +63,19 @@ fn played<R: Threads + Wait + Sync, S: Source, K: Sink>(
     source: &mut S,
     sink: &mut K,
 ) -> Result<u8, NoMemory> {
-    let replayer = Box::new(alloc, Replayer)?;
-    let equivocator = Box::new(alloc, Equivocator::make(alloc)?)?;
-    let idle = Box::new(alloc, Idle::make())?;
     let mut cast = Vec::new(alloc);
-    cast.push(unseeing(alloc, 101, replayer))?;
-    cast.push(unseeing(alloc, 102, equivocator))?;
-    cast.push(unseeing(alloc, 103, idle))?;
+    cast.push(unseeing(alloc, 101, Box::new(alloc, Replayer)?))?;
+    let equivocator = Equivocator::make(alloc)?;
+    cast.push(unseeing(alloc, 102, Box::new(alloc, equivocator)?))?;
+    cast.push(unseeing(alloc, 103, Box::new(alloc, Idle::make())?))?;
     if asks_record(words) {
         let status = run_record(rt, alloc, words, source, sink, cast);
         return Ok(status.code());
     }
     let ended = run_words(rt, alloc, words, source, sink, cast);
-    Ok(ended.status.code())
+    let code = ended.status.code();
+    drop(ended);
+    Ok(code)
 }
 
 fn main(rt: HostRuntime) -> ExitCode {

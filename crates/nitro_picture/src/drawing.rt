@@ -10,7 +10,7 @@ ghost use Rattle.nitro_picture.specs.Drawing.{told, asks, is_record, code_of, Ar
 
 use byte_source::{ReadEnd, Source, read_all};
 use nitro_bytes::{ByteFault, Label};
-use record_bytes::read_record;
+use record_reader::read_record;
 use record_run::{run_of, told_of};
 use run_picture::picture_of;
 use run_text::{LineFault, Unread, read_run};

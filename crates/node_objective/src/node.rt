@@ -1,11 +1,12 @@
 //! A node over what it knows.
 
-ghost use Rattle.std.specs.Prelude.{◌≡◌, ◌≤◌, ◌++◌, [], length, List, true, false, None, IfOk, IfSome, OnOk, OnErr};
+ghost use Rattle.std.specs.Prelude.{◌≡◌, ◌≤◌, ◌++◌, [], ◌∷◌, length, List, true, false, None, IfOk, IfSome, OnOk, OnErr};
 ghost use Rattle.std.specs.List.{All};
 ghost use Rattle.std.specs.Option.{option_or};
 ghost use Rattle.node_model.specs.Giving.{sent_if, spent_if, sent, spent, challenge_call, challenge_calls, spent_challenging, paid_sends, after_challenging, tick_gives, after_tick};
 ghost use Rattle.node_model.specs.Leaving.{challenge_in, MayCall};
 ghost use Rattle.channel_calls.specs.History.{Legal};
+ghost use Rattle.channel_calls.specs.declared.call.Call.TheVariants as calls;
 ghost use Rattle.channel_calls.specs.declared.entry.Entry.{Entry as AnEntry};
 ghost use Rattle.channel_calls.specs.Reading.{message_of};
 ghost use Rattle.node_model.specs.Minds.{fresh};
@@ -19,7 +20,7 @@ ghost use Rattle.node_objective.specs.Answers.{IsWanted, CommandAnswers, HandleA
 use crate::mind::{Knowing, OwnChallenge};
 use channel_calls::{Call, Deed, Entry, Event, NodeRefusal, copy_call};
 use net_party::{Command, NodeFault, Outs};
-use nitro_bytes::{Listed, Name, NoMemory, State};
+use nitro_bytes::{Chain, Listed, Name, NoMemory, State};
 use std::alloc::Global;
 use std::marker::Model;
 
@@ -407,6 +408,23 @@ impl<M: Knowing + Drop> Node<M> {
         }
     }
 
+    /// The one call of a challenge with this signature.
+    fn calls_of(&self, chain: Chain, who: u8, signature: &Listed<u8>) -> Result<Vec<Call>, NoMemory>
+        ensures { IfOk result (λ given. given.items ≡ calls.Challenge chain who signature.now ∷ []) }
+    {
+        let Ok(signature) = signature.copy() else {
+            drop(chain);
+            return Err(NoMemory);
+        };
+        let call = Call::Challenge {
+            chain,
+            challenger: who,
+            signature,
+        };
+        let calls = vec![in *self.journal.allocator(); call]?;
+        Ok(calls)
+    }
+
     /// Signs a challenge, if it is given one and the key isn't spent.
     fn sign_challenge(
         &mut self,
@@ -426,14 +444,15 @@ impl<M: Knowing + Drop> Node<M> {
         if !self.mind.can_sign() {
             return Ok(self.no_challenges(Some(self.mind.used())));
         }
-        let signature = self.mind.sign_challenge(channel, &own)?;
-        let OwnChallenge { chain, state, who } = own;
-        let call = Call::Challenge {
-            chain,
-            challenger: who,
-            signature: signature.copy()?,
+        let Ok(signature) = self.mind.sign_challenge(channel, &own) else {
+            drop(own);
+            return Err(NoMemory);
         };
-        let calls = vec![in *self.journal.allocator(); call]?;
+        let OwnChallenge { chain, state, who } = own;
+        let Ok(calls) = self.calls_of(chain, who, &signature) else {
+            drop(state);
+            return Err(NoMemory);
+        };
         self.write(Deed::SignedChallenge(*channel, state, who, signature))?;
         Ok(Challenged { calls, spent: None })
     }

@@ -5,7 +5,7 @@ use Rattle.std.proofs.lemmas.List.{reverse-reverse}
 use Rattle.channel_calls.specs.History.{flows_of, newest_first}
 use Rattle.channel_calls.specs.declared.entry.Entry.{Entry}
 use Rattle.flow_balances.specs.Receipts.{assets_of}
-use Rattle.history_check.specs.Sums.{sums_of}
+use Rattle.record_rules.specs.Sums.{sums_of}
 use Rattle.nitro_bytes.specs.Parts.{FixedParts}
 use Rattle.premises.specs.declared.journal.Journal.{Journal}
 use Rattle.record_bytes.specs.declared.run_record.Ending.{Ending}

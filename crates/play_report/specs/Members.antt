@@ -5,7 +5,7 @@ use Rattle.channel_calls.specs.History.{flows_of, newest_first}
 use Rattle.channel_calls.specs.declared.entry.Entry.{Entry}
 use Rattle.flow_balances.specs.Receipts.{assets_of}
 use Rattle.funding_value.specs.Known.{FactsOf}
-use Rattle.history_check.specs.Sums.{sums_of}
+use Rattle.record_rules.specs.Sums.{sums_of}
 use Rattle.net_model.specs.Valid.{IsValidEntry, IsValidEvent}
 use Rattle.net_party.specs.Ways.{Ways}
 use Rattle.net_world.specs.Members.{MemberOf}

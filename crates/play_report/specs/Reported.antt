@@ -5,7 +5,7 @@ use Rattle.channel_name.specs.Digests.{name_of_person}
 use Rattle.channel_calls.specs.History.{flows_of, newest_first}
 use Rattle.channel_calls.specs.declared.entry.Entry.{Entry}
 use Rattle.flow_balances.specs.Receipts.{assets_of}
-use Rattle.history_check.specs.Sums.{sums_of}
+use Rattle.record_rules.specs.Sums.{sums_of}
 use Rattle.net_model.specs.Hashed.{of_fixed}
 use Rattle.net_model.specs.Journals.{In}
 use Rattle.net_party.specs.Ways.{Ways}

@@ -4,7 +4,7 @@ ghost use Rattle.std.specs.Prelude.{◌≡◌, ◌≤◌, All, IfOk, OnOk, lengt
 ghost use Rattle.std.specs.List.{AllByRecursion};
 ghost use Rattle.channel_calls.specs.History.{Legal, flows_of, newest_first};
 ghost use Rattle.flow_balances.specs.Receipts.{assets_of};
-ghost use Rattle.history_check.specs.Sums.{sums_of};
+ghost use Rattle.record_rules.specs.Sums.{sums_of};
 ghost use Rattle.net_model.specs.Valid.{IsValidEvent};
 ghost use Rattle.support_chain.specs.Real.{real};
 ghost use Rattle.script_play.specs.Play.{SceneOf};
@@ -18,12 +18,12 @@ use crate::judging::judge_all;
 use crate::sharing::{exits_of, have_followed, shares_of};
 use crate::walking::{journals_are_valid, journals_of, openings_are_fixed};
 use channel_calls::Entry;
-use history_check::sums_of;
 use net_model::entries_are_valid;
 use net_world::{Docket, Member};
-use nitro_bytes::{Listed, NoMemory};
+use nitro_bytes::{Dest, Label, Listed, NoMemory};
 use premises::Journal;
 use record_bytes::{Ending, Sum};
+use record_rules::sums_of;
 use report_text::{Load, Report, Share, assets_of, balances_of};
 use reported_node::ReportedNode;
 use script_names::Names;
@@ -81,7 +81,25 @@ fn sums_in(alloc: Global, history: &[Entry]) -> Result<Vec<Sum>, NoMemory>
     ensures { IfOk result (λ sums. sums.items ≡ sums_of (flows_of history.now)) }
 {
     let balances = balances_of(alloc, history)?;
-    sums_of(alloc, &balances)
+    let sums = sums_of(alloc, &balances);
+    drop(balances);
+    sums
+}
+
+/// The declared people and channels of these names.
+fn labels_of(names: Names) -> Listed<(Dest, Label)>
+    ensures { result ≡ names.labels }
+{
+    let Names {
+        people,
+        channels,
+        states,
+        labels,
+    } = names;
+    drop(people);
+    drop(channels);
+    drop(states);
+    labels
 }
 
 /// The report of these parts of a scene: what names stand for, how long the history was after each round, the entries in the
@@ -99,6 +117,7 @@ pub fn report_of<P: ReportedNode>(
         → IfOk result (λ report. IsMade P.ways P.lost P.shares P.exits P.facts load report s) }
     ensures history { IfOk result (λ report. report.history ≡ history.items) }
 {
+    let labels = labels_of(names);
     let tales = tales_of(alloc, &history, members)?;
     entries_are_valid(&history);
     let premises = judge_all(alloc, &history, &tales.journals)?;
@@ -107,7 +126,7 @@ pub fn report_of<P: ReportedNode>(
         history: Listed::make(history),
         journals: Listed::make(tales.journals),
         rounds,
-        labels: names.labels,
+        labels,
         premises: Listed::make(premises),
         shares: Listed::make(tales.shares),
         exits: Listed::make(tales.exits),

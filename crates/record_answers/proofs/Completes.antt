@@ -4,7 +4,7 @@ use Rattle.nitro_bytes.specs.declared.fault.ByteFault.{ByteFault}
 use Rattle.byte_source.proofs.Known.{all_taken, no_more_taken}
 use Rattle.record_bytes.specs.Reading.{record_of}
 use Rattle.record_bytes.specs.declared.run_record.Record.{Record}
-use Rattle.history_check.specs.Sound.{Says}
+use Rattle.history_check.specs.Faults.{Says}
 use Rattle.history_check.specs.declared.checking.Verdict.{Verdict}
 use Rattle.history_check.specs.declared.checking.Verdict.TheVariants as verdicts
 use Rattle.history_check.proofs.Faults.{one_verdict}

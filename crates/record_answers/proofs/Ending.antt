@@ -5,7 +5,8 @@ use Rattle.nitro_bytes.specs.declared.fault.ByteFault.TheVariants as faults
 use Rattle.nitro_bytes.specs.Reading.{Fails}
 use Rattle.record_bytes.specs.Reading.{record_of}
 use Rattle.record_bytes.specs.declared.run_record.Record.{Record}
-use Rattle.history_check.specs.Sound.{IsSound, Says}
+use Rattle.record_rules.specs.Sound.{IsSound}
+use Rattle.history_check.specs.Faults.{Says}
 use Rattle.history_check.specs.declared.checking.Verdict.{Verdict}
 use Rattle.history_check.specs.declared.checking.Verdict.TheVariants as verdicts
 use Rattle.verdict_lines.specs.Lines.{fault_line, verdict_line}

@@ -6,7 +6,8 @@ use Rattle.byte_source.specs.Outside.{Rose}
 use Rattle.report_lines.specs.Text.{ended}
 use Rattle.record_bytes.specs.Reading.{record_of}
 use Rattle.record_bytes.specs.declared.run_record.Record.{Record}
-use Rattle.history_check.specs.Sound.{IsSound, Says}
+use Rattle.record_rules.specs.Sound.{IsSound}
+use Rattle.history_check.specs.Faults.{Says}
 use Rattle.history_check.specs.declared.checking.Verdict.TheVariants as verdicts
 use Rattle.verdict_lines.specs.Lines.{fault_line, verdict_line}
 use Rattle.record_answers.specs.declared.status.Status.{Status}

@@ -1,7 +1,7 @@
 //! What a program answers.
 
 ghost use Rattle.std.specs.Prelude.{◌≡◌, IfOk};
-ghost use Rattle.history_check.specs.Sound.{IsSound};
+ghost use Rattle.record_rules.specs.Sound.{IsSound};
 ghost use Rattle.record_answers.specs.Answering.{Asked};
 
 use nitro_bytes::NoMemory;

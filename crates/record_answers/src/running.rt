@@ -11,7 +11,8 @@ use byte_sink::{Sink, put_all};
 use byte_source::{ReadEnd, Source, read_all};
 use history_check::{Verdict, check_record};
 use nitro_bytes::{ByteFault, Label, NoMemory};
-use record_bytes::{Record, read_record};
+use record_bytes::Record;
+use record_reader::read_record;
 use std::alloc::Global;
 use verdict_lines::{fault_line, verdict_line};
 

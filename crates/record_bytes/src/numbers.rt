@@ -14,14 +14,3 @@ pub(crate) fn sum_number(kind: SumOf) -> u8
         SumOf::Paid => 3,
     }
 }
-
-pub(crate) fn sum_of(number: u8) -> Option<SumOf>
-    ensures { result ≡ numbers.sum_of number }
-{
-    match number {
-        1 => Some(SumOf::Deposited),
-        2 => Some(SumOf::Held),
-        3 => Some(SumOf::Paid),
-        _ => None,
-    }
-}

@@ -4,8 +4,6 @@
 mod numbers;
 mod putting;
 mod same;
-mod taking;
 
 pub use putting::{put_name, put_named, put_numbered, put_reply, put_u64};
 pub use same::same_reply;
-pub use taking::{or_bad, take_reply};

@@ -3,7 +3,7 @@ use Rattle.std.proofs.Common.{◌≡◌, ℕ, true, List, [], ◌∷◌, map, sy
 use Rattle.std.specs.List.{All}
 use Rattle.std.specs.Prelude.{Option}
 use Rattle.std.proofs.lemmas.List.Elements.{All-cons, All-nil}
-use Rattle.history_check.specs.Sound.{HasPlan, HasShares, HasSums, IsSound}
+use Rattle.record_rules.specs.Sound.{HasPlan, HasShares, HasSums, IsSound}
 use Rattle.net_party.specs.Ways.{Ways}
 use Rattle.net_party.specs.declared.command.Command.{Command}
 use Rattle.play_report.specs.Reported.{Tells, NoCollision, EndsWellIf, Promises, events}

@@ -1,7 +1,7 @@
 -- What a checker finds of the record of a report.
 use Rattle.std.specs.Prelude.{◌≡◌, ℕ, true, List, Option}
 use Rattle.channel_calls.specs.History.{Legal, newest_first}
-use Rattle.history_check.specs.Sound.{HasSums, IsSound}
+use Rattle.record_rules.specs.Sound.{HasSums, IsSound}
 use Rattle.net_party.specs.Ways.{Ways}
 use Rattle.net_party.specs.declared.command.Command.{Command}
 use Rattle.play_report.specs.Reported.{Tells, NoCollision, IsPlayed}

@@ -132,7 +132,25 @@ pub fn balances_of(alloc: Global, history: &[Entry]) -> Result<Balances, NoMemor
     Balances::of(alloc, flows)
 }
 
-/// The balances of a report's history, and the lines of the people with nodes, which tell some of them again.
+/// What balances tell, and the lines of the people with nodes, which tell some of it again.
+fn append_told(
+    alloc: Global,
+    text: &mut String,
+    labels: &[(Dest, Label)],
+    balances: &Balances,
+    report: &Report,
+) -> Result<(), NoMemory>
+    requires { AreWithinAmounts balances.now }
+    ensures { OnOk result (string_bytes text.new
+        ≡ string_bytes text.old ++ balance_lines labels.now balances.now
+        ++ flat_map (person_lines labels.now balances.now report.now.shares report.now.exits) report.now.premises) }
+{
+    append_tables(alloc, text, labels, balances)?;
+    append_people(alloc, text, labels, balances, report)?;
+    Ok(())
+}
+
+/// The balances of a report's history, and the lines of the people with nodes.
 fn append_sums(
     alloc: Global,
     text: &mut String,
@@ -145,9 +163,9 @@ fn append_sums(
         ++ flat_map (person_lines labels.now (flows_of report.now.history) report.now.shares report.now.exits) report.now.premises) }
 {
     let balances = balances_of(alloc, report.history.as_slice())?;
-    append_tables(alloc, text, labels, &balances)?;
-    append_people(alloc, text, labels, &balances, report)?;
-    Ok(())
+    let appended = append_told(alloc, text, labels, &balances, report);
+    drop(balances);
+    appended
 }
 
 fn load_line(alloc: Global, load: &Load) -> Result<String, AllocError>

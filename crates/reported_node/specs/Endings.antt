@@ -5,7 +5,7 @@ use Rattle.channel_calls.specs.declared.entry.Entry.{Entry}
 use Rattle.channel_name.specs.Digests.{name_of_person}
 use Rattle.flow_balances.specs.Receipts.{assets_of}
 use Rattle.funding_value.specs.Known.{FactsOf}
-use Rattle.history_check.specs.Sound.{HasPlan, HasShares}
+use Rattle.record_rules.specs.Sound.{HasPlan, HasShares}
 use Rattle.node_model.specs.Minds.{facts_of}
 use Rattle.node_model.specs.Places.{Told, mind_at}
 use Rattle.record_bytes.specs.declared.run_record.Ending.{Ending}

@@ -9,7 +9,7 @@ ghost use Rattle.nitro_bytes.specs.Spelling.{state};
 ghost use Rattle.nitro_bytes.specs.Spelling as spelling;
 ghost use Rattle.nitro_bytes.specs.declared.value.Dest.TheVariants as dests;
 ghost use Rattle.app_rules.specs.Ballots.{data_of};
-ghost use Rattle.channel_name.specs.Digests.{digest_of_state};
+ghost use Rattle.channel_name.specs.Digests.{digest_of_state, name_of_person};
 ghost use Rattle.named_states.specs.Chains.{state_by, listed, chain_of};
 ghost use Rattle.script_rules.specs.Digests.{key_of, fresh};
 ghost use Rattle.script_rules.specs.declared.step.Step.TheVariants as steps;
@@ -254,6 +254,25 @@ impl Names {
         self.labels.push((to, name))
     }
 
+    /// One more person, whose number is the next one. Its hand has the signer where no node has it.
+    fn add_person(&mut self, name: &Label, key: Key, hand: Option<Signer>) -> Result<(), NoMemory>
+        requires few { length self.old.people < 16 }
+        ensures { OnOk result (self.new ≡ record self.old {
+          people = self.old.people ++ record { number = length self.old.people + 1; name = name.now; key = key; hand = hand } ∷ [];
+          labels = self.old.labels ++ (dests.Person (name_of_person key), name.now) ∷ [];
+        }) }
+    {
+        let number = self.people.as_slice().len() as u32 + 1;
+        let copy = name.copy()?;
+        self.people.push(Person {
+            number,
+            name: copy,
+            key,
+            hand,
+        })?;
+        self.label(Dest::Person(person_name(&key)), name)
+    }
+
     /// Declares a person. The signer goes to its node, which has watchers, or else is its hand.
     #[tactic(auto, unfolding(script_rules::specs::Digests::key_of))]
     pub fn person(
@@ -270,21 +289,13 @@ impl Names {
         ensures { IfOk result (λ e. doing self.new e ≡ meaning self.old (steps.Person name.now seed.now h node watchers)) }
     {
         let key = signer.public();
+        if !node {
+            self.add_person(name, key, Some(signer))?;
+            return Ok(Effect::Nothing);
+        }
         let number = self.people.as_slice().len() as u32 + 1;
-        let copy = name.copy()?;
-        let (hand, effect) = if node {
-            (None, Effect::Join(number, signer, watchers))
-        } else {
-            (Some(signer), Effect::Nothing)
-        };
-        self.people.push(Person {
-            number,
-            name: copy,
-            key,
-            hand,
-        })?;
-        self.label(Dest::Person(person_name(&key)), name)?;
-        Ok(effect)
+        self.add_person(name, key, None)?;
+        Ok(Effect::Join(number, signer, watchers))
     }
 
     /// Declares a channel. Where its parts make none, nothing is declared.

@@ -57,10 +57,13 @@ fn named_of(alloc: Global, context: &Context, value: &Value) -> Result<Written, 
     ensures { Gives (λ w. w) result (named_of context.now (view value.now)) }
 {
     let written = written_of(alloc, value)?;
-    if !knows_names(context, &written) {
-        return Err(StepFault::Broken(Rule::Name));
+    if knows_names(context, &written) {
+        Ok(written)
+    } else {
+        // (by a call, since a drop in place is proved for each variant anew)
+        drop(written);
+        Err(StepFault::Broken(Rule::Name))
     }
-    Ok(written)
 }
 
 /// Reads a step whose names lead somewhere.
@@ -100,6 +103,11 @@ pub(crate) fn step_of(
     ensures signer { IfOk result (λ r. r.1 ≡ signer_of r.0) }
 {
     let step = led(alloc, context, value)?;
-    let signer = limited(alloc, context, &step)?;
-    Ok((step, signer))
+    match limited(alloc, context, &step) {
+        Ok(signer) => Ok((step, signer)),
+        Err(fault) => {
+            drop(step);
+            Err(fault)
+        }
+    }
 }

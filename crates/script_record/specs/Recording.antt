@@ -1,7 +1,7 @@
 -- What a recording comes to.
 use Rattle.std.specs.Prelude.{◌≡◌, ◌⊎◌, ◌&&◌, ◌||◌, ℕ, List, [], ◌∷◌, Bool, false, Option, Some, None, codes, if◌then◌else◌}
 use Rattle.std.specs.Str.{bytes_eq}
-use Rattle.history_check.specs.Sound.{IsSound}
+use Rattle.record_rules.specs.Sound.{IsSound}
 use Rattle.net_party.specs.Ways.{Ways}
 use Rattle.play_report.specs.Reported.{IsPlayed}
 use Rattle.race_report.specs.Raced.{IsOfRace}

@@ -43,8 +43,14 @@ impl Docket for Records {
     }
 
     fn enter(&mut self, by: u32, op: Op) -> Result<(), NoMemory> {
-        self.adjudicator.reserve()?;
-        self.history.reserve(1)?;
+        let Ok(()) = self.adjudicator.reserve() else {
+            drop(op);
+            return Err(NoMemory);
+        };
+        let Ok(()) = self.history.reserve(1) else {
+            drop(op);
+            return Err(NoMemory);
+        };
         let number = (self.history.len() + 1) as u32;
         let reply = self.adjudicator.apply(&op);
         self.history.push_reserved(Entry {
@@ -61,6 +67,11 @@ impl Docket for Records {
     }
 
     fn into_entries(self) -> Vec<Entry> {
-        self.history
+        let Records {
+            adjudicator,
+            history,
+        } = self;
+        drop(adjudicator);
+        history
     }
 }

@@ -1,5 +1,5 @@
 use Rattle.std.proofs.Common.{◌≡◌, take}
-use Rattle.history_check.specs.Plans.{joined}
+use Rattle.record_rules.specs.Plans.{joined}
 use Rattle.history_check.proofs.plans.joined.Given as goal
 
 abbrev pub invariant-loop-part : goal.invariant-loop-part

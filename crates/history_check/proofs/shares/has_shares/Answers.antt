@@ -1,7 +1,7 @@
 use Rattle.std.proofs.Common.{◌≡◌, ℕ, true, List, sym, ◌∙◌, ap, subst, ◌↔◌}
 use Rattle.std.specs.Prelude.{IsTrue}
 use Rattle.channel_calls.specs.declared.held_chain.Known.{Known}
-use Rattle.history_check.specs.Plans.{joined, firsts}
+use Rattle.record_rules.specs.Plans.{joined, firsts}
 use Rattle.history_check.specs.Seen.{are_joined}
 use Rattle.history_check.proofs.Joining.{firsts_joined, shares_wanted}
 use Rattle.history_check.proofs.shares.has_shares.Goals as goal

@@ -2,7 +2,7 @@ use Rattle.std.proofs.Common.{rules, List, ◌∙◌, ap, sym, subst, length, ma
 use Rattle.channel_calls.specs.History.{flows_of, newest_first}
 use Rattle.channel_calls.specs.declared.entry.Entry.{Entry}
 use Rattle.flow_balances.specs.Receipts.{assets_of}
-use Rattle.history_check.specs.Sums.{sums_of}
+use Rattle.record_rules.specs.Sums.{sums_of}
 use Rattle.play_report.proofs.Made.{made_so}
 use Rattle.play_report.specs.Members.{AllFollowed}
 use Rattle.play_report.specs.Shares.{known_shares, known_exits, known_ending}
@@ -10,7 +10,7 @@ use Rattle.play_report.proofs.making.report_of.Goals as goal
 
 pub returns-clause-made : goal.returns-clause-made
 returns-clause-made g c s parts =
-    made_so g.P.Party.ways g.P.Party.lost g.P.ReportedNode.shares g.P.ReportedNode.exits g.P.ReportedNode.facts c.args.load
+    rw c.labels_of-labels.ensures (made_so g.P.Party.ways g.P.Party.lost g.P.ReportedNode.shares g.P.ReportedNode.exits g.P.ReportedNode.facts c.args.load
     (record {
       history = c.make.result;
       journals = c.make-2.result;
@@ -31,4 +31,4 @@ returns-clause-made g c s parts =
     (c.make-6.ensures ∙ (c.in_ok-tales.ensures.ends ∙ ap (λ (h : List Entry). map (λ m. known_ending g.P.Party.ways g.P.ReportedNode.facts g.P.ReportedNode.shares (assets_of (flows_of h)) m.node) c.args.members.now) (c.deref.ensures.value ∙ sym c.make.ensures)))
     (c.make-7.ensures ∙ (c.in_ok-sums.ensures ∙ ap (λ (h : List Entry). sums_of (flows_of h)) (c.deref-5.ensures.value ∙ sym c.make.ensures)))
     (search rules) (search rules) (search rules)
-    c.in_ok-tales.ensures.fixed (subst (λ (h : List Entry). AllFollowed g.P.Party.ways g.P.Party.lost (length h) c.args.members.now) (c.deref.ensures.value ∙ sym c.make.ensures) c.in_ok-tales.ensures.followed)
+    c.in_ok-tales.ensures.fixed (subst (λ (h : List Entry). AllFollowed g.P.Party.ways g.P.Party.lost (length h) c.args.members.now) (c.deref.ensures.value ∙ sym c.make.ensures) c.in_ok-tales.ensures.followed))

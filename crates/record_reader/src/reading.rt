@@ -1,0 +1,53 @@
+//! Records from their canonical bytes.
+
+ghost use Rattle.std.specs.Prelude.{◌≡◌, IfOk, Ok};
+ghost use Rattle.nitro_bytes.specs.Reading.{Gives};
+ghost use Rattle.record_bytes.specs.Spelling as spelling;
+ghost use Rattle.record_bytes.specs.Limits.{IsRecord, KeepsRecord};
+ghost use Rattle.record_bytes.specs.Reading.{record_at, record_of};
+ghost use Rattle.record_bytes.specs.declared.run_record.Record.{Record as AnyRecord};
+
+use crate::endings::take_endings;
+use crate::entries::{take_entries, take_sums};
+use nitro_bytes::{ByteFault, ended};
+use record_bytes::Record;
+use std::alloc::Global;
+
+#[tactic(auto, unfolding(record_bytes::specs::Reading::record_at))]
+fn take_record(alloc: Global, whole: usize, bytes: &[u8]) -> Result<(Record, &[u8]), ByteFault>
+    ensures { Gives (λ x. (x.0, x.1.now)) result (record_at whole bytes.now) }
+{
+    let (history, rest) = take_entries(alloc, whole, bytes)?;
+    let (sums, rest) = take_sums(alloc, whole, rest)?;
+    let (ends, rest) = take_endings(alloc, whole, rest)?;
+    let record = Record {
+        history,
+        sums,
+        ends,
+    };
+    Ok((record, rest))
+}
+
+#[tactic(auto, unfolding(nitro_bytes::specs::Reading::all_of))]
+fn record_from(alloc: Global, bytes: &[u8]) -> Result<Record, ByteFault>
+    ensures { Gives (λ x. x) result (record_of bytes.now) }
+{
+    let whole = bytes.len();
+    let (record, rest) = take_record(alloc, whole, bytes)?;
+    ended(whole, record, rest)
+}
+
+/// The record that the bytes spell, all of the bytes, or the first fault.
+pub fn read_record(alloc: Global, bytes: &[u8]) -> Result<Record, ByteFault>
+    // What is read keeps the limits, and the input is its spelling.
+    ensures found { IfOk result (λ r. IsRecord r × (bytes.now ≡ spelling.run_record r)) }
+    // So it may be written.
+    ensures keeps { IfOk result KeepsRecord }
+    // A spelling is read, unless memory runs out.
+    ensures only { (r : AnyRecord)
+        → IsRecord r → bytes.now ≡ spelling.run_record r → Gives (λ x. x) result (Ok r) }
+    // Which fault it is.
+    ensures exact { Gives (λ x. x) result (record_of bytes.now) }
+{
+    record_from(alloc, bytes)
+}
