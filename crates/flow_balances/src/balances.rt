@@ -59,6 +59,17 @@ impl Balances {
         &self.assets
     }
 
+    /// The assets in a list of their own, rising.
+    pub fn listed_assets(&self, alloc: Global) -> Result<Vec<u32>, NoMemory>
+        ensures { IfOk result (λ assets. assets.items ≡ assets_of self.now) }
+    {
+        let mut assets = Vec::new(alloc);
+        for asset in self.assets().iter() {
+            assets.push(*asset)?;
+        }
+        Ok(assets)
+    }
+
     /// Who received something, with its asset, in the order of first receipt.
     pub fn receivers(&self) -> &[(Dest, u32)]
         ensures { result.now ≡ receivers_of self.now }

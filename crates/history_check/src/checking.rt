@@ -15,7 +15,7 @@ use channel_calls::Flow;
 use flow_balances::Balances;
 use nitro_bytes::NoMemory;
 use record_bytes::Record;
-use record_rules::{assets_of, sums_of};
+use record_rules::sums_of;
 use std::alloc::Global;
 
 /// What is said of a record.
@@ -52,7 +52,7 @@ fn share_fault(
     requires flows { balances.now ≡ flows_of value.now.history }
     ensures { IfOk result (Lacks (HasShares value.now.history) value.now.ends) }
 {
-    let assets = assets_of(alloc, balances)?;
+    let assets = balances.listed_assets(alloc)?;
     first_bad_share(alloc, past, &assets, value.ends.as_slice())
 }
 

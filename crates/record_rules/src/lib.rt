@@ -3,4 +3,4 @@
 
 mod sums;
 
-pub use sums::{assets_of, sums_of};
+pub use sums::sums_of;

@@ -2,7 +2,6 @@
 
 ghost use Rattle.std.specs.Prelude.{◌≡◌, ◌++◌, map, flat_map, IfOk, OnOk};
 ghost use Rattle.channel_calls.specs.Flows.{AreWithinAmounts};
-ghost use Rattle.flow_balances.specs.Receipts.{assets_of};
 ghost use Rattle.record_rules.specs.Sums as sums;
 
 use flow_balances::Balances;
@@ -114,17 +113,6 @@ fn put_all_paid(
     Ok(())
 }
 
-/// The assets of balances, rising.
-pub fn assets_of(alloc: Global, balances: &Balances) -> Result<Vec<u32>, NoMemory>
-    ensures { IfOk result (λ assets. assets.items ≡ assets_of balances.now) }
-{
-    let mut assets = Vec::new(alloc);
-    for asset in balances.assets().iter() {
-        assets.push(*asset)?;
-    }
-    Ok(assets)
-}
-
 /// What was deposited of each asset, rising; then what each channel holds, and what each person was paid, in the order
 /// in which they first received something.
 pub fn sums_of(alloc: Global, balances: &Balances) -> Result<Vec<Sum>, NoMemory>
@@ -132,7 +120,7 @@ pub fn sums_of(alloc: Global, balances: &Balances) -> Result<Vec<Sum>, NoMemory>
     ensures { IfOk result (λ all. all.items ≡ sums.sums_of balances.now) }
 {
     let mut all = Vec::new(alloc);
-    let assets = assets_of(alloc, balances)?;
+    let assets = balances.listed_assets(alloc)?;
     put_deposited(&mut all, balances, &assets)?;
     put_all_held(&mut all, balances, balances.receivers())?;
     put_all_paid(&mut all, balances, balances.receivers())?;

@@ -32,24 +32,13 @@ pub(crate) fn flows_of(alloc: Global, history: &[Entry]) -> Result<Vec<Flow>, Al
     Ok(flows)
 }
 
-/// The assets of balances, rising.
-fn assets_in(alloc: Global, balances: &Balances) -> Result<Vec<u32>, NoMemory>
-    ensures { IfOk result (λ assets. assets.items ≡ assets_of balances.now) }
-{
-    let mut assets = Vec::new(alloc);
-    for asset in balances.assets().iter() {
-        assets.push(*asset)?;
-    }
-    Ok(assets)
-}
-
 /// The assets of a history, rising.
 pub fn assets_of(alloc: Global, history: &[Entry]) -> Result<Vec<u32>, NoMemory>
     ensures { IfOk result (λ assets. assets.items ≡ assets_of (flows_of history.now)) }
 {
     let flows = flows_of(alloc, history)?;
     let balances = Balances::of(alloc, flows)?;
-    let assets = assets_in(alloc, &balances);
+    let assets = balances.listed_assets(alloc);
     drop(balances);
     assets
 }

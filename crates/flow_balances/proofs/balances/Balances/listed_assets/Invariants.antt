@@ -1,6 +1,6 @@
 use Rattle.std.proofs.Common.{◌≡◌, ◌++◌}
 use Rattle.flow_balances.specs.Receipts.{assets_of}
-use Rattle.record_rules.proofs.sums.assets_of.Given as goal
+use Rattle.flow_balances.proofs.balances.Balances.listed_assets.Given as goal
 
 abbrev pub invariant-loop-asset : goal.invariant-loop-asset
-invariant-loop-asset l = l.assets.items ++ l.asset-iterator ≡ assets_of l.balances
+invariant-loop-asset l = l.assets.items ++ l.asset-iterator ≡ assets_of l.self
