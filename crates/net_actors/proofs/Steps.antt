@@ -19,10 +19,7 @@ use Rattle.round_model.specs.Players.{Player, Asks, AsksIf, posts_of, act_gave}
 use Rattle.round_model.specs.Workers.{NodeActs, NodeWatches}
 use Rattle.round_model.specs.declared.actor.Act.{Act}
 use Rattle.round_model.specs.Working.{Given, given_at, Works, Working}
-use Rattle.net_actors.proofs.Works.{works-none, works-then}
-
-starts-length : (h g : List Entry) → StartsWith h g → length g ≤ length h
-starts-length h g s = omega (arith, ap length s.1, length-append g s.0)
+use Rattle.net_actors.proofs.Works.{starts-length, works-none, works-then}
 
 module _ {P : Type 0} (ways : Ways P) where
   -- ---- a node acts

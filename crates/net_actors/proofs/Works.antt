@@ -11,6 +11,10 @@ use Rattle.adjudicator_book.proofs.Entries.{has_later, later_of}
 use Rattle.support_chain.specs.Real.{real}
 use Rattle.adjudicator_core.specs.Shared.{entry_after}
 use Rattle.round_model.specs.Working.{HasOp, Given, given_at, AreEntered, Works}
+use Rattle.round_model.proofs.Rising.{rise-none, rise-one, rise-append}
+
+pub starts-length : (h g : List Entry) → StartsWith h g → length g ≤ length h
+starts-length h g s = omega (arith, ap length s.1, length-append g s.0)
 
 pub entered-later : (h h' : List Entry) (numbers : List ℕ) (gave : List Given) → StartsWith h' h → AreEntered h numbers gave → AreEntered h' numbers gave
 entered-later h h' [] [] s e = tt
@@ -26,7 +30,7 @@ entered-append h [] ms (c ∷ cs) ds p q = absurd p
 entered-append h (n ∷ ns) ms [] ds p q = absurd p
 
 pub works-none : (c : Caller Entry) → Works [] c c
-works-none c = record { book = refl; part = refl; later = starts_refl c.seen; legal = λ l. l; numbers = []; made = sym (append-nil c.made); entered = tt }
+works-none c = record { book = refl; part = refl; later = starts_refl c.seen; legal = λ l. l; numbers = []; made = sym (append-nil c.made); entered = tt; rise = rise-none (length c.seen) (length c.seen) (omega arith) }
 
 pub works-then : (cs ds : List Given) (c d e : Caller Entry) → Works cs c d → Works ds d e → Works (cs ++ ds) c e
 works-then cs ds c d e p q = record {
@@ -37,6 +41,7 @@ works-then cs ds c d e p q = record {
   numbers = p.numbers ++ q.numbers;
   made = q.made ∙ (ap (λ (l : List ℕ). l ++ q.numbers) p.made ∙ append_assoc c.made p.numbers q.numbers);
   entered = entered-append e.seen p.numbers q.numbers cs ds (entered-later d.seen e.seen p.numbers cs q.later p.entered) q.entered;
+  rise = rise-append (length c.seen) (length d.seen) (length d.seen) (length e.seen) p.numbers q.numbers (omega arith) p.rise q.rise;
 }
 
 pub works-look : (c d : Caller Entry) → Looks (entry_after real) c d → Works [] c d
@@ -48,6 +53,7 @@ works-look c d l = record {
   numbers = [];
   made = l.later.made ∙ sym (append-nil c.made);
   entered = tt;
+  rise = rise-none (length c.seen) (length d.seen) (starts-length d.seen c.seen l.later.seen);
 }
 
 pub works-enter : (by : ℕ) (call : Call) (number : ℕ) (reply : Reply) (c d : Caller Entry) → Enters (entry_after real) (λ (x : Entry). x.reply) by (ops.Call call) number reply c d
@@ -61,6 +67,7 @@ works-enter by call number reply c d e has seen le =
       numbers = number ∷ [];
       made = e.made;
       entered = (record { after = longer c.seen e.between e.entry seen number le (e.number_is ∙ ap length e.seen); there = has }, tt);
+      rise = rise-one (length c.seen) number (length d.seen) (longer c.seen e.between e.entry (length c.seen) number (omega arith) (e.number_is ∙ ap length e.seen)) (omega (arith, e.number_is));
     }
   where
     longer : (xs ys : List Entry) (x : Entry) (seen number : ℕ) → seen ≤ length xs → number ≡ length ((xs ++ ys) ++ x ∷ []) → seen < number
@@ -80,8 +87,5 @@ pub entered_more : (by : ℕ) (taken : List Call) (call : Call) (c d e : Caller 
     → ((seen : ℕ) → seen ≤ length d.seen → Works (given_at by seen (call ∷ [])) d e) → (seen : ℕ) → seen ≤ length c.seen → Works (given_at by seen (taken ++ call ∷ [])) c e
 entered_more by taken call c d e all one seen le =
     let w = all seen le in
-    let low : length c.seen ≤ length d.seen = up w.later in
+    let low : length c.seen ≤ length d.seen = starts-length d.seen c.seen w.later in
     subst (λ (l : List Given). Works l c e) (sym (given-append by seen taken (call ∷ []))) (works-then (given_at by seen taken) (given_at by seen (call ∷ [])) c d e w (one seen (omega arith)))
-  where
-    up : StartsWith d.seen c.seen → length c.seen ≤ length d.seen
-    up s = omega (arith, ap length s.1, length-append c.seen s.0)

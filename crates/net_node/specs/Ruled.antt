@@ -59,7 +59,8 @@ pub nodes_play : JournalsAreByRules ways IsPlaced told
 unfolding signing_of
 nodes_play h p legal valid placed =
     record {
-      signer = signing_of p.node.signer;
+      signer = p.node.signer;
+      fits = placed.sound;
       owns = refl;
       signs = made_keys_sign_well p.node.signer placed.sound;
       plays = plays;

@@ -3,6 +3,8 @@
 ghost use Rattle.std.specs.List.{AllByRecursion};
 ghost use Rattle.nitro_bytes.specs.Parts.{IsFixed};
 ghost use Rattle.node_model.specs.Openings.{opened_by};
+ghost use Rattle.challenge_laws.proofs.Owning.{nodes_own, own_calls};
+ghost use Rattle.challenge_laws.specs.Owning.{owns};
 ghost use Rattle.node_way_laws.proofs.Commanding.{nodes_follow_commands};
 ghost use Rattle.node_way_laws.proofs.Kept.{nodes_are_kept};
 ghost use Rattle.node_way_laws.specs.Commanded.{told};
@@ -67,6 +69,8 @@ impl ReportedNode for Node {
 
     ghost reported = { told };
 
+    ghost owns = { owns };
+
     fn share(&self, asset: u32) -> Result<u128, NoMemory> {
         share_known(self.alloc(), self.mind(), asset)
     }
@@ -99,6 +103,10 @@ impl ReportedNode for Node {
     ghost opens = { lines_open };
 
     ghost commands = { nodes_follow_commands };
+
+    ghost goes_on = { nodes_own };
+
+    ghost calls = { own_calls };
 
     ghost gets = { nodes_get };
 

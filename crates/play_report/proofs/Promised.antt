@@ -20,7 +20,7 @@ use Rattle.net_model.specs.Valid.{IsValidEntry, IsValidEvent}
 use Rattle.net_party.specs.Ways.{Ways}
 use Rattle.net_party.specs.declared.command.Command.{Command}
 use Rattle.net_world.specs.Members.{MemberOf}
-use Rattle.net_laws.proofs.Real.{network-safe}
+use Rattle.net_laws.proofs.Real.{network-safe, network-cleared}
 use Rattle.net_laws.proofs.Valid.{events-valid}
 use Rattle.node_model.specs.Named.{named_by, named_in}
 use Rattle.node_laws.proofs.Bridging.{In-lines}
@@ -33,6 +33,7 @@ use Rattle.premises.specs.Collision.{DistinctWith}
 use Rattle.premises.specs.Telling.{strings_opened}
 use Rattle.premises.specs.declared.journal.Journal.{Journal}
 use Rattle.record_bytes.specs.declared.run_record.Ending.{Ending}
+use Rattle.reported_node.specs.Challenges.{CallsOwnChallenges}
 use Rattle.reported_node.specs.Endings.{facts_at_end, ending_of, EndsWell}
 use Rattle.report_text.specs.declared.report.Judged.{Judged}
 use Rattle.report_text.specs.declared.report.Load.{Load}
@@ -43,13 +44,14 @@ use Rattle.script_play.specs.Play.{SceneOf, play}
 use Rattle.script_rules.specs.Bounds.{Fits}
 use Rattle.script_rules.specs.declared.step.Step.{Step}
 use Rattle.support_chain.specs.Real.{real}
-use Rattle.reported_node.specs.Promised.{Pairwise, share_at_end, share_after, IsByRules, IsHonest, StaysSafe, SignsFairly, KeepsShare, IsPaidOnExit}
-use Rattle.reported_node.specs.Telling.{AreTold, HaveFixed, LinesAreTold, IsToldBy, TellsCommands, amount_then, AreThose, SharesAreReal, ExitsAreReal, FactsAreReal, JournalsAreByRules, KeepsIf, KeepsShares}
+use Rattle.reported_node.specs.Promised.{Pairwise, share_at_end, share_after, IsHonest, StaysSafe, FewChallengesAreCleared, SignsFairly, KeepsShare, IsPaidOnExit}
+use Rattle.reported_node.proofs.Once.{is_honest}
+use Rattle.reported_node.specs.Telling.{AreTold, HaveFixed, LinesAreTold, IsToldBy, TellsCommands, amount_then, AreThose, SharesAreReal, ExitsAreReal, FactsAreReal, OwnersGoOn, OwnersCallTheirOwn, JournalsAreByRules, KeepsIf, KeepsShares}
 use Rattle.world_laws.specs.Standing.{AreKept, IsWorld}
 use Rattle.play_report.proofs.Lines.{adds_in, lines_told, adds_fixed}
 use Rattle.play_report.proofs.Pairs.{all_reverse, in_all}
 use Rattle.play_report.specs.Members.{IsMade}
-use Rattle.play_report.specs.Reported.{IsJudged, AreJudged, shares_of, exits_after, journal_of, events, Tells, IsSafeIf, IsFairIf, EndsWellIf, IsInTimeIf, Premised, Promises, IsPlayed}
+use Rattle.play_report.specs.Reported.{IsJudged, AreJudged, shares_of, exits_after, journal_of, events, Tells, IsSafeIf, ClearsFewIf, IsFairIf, EndsWellIf, IsInTimeIf, Premised, Promises, IsPlayed}
 use Rattle.play_report.specs.Shares.{HasFollowed, exits_for, exits_if, known_shares, known_exits, known_amounts, known_ending}
 
 -- ---- the fixed parts that a journal opens are among those that its accepted commands name
@@ -139,6 +141,7 @@ module _ {P : Type 0} (ways : Ways P) (stands : List Entry → P → Type 0) (lo
     (kept : AreKept ways stands) (tells : (p : P) → AreTold (ways.lines p) (reverse (ways.journal p))) (opens : LinesAreTold ways told)
     (gets : SharesAreReal ways stands lost shares told) (got : ExitsAreReal ways stands lost exits told) (knows : FactsAreReal ways stands lost facts told) (rules : JournalsAreByRules ways stands told) (holds : KeepsShares ways stands told)
     (command : ℕ → Option Command) (scene : SceneOf P) (world : IsWorld stands scene.world) (by : (m : MemberOf P) → In m scene.world.members → told m.node ≡ events command (journal_of ways m))
+    (called : (m : MemberOf P) → In m scene.world.members → CallsOwnChallenges (told m.node))
     (load : Option Load) (r : Report) (made : IsMade ways lost shares exits facts load r scene) where
   abbrev past : List Entry
   past = newest_first r.history
@@ -282,6 +285,11 @@ module _ {P : Type 0} (ways : Ways P) (stands : List Entry → P → Type 0) (lo
           subst (λ (xs : List Told). DistinctWith r.history r.journals (strings_opened (lines_of key xs)) → StaysSafe past key xs) (by m there)
           (λ apart. network-safe past (lines_of key own) values key legal honest (unforged a) (none-opened apart) (early b))
 
+      few-if : ClearsFewIf command r (journal_of ways m) p
+      few-if a =
+          subst (λ (xs : List Told). DistinctWith r.history r.journals (strings_opened (lines_of key xs)) → FewChallengesAreCleared past key xs) (by m there)
+          (λ apart. network-cleared past (lines_of key own) values key legal honest (unforged a) (none-opened apart))
+
       fair-if : IsFairIf command r (journal_of ways m) p
       fair-if a = turned (λ (xs : List Told). SignsFairly past key xs) (λ apart. keeps.fair values (unforged a) (none-collide apart))
 
@@ -295,7 +303,7 @@ module _ {P : Type 0} (ways : Ways P) (stands : List Entry → P → Type 0) (lo
       paid-if a b = turned (λ (xs : List Told). IsPaidOnExit past key xs) (λ apart. keeps.paid values (unforged a) (none-collide apart) (early b))
 
     honest-all : IsHonest past key (events command (journal_of ways m))
-    honest-all = subst (IsHonest past key) (by m there) (honest, rules past m.node legal valid (stood m there))
+    honest-all = subst (IsHonest past key) (by m there) (is_honest past key own honest (rules past m.node legal valid (stood m there)))
 
   -- ---- all
 
@@ -313,7 +321,10 @@ module _ {P : Type 0} (ways : Ways P) (stands : List Entry → P → Type 0) (lo
   pub promises : Promises command r
   promises = record {
     honest = λ j i. let f = from j i in subst (λ (k : Journal). IsHonest past k.key (events command k)) (sym f.is) (honest-all f.member f.there);
+    challenges = λ j i. let f = from j i in
+        subst (λ (k : Journal). CallsOwnChallenges (events command k)) (sym f.is) (subst CallsOwnChallenges (by f.member f.there) (called f.member f.there));
     safe = pairs (IsSafeIf command r) safe-if;
+    few = pairs (ClearsFewIf command r) few-if;
     fair = pairs (IsFairIf command r) fair-if;
     ends = pairs (EndsWellIf command r) ends-if;
     kept = pairs (Premised command r KeepsShare) kept-if;
@@ -337,10 +348,13 @@ module _ {P : Type 0} (ways : Ways P) (stands : List Entry → P → Type 0) (lo
 pub is_played : {P : Type 0} (ways : Ways P) (stands : List Entry → P → Type 0) (lost : P → Bool) (shares : P → ℕ → ℕ) (exits : P → Option (List (ℕ × ℕ))) (facts : P → FactsOf) (told : P → List Told)
     → AreKept ways stands → ((p : P) → AreTold (ways.lines p) (reverse (ways.journal p))) → LinesAreTold ways told → TellsCommands ways told
     → SharesAreReal ways stands lost shares told → ExitsAreReal ways stands lost exits told → FactsAreReal ways stands lost facts told → JournalsAreByRules ways stands told → KeepsShares ways stands told
+    → (owns : P → Type 0) → OwnersGoOn ways owns → OwnersCallTheirOwn owns told
     → (steps : List Step) → All Fits steps → (load : Option Load) (r : Report) → IsMade ways lost shares exits facts load r (play ways steps) → IsPlayed ways load r steps
-is_played ways stands lost shares exits facts told kept tells opens commands gets got knows rules holds steps fit load r made =
+is_played {P} ways stands lost shares exits facts told kept tells opens commands gets got knows rules holds owns going calls steps fit load r made =
     let world : IsWorld stands (play ways steps).world = (plays_are_kept ways stands kept).worlds steps fit in
-    let by = plays_follow_commands ways (IsToldBy ways told) commands steps fit in record {
-      tells = tells_scene ways stands lost shares exits facts told kept tells opens gets got knows rules holds (command_of steps) (play ways steps) world by load r made;
-      keeps = promises ways stands lost shares exits facts told kept tells opens gets got knows rules holds (command_of steps) (play ways steps) world by load r made;
+    let by = plays_follow_commands ways (IsToldBy ways told) commands steps fit in
+    let own = plays_follow_commands ways (λ c. owns) going steps fit in
+    let called = λ (m : MemberOf P) (i : In m (play ways steps).world.members). calls m.node (own m i) in record {
+      tells = tells_scene ways stands lost shares exits facts told kept tells opens gets got knows rules holds (command_of steps) (play ways steps) world by called load r made;
+      keeps = promises ways stands lost shares exits facts told kept tells opens gets got knows rules holds (command_of steps) (play ways steps) world by called load r made;
     }

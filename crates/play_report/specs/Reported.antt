@@ -25,8 +25,9 @@ use Rattle.report_text.specs.declared.report.Share.{Share}
 use Rattle.script_names.specs.Commands.{command_of}
 use Rattle.script_play.specs.Play.{SceneOf, play}
 use Rattle.script_rules.specs.declared.step.Step.{Step}
+use Rattle.reported_node.specs.Challenges.{CallsOwnChallenges}
 use Rattle.reported_node.specs.Endings.{ending_of, EndsWell}
-use Rattle.reported_node.specs.Promised.{Pairwise, share_at_end, share_after, IsHonest, StaysSafe, SignsFairly, KeepsShare, IsPaidOnExit}
+use Rattle.reported_node.specs.Promised.{Pairwise, share_at_end, share_after, IsHonest, StaysSafe, FewChallengesAreCleared, SignsFairly, KeepsShare, IsPaidOnExit}
 
 -- ---- premises
 
@@ -100,6 +101,10 @@ module _ (commands : ℕ → Option Command) where
     abbrev pub IsSafeIf : Journal → Judged → Type 0
     IsSafeIf j p = p.unforged ≡ true → p.in_time ≡ true → NoneOpenedCollide j → StaysSafe (newest_first r.history) j.key (events j)
 
+    -- Where nothing of the person is told to be forged, and none of these strings collide, few of its challenges are cleared.
+    abbrev pub ClearsFewIf : Journal → Judged → Type 0
+    ClearsFewIf j p = p.unforged ≡ true → NoneOpenedCollide j → FewChallengesAreCleared (newest_first r.history) j.key (events j)
+
     -- Where nothing of the person is told to be forged, and no strings collide, its own signatures are fair.
     abbrev pub IsFairIf : Journal → Judged → Type 0
     IsFairIf j p = p.unforged ≡ true → NoCollision j → SignsFairly (newest_first r.history) j.key (events j)
@@ -116,12 +121,14 @@ module _ (commands : ℕ → Option Command) where
     abbrev pub Premised : (List Entry → List ℕ → List Told → Type 0) → Journal → Judged → Type 0
     Premised Promise j p = p.unforged ≡ true → p.in_time ≡ true → NoCollision j → Promise (newest_first r.history) j.key (events j)
 
-    -- Each person with a node has an honest journal over the whole history. Where its premises are told to hold it is safe, its
-    -- own signatures are fair, a checker finds no fault in how it ended, nobody lowers its share and it can leave with it; and
+    -- Each person with a node has an honest journal over the whole history, which signs with no index of its key twice, and
+    -- it called no challenge but one that it signed right before. Where its premises are told to hold it is safe, few of its challenges are cleared, its own signatures are fair, a checker finds no fault in how it ended, nobody lowers its share and it can leave with it; and
     -- what is told of its exit is paid to it.
     pub record Promises : Type 0 where
       pub honest : (j : Journal) → In j r.journals → IsHonest (newest_first r.history) j.key (events j)
+      pub challenges : (j : Journal) → In j r.journals → CallsOwnChallenges (events j)
       pub safe : Pairwise IsSafeIf r.journals r.premises
+      pub few : Pairwise ClearsFewIf r.journals r.premises
       pub fair : Pairwise IsFairIf r.journals r.premises
       pub ends : Pairwise EndsWellIf r.journals r.premises
       pub kept : Pairwise (Premised KeepsShare) r.journals r.premises

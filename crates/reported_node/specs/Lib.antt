@@ -1,3 +1,6 @@
+pub mod Once
+pub mod Challenges
 pub mod Promised
 pub mod Endings
 pub mod Telling
+pub mod Laws

@@ -1,6 +1,6 @@
 -- What is promised of a person, by a history and the events of its node's journal with their commands; all stand newest
 -- first.
-use Rattle.std.specs.Prelude.{◌≡◌, ◌≤◌, ◌-◌, ℕ, true, false, List, [], ◌∷◌, ◌++◌, length, reverse, drop, Option, Some, None}
+use Rattle.std.specs.Prelude.{◌≡◌, ◌≤◌, ◌-◌, ℕ, true, List, [], ◌∷◌, ◌++◌, length, reverse, drop, Some, None}
 use Rattle.channel_name.specs.Digests.{name_of_person}
 use Rattle.channel_calls.specs.History.{paid_to}
 use Rattle.channel_calls.specs.declared.entry.Entry.{Entry}
@@ -9,11 +9,13 @@ use Rattle.exit_script.specs.Calls.{exit_calls}
 use Rattle.net_model.specs.Journals.{Line}
 use Rattle.net_model.specs.Honest.{Honest}
 use Rattle.net_model.specs.Safety.{IsSafe}
+use Rattle.net_model.specs.Steps.{FewAreCleared}
 use Rattle.net_share_laws.specs.Keeping.{KeepsItsShare}
 use Rattle.node_laws.specs.Exits.{LeavesForGood}
+use Rattle.node_laws.specs.Keys.{FitsSigner}
 use Rattle.node_model.specs.Minds.{facts_of}
 use Rattle.node_model.specs.Places.{Told, lines_of, mind_at}
-use Rattle.node_model.specs.Playing.{Signing, SignsWell, pending, Plays}
+use Rattle.node_model.specs.Playing.{SignerOf, signing_of, SignsWell, pending, Plays}
 use Rattle.node_model.specs.Refusing.{not_open}
 use Rattle.node_share_laws.specs.Orders.{orders_of}
 use Rattle.node_tables.specs.Stages.{stages}
@@ -22,6 +24,7 @@ use Rattle.share_laws.specs.Lines.{SignaturesAreFair}
 use Rattle.share_model.specs.Kept.{is_signing}
 use Rattle.share_model.specs.Places.{Order, IsPlace, plan, share}
 use Rattle.support_chain.specs.Real.{real}
+use Rattle.reported_node.specs.Once.{SignsOnce}
 
 -- each of the one list stands so to the one at its place in the other, which is as long
 abbrev pub Pairwise : {A B : Type 0} → (A → B → Type 0) → List A → List B → Type 0
@@ -54,29 +57,38 @@ module _ (h : List Entry) (key : List ℕ) (events : List Told) where
 
   -- ---- honest
 
-  -- The journal is one of the network's own node, event for event: its signatures verify and take one index after another;
-  -- each state, refusal, call and look is the one that the node's rules and tables give at its place. No state is signed after
-  -- an exit that was accepted, and no challenge before one; and a state that no payment made is signed only while every
-  -- channel is open of each part that isn't closed.
+  -- The journal is one of the network's own node, event for event: its key is the one of a seed, an identifier and a height,
+  -- and its signatures are those of this seed, which verify and take one index after another; each state, refusal, call and
+  -- look is the one that the node's rules and tables give at its place. No state is signed after an exit that was accepted,
+  -- and no challenge before one; and a state that no payment made is signed only while every channel is open of each part
+  -- that isn't closed.
   pub record IsByRules : Type 0 where
-    pub signer : Signing
-    pub owns : signer.key ≡ key
-    pub signs : SignsWell real signer
-    pub plays : Plays stages real signer h events
+    pub signer : SignerOf
+    pub fits : FitsSigner signer
+    pub owns : (signing_of signer).key ≡ key
+    pub signs : SignsWell real (signing_of signer)
+    pub plays : Plays stages real (signing_of signer) h events
     pub leaves : (newer : List Told) (x : Told) (front : List Told) → events ≡ newer ++ x ∷ front → LeavesForGood x front
     pub live :
         (newer : List Told) (x : Told) (front : List Told) (later past : List Entry) → events ≡ newer ++ x ∷ front
         → is_signing x.deed ≡ true → pending front ≡ None → h ≡ later ++ past → length past ≡ x.seen
         → not_open stages (facts_of (mind_at real key past front)) ≡ None
 
-  abbrev pub IsHonest : Type 0
-  IsHonest = Honest real key h lines × IsByRules
+  -- It is honest in terms of channels alone, by the rules of the node, and no index of the key signs twice in it.
+  pub record IsHonest : Type 0 where
+    pub lines_are : Honest real key h lines
+    pub by_rules : IsByRules
+    pub once : SignsOnce real events
 
   -- ---- safe
 
   -- no channel of the person becomes final with an outcome older than its newest supported state
   abbrev pub StaysSafe : Type 0
   StaysSafe = IsSafe real key h lines
+
+  -- of its challenges of a channel of n people, at most n - 1 are cleared by another entry than a conclude
+  abbrev pub FewChallengesAreCleared : Type 0
+  FewChallengesAreCleared = FewAreCleared real key h lines
 
   -- ---- its share
 

@@ -20,6 +20,7 @@ use Rattle.node_model.specs.Places.{Told, told_by, lines_of}
 use Rattle.node_model.specs.Exiting.{until_exit}
 use Rattle.support_chain.specs.Real.{real}
 use Rattle.world_laws.specs.Commanded.{FollowCommands}
+use Rattle.reported_node.specs.Challenges.{CallsOwnChallenges}
 use Rattle.reported_node.specs.Endings.{facts_at_end, EndsWell}
 use Rattle.reported_node.specs.Promised.{Pairwise, share_at_end, share_after, IsByRules, SignsFairly, KeepsShare, IsPaidOnExit}
 
@@ -47,6 +48,16 @@ IsToldBy ways told commands p = told p ≡ told_by commands (ways.journal p)
 -- so of each node that is told the commands of the steps
 abbrev pub TellsCommands : {P : Type 0} → Ways P → (told : P → List Told) → Type 0
 TellsCommands {P} ways told = (commands : ℕ → Option Command) → FollowCommands ways commands (IsToldBy ways told commands)
+
+-- ---- challenges
+
+-- what `owns` says of a node it keeps, whatever comes to it
+abbrev pub OwnersGoOn : {P : Type 0} → Ways P → (owns : P → Type 0) → Type 0
+OwnersGoOn {P} ways owns = (commands : ℕ → Option Command) → FollowCommands ways commands owns
+
+-- and then it called no challenge but one that it signed right before
+abbrev pub OwnersCallTheirOwn : {P : Type 0} → (owns : P → Type 0) → (told : P → List Told) → Type 0
+OwnersCallTheirOwn {P} owns told = (p : P) → owns p → CallsOwnChallenges (told p)
 
 -- ---- shares
 

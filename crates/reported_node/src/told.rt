@@ -5,7 +5,7 @@ ghost use Rattle.std.specs.Option.{option_map};
 ghost use Rattle.funding_value.specs.Known.{FactsOf};
 ghost use Rattle.node_model.specs.Places.{Told};
 ghost use Rattle.world_laws.specs.Standing.{AreKept};
-ghost use Rattle.reported_node.specs.Telling.{AreTold, HaveFixed, LinesAreTold, TellsCommands, SharesAreReal, ExitsAreReal, FactsAreReal, JournalsAreByRules, KeepsShares};
+ghost use Rattle.reported_node.specs.Telling.{AreTold, HaveFixed, LinesAreTold, TellsCommands, SharesAreReal, ExitsAreReal, FactsAreReal, OwnersGoOn, OwnersCallTheirOwn, JournalsAreByRules, KeepsShares};
 
 use channel_calls::{HeldChain, Known};
 use funding_value::Plan;
@@ -26,6 +26,9 @@ pub trait ReportedNode: Party {
 
     // The events of its journal with their commands, the newest first.
     ghost reported: { Self → List Told };
+
+    // What it keeps of its challenges.
+    ghost owns: { Self → Type 0 };
 
     /// What its person can get of an asset.
     fn share(&self, asset: u32) -> Result<u128, NoMemory>
@@ -61,6 +64,11 @@ pub trait ReportedNode: Party {
     ghost opens: { LinesAreTold Self.ways reported };
 
     ghost commands: { TellsCommands Self.ways reported };
+
+    // It keeps that, whatever comes to it, and so calls no challenge but one that it signed right before.
+    ghost goes_on: { OwnersGoOn Self.ways owns };
+
+    ghost calls: { OwnersCallTheirOwn owns reported };
 
     // Where it followed the whole history, its shares are those of the definition.
     ghost gets: { SharesAreReal Self.ways Self.stands Self.lost shares reported };

@@ -388,7 +388,7 @@ module _ {P : Type 0} (ways : Ways P) (lost : P → Bool) where
         (bounded-append (length h) (length later) act.events (w.front ++ w.look ∷ []) (bounded-same (length h) (length later) act.events (length n.seen) a t act.each)
         (bounded-wider (length n.seen) (length h) (length later) (length later) (w.front ++ w.look ∷ []) a (omega arith) w.bounded)))
         w.deed
-        (λ call i. stood call (stands_in later n.entered.0 gave (record { by = w.by; seen = w.look.seen; call = call }) n.entered.1
+        (λ call i. stood call (stands_in later n.entered.numbers gave (record { by = w.by; seen = w.look.seen; call = call }) n.entered.are
         (subst (λ (g : List Given). In (record { by = w.by; seen = w.look.seen; call = call }) g) (sym gave_is)
         (in-right (record { by = w.by; seen = w.look.seen; call = call }) (tick_gave ways post n.seen m) (looks_gave ways 0 (x ∷ xs) (acted ways post n.seen m)) (w.gives call i)))))
       where

@@ -67,7 +67,7 @@ module _ {P : Type 0} (ways : Ways P) where
     pub until_first : StartsWith later d.seen
     pub since_second : StartsWith e.seen h
     pub gave_is : gave ≡ first ++ second
-    pub entered : StandIn later gave
+    pub entered : StandIn h later gave
 
   abbrev pub Boths : List Letter → List Entry → List Entry → List (WorkerOf P) → List (WorkerOf P) → List (List Given) → Type 0
   Boths post h later [] [] [] = Unit {0}
@@ -140,7 +140,7 @@ module _ {P : Type 0} (ways : Ways P) where
               let again = second.asks done in
               let two : Answer = record { act = again.act; notes = z.notes } in record {
                 answers = one ∷ two ∷ [];
-                are = (sym a.done ∙ done, again.done, refl);
+                are = (sym a.done ∙ done, again.done, refl, starts_trans z.notes b.d.seen y.notes (starts_trans z.notes b.e.seen b.d.seen again.saw.since b.between) a.saw.until);
                 number = again.number ∙ a.number;
                 told = λ t. let r = a.told t in let q = again.told r.0 in (q.0, q.1 ∙ (ap (λ (l : List _). l ++ again.act ∷ []) r.1 ∙ append_assoc x.told (a.act ∷ []) (again.act ∷ [])));
                 saw = λ u i. either u again.saw i;

@@ -12,11 +12,12 @@ use Rattle.round_model.specs.Players.{Player, awake}
 use Rattle.round_model.specs.Rounds.{CrewOf, workers_in, nodes_of, cast_of, sent_by}
 use Rattle.round_model.specs.Seats.{Begin, times_made}
 use Rattle.round_model.specs.Workers.{WorkerOf, a_node, an_actor, Acts, Watches, Turn, AreTurns}
-use Rattle.round_model.specs.Working.{Given, AreEntered}
+use Rattle.round_model.specs.Working.{Given, AreEntered, RiseWithin}
+use Rattle.round_model.proofs.Rising.{rise-wider, rise-append}
 use Rattle.round_laws.specs.Laws.{RunsAreRounds}
 use Rattle.round_laws.specs.Told.{NodeRan, ActorRan, Each, all_of, Round}
 use Rattle.round_laws.proofs.Parts.{Boths, NodeStep, ActorStep, node_step, actor_step}
-use Rattle.round_laws.proofs.Phases.{seats_after, After, after_phase, entered-later, entered-append}
+use Rattle.round_laws.proofs.Phases.{seats_after, After, after_phase, starts-length, entered-later, entered-append}
 
 head-is : {A : Type 0} (x y : A) (xs ys : List A) → x ∷ xs ≡ y ∷ ys → x ≡ y
 head-is x y xs ys e = cc
@@ -75,12 +76,17 @@ module _ {P : Type 0} (ways : Ways P) where
       until_first = starts_trans d.seen mid.seen t.seat_after.seen s' b.0;
       since_second = subst (λ (l : List Entry). StartsWith l c.seen) (sym w.0.fresh.0) s;
       gave_is = refl;
-      entered = (
-        a.0.works.numbers ++ w.0.works.numbers,
-        entered-append d.seen a.0.works.numbers w.0.works.numbers t.gave u.gave
+      entered = record {
+        numbers = a.0.works.numbers ++ w.0.works.numbers;
+        are = entered-append d.seen a.0.works.numbers w.0.works.numbers t.gave u.gave
             (entered-later t.seat_after.seen d.seen a.0.works.numbers t.gave (starts_trans d.seen mid.seen t.seat_after.seen s' b.0) a.0.works.entered)
-            (entered-later u.seat_after.seen d.seen w.0.works.numbers u.gave b'.0 w.0.works.entered),
-      );
+            (entered-later u.seat_after.seen d.seen w.0.works.numbers u.gave b'.0 w.0.works.entered);
+        rise = rise-append (length c.seen) (length t.seat_after.seen) (length mid.seen) (length d.seen) a.0.works.numbers w.0.works.numbers
+            (starts-length mid.seen t.seat_after.seen b.0)
+            (subst (λ (l : List Entry). RiseWithin (length l) (length t.seat_after.seen) a.0.works.numbers) a.0.fresh.0 a.0.works.rise)
+            (rise-wider (length mid.seen) (length mid.seen) (length u.seat_after.seen) (length d.seen) w.0.works.numbers (omega arith) (starts-length d.seen u.seat_after.seen b'.0)
+            (subst (λ (l : List Entry). RiseWithin (length l) (length u.seat_after.seen) w.0.works.numbers) w.0.fresh.0 w.0.works.rise));
+      };
     },
     boths post c mid d ts us (tail-is t.after u.worker (afters ts) (workers us) e) a.1 w.1 b.1 b'.1 s s',
   )

@@ -10,18 +10,20 @@ use Rattle.round_model.specs.Acts.{is_done}
 use Rattle.round_model.specs.Members.{Letter, Rises, acted, outs, tick_gave, looked_all, looks_gave}
 use Rattle.round_model.specs.Players.{Player, awake, posts_of, act_gave}
 use Rattle.round_model.specs.Rounds.{CrewOf}
-use Rattle.round_model.specs.Working.{IsHistory, Given, AreEntered}
+use Rattle.round_model.specs.Working.{IsHistory, Given, AreEntered, RiseWithin}
 use Rattle.round_model.specs.declared.actor.Act.{Act}
 
 -- the first begins the second, which begins the third
 abbrev pub IsBetween : List Entry → List Entry → List Entry → Type 0
 IsBetween h seen later = StartsWith seen h × StartsWith later seen
 
--- these calls stand in the history, each at a number of its own and in their order
-abbrev pub StandIn : List Entry → List Given → Type 0
-StandIn h gave = (numbers : List ℕ) × AreEntered h numbers gave
+-- these calls stand in a longer history, behind the first and in their order: the numbers of their entries rise
+pub record StandIn (h later : List Entry) (gave : List Given) : Type 0 where
+  pub numbers : List ℕ
+  pub are : AreEntered later numbers gave
+  pub rise : RiseWithin (length h) (length later) numbers
 
--- so do these in a longer history, and each number that is new in it is one of theirs, once
+-- these stand in a longer history, and each number that is new in it is one of theirs, once
 pub record StandOnce (h later : List Entry) (gave : List Given) : Type 0 where
   pub numbers : List ℕ
   pub are : AreEntered later numbers gave
@@ -38,7 +40,7 @@ pub record NodeRan {P : Type 0} (ways : Ways P) (post : List Letter) (h later : 
   pub is : after ≡ looked_all ways 0 looks (acted ways post seen m)
   pub sent_is : sent ≡ (outs ways post seen m).sends
   pub gave_is : gave ≡ tick_gave ways post seen m ++ looks_gave ways 0 looks (acted ways post seen m)
-  pub entered : StandIn later gave
+  pub entered : StandIn h later gave
 
 -- one act, with the entries that it was given
 pub record Answer : Type 0 where
@@ -52,11 +54,13 @@ answer_gave number a = act_gave number (length a.notes) a.act
 abbrev pub answer_posts : Answer → List Letter
 answer_posts a = posts_of a.act
 
--- it was asked once and was done, or it was asked twice
+-- it was asked once and was done, or it was asked twice, the second time with all that it had been given the first, and maybe
+-- more behind that
 abbrev pub AreAnswers : Player → List Answer → Type 0
 AreAnswers x [] = ⊥
 AreAnswers x (a ∷ []) = (is_done a.act ≡ true) × (x.done ≡ true) × (x.notes ≡ a.notes)
-AreAnswers x (a ∷ b ∷ []) = (is_done a.act ≡ false) × (x.done ≡ is_done b.act) × (x.notes ≡ b.notes)
+AreAnswers x (a ∷ b ∷ []) =
+    (is_done a.act ≡ false) × (x.done ≡ is_done b.act) × (x.notes ≡ b.notes) × StartsWith b.notes a.notes
 AreAnswers x (a ∷ b ∷ more) = ⊥
 
 abbrev pub acts_in : List Answer → List Act
@@ -72,7 +76,7 @@ pub record ActorRan (h later : List Entry) (x after : Player) (sent : List Lette
   pub saw : (a : Answer) → In a answers → IsBetween h a.notes later
   pub sent_is : sent ≡ flat_map answer_posts answers
   pub gave_is : gave ≡ flat_map (answer_gave x.number) answers
-  pub entered : StandIn later gave
+  pub entered : StandIn h later gave
 
 -- four lists whose members correspond, in order
 abbrev pub Each : {A B C D : Type 0} → (A → B → C → D → Type 0) → List A → List B → List C → List D → Type 0

@@ -5,9 +5,11 @@ use Rattle.std.specs.Str.{bytes_eq}
 use Rattle.channel_calls.specs.History.{Legal, newest_first}
 use Rattle.net_party.specs.Ways.{Ways}
 use Rattle.record_bytes.specs.Spelling.{run_record}
-use Rattle.script_record.specs.Recording.{is_play, asked_of, RunEnds, IsSoundIf, EndsAs}
+use Rattle.script_record.specs.Recording.{is_play, asked_of, RunEnds, IsSoundIf, IsRecorded, EndsAs}
 use Rattle.script_record.specs.declared.status.Status.TheVariants.{Ran}
-use Rattle.report_laws.specs.Laws.{PlaysHaveSoundRecords, RacesHaveSoundRecords}
+use Rattle.record_rules.specs.Sound.{HasSums}
+use Rattle.report_laws.specs.Laws.{PlaysHaveSoundRecords, RacesHaveSoundRecords, RecordsHaveSums}
+use Rattle.report_text.proofs.Numbers.{conserved_in_time}
 use Rattle.report_text.specs.Report.{record_from}
 use Rattle.report_text.specs.declared.report.Report.{Report}
 use Rattle.round_model.specs.Players.{Player}
@@ -16,7 +18,7 @@ use Rattle.script_run.specs.Run as runs
 use Rattle.script_run.specs.declared.run.Status.{Status as RanAs}
 use Rattle.script_run.specs.declared.run.Status.TheVariants.{Done, NoMemory, Usage, Script, ReadFault, WriteFault, TooLong}
 use Rattle.support_chain.specs.Real.{real}
-use Rattle.word_reader.specs.declared.asking.Asked.TheVariants.{Run, Race}
+use Rattle.word_reader.specs.declared.asking.Asked.TheVariants.{Run, Race, Load}
 
 -- ---- the words
 
@@ -53,9 +55,25 @@ module _ {P : Type 0} (ways : Ways P) (cast : List Player) where
   sound_if plays races r legal steps played premised =
       ⊎_elim (λ p. plays None r steps p legal premised) (λ q. races r steps q legal premised) played
 
-  pub recorded_end : PlaysHaveSoundRecords ways → RacesHaveSoundRecords ways cast → (g : Given) (r : Report) (bytes : List ℕ)
-      → Legal real (newest_first r.history) → RunEnds ways cast g Done (Some r) → bytes ≡ run_record (record_from r) → EndsAs ways cast g (Ran Done) bytes
-  recorded_end plays races g r bytes legal e spelled = (r, e, sound_if plays races r legal, spelled)
+  -- whatever was asked for
+  has_sums : RecordsHaveSums ways → (g : Given) (r : Report) → Legal real (newest_first r.history) → runs.IsToldOf ways cast g r → HasSums (record_from r)
+  has_sums sums g r legal (Run, asks, reads) = sums _ _ r _ reads.4.2.tells legal
+  has_sums sums g r legal (Race, asks, reads) = sums _ _ r _ reads.4.2.tells legal
+  has_sums sums g r legal (Load seed count, asks, played) = sums _ _ r _ played.1.tells legal
+
+  module _ (sums : RecordsHaveSums ways) (plays : PlaysHaveSoundRecords ways) (races : RacesHaveSoundRecords ways cast) (g : Given) (r : Report)
+      (legal : Legal real (newest_first r.history)) (e : RunEnds ways cast g Done (Some r)) where
+    is_recorded : IsRecorded ways cast g r
+    is_recorded =
+        record {
+          ran = e;
+          sums = has_sums sums (record g { words = e.0 }) r legal e.2;
+          conserved = conserved_in_time r.history legal;
+          sound = sound_if plays races r legal;
+        }
+
+    pub recorded_end : (bytes : List ℕ) → bytes ≡ run_record (record_from r) → EndsAs ways cast g (Ran Done) bytes
+    recorded_end bytes spelled = (r, is_recorded, spelled)
 
   -- a report comes with a play alone
   pub is_done : (g : Given) (s : RanAs) (r : Report) → runs.EndsAs ways cast g s (Some r) → s ≡ Done

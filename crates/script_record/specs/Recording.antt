@@ -1,7 +1,9 @@
 -- What a recording comes to.
 use Rattle.std.specs.Prelude.{◌≡◌, ◌⊎◌, ◌&&◌, ◌||◌, ℕ, List, [], ◌∷◌, Bool, false, Option, Some, None, codes, if◌then◌else◌}
 use Rattle.std.specs.Str.{bytes_eq}
-use Rattle.record_rules.specs.Sound.{IsSound}
+use Rattle.channel_calls.specs.Flows.{AreConserved}
+use Rattle.channel_calls.specs.History.{flows_of}
+use Rattle.record_rules.specs.Sound.{HasSums, IsSound}
 use Rattle.net_party.specs.Ways.{Ways}
 use Rattle.play_report.specs.Reported.{IsPlayed}
 use Rattle.race_report.specs.Raced.{IsOfRace}
@@ -46,9 +48,17 @@ module _ {P : Type 0} (ways : Ways P) (cast : List Player) where
       (steps : List Step) → IsPlayed ways None r steps ⊎ IsOfRace ways cast r steps → IsPremised (command_of steps) r
       → IsSound (record_from r)
 
+  -- What was played, and what is true of its record: with no premise, its history is legal and conserved, and its sums are those of
+  -- its flows.
+  pub record IsRecorded (g : Given) (r : Report) : Type 0 where
+    pub ran : RunEnds g Done (Some r)
+    pub sums : HasSums (record_from r)
+    pub conserved : AreConserved (flows_of r.history)
+    pub sound : IsSoundIf r
+
   -- Why a recording comes to each end, and the bytes that it owes: of what was played its record, else what a run owes.
   abbrev pub EndsAs : Given → Status → List ℕ → Type 0
-  EndsAs g (Ran Done) bytes = (r : Report) × RunEnds g Done (Some r) × IsSoundIf r × (bytes ≡ run_record (record_from r))
+  EndsAs g (Ran Done) bytes = (r : Report) × IsRecorded g r × (bytes ≡ run_record (record_from r))
   EndsAs g PastLimits bytes = (r : Report) × RunEnds g Done (Some r) × ¬ (KeepsRecord (record_from r)) × (bytes ≡ [])
   EndsAs g (Ran Usage) bytes = (asked_of g.words ≡ None) × IsUnread g × (bytes ≡ ended (codes "usage"))
   EndsAs g (Ran (Script step rule)) bytes = RunEnds g (Script step rule) None × (bytes ≡ runs.owed (Script step rule) None)

@@ -23,7 +23,7 @@ use net_actors::Cast;
 use net_node::Node;
 use nitro_bytes::{Label, NoMemory};
 use record_bytes::write_record;
-use report_laws::{plays_have_sound_records, races_have_sound_records};
+use report_laws::{plays_have_sound_records, races_have_sound_records, records_have_sums};
 use report_text::{Report, record_from};
 use script_run::{Status as Ran, end_of_words, line_of};
 use std::alloc::Global;
@@ -63,6 +63,7 @@ fn recorded(alloc: Global, report: Report) -> Result<Ended, NoMemory>
     ensures { (cast : List Player) (g : Given) → RunEnds ways cast g RanAs.Done (Some report)
         → IfOk result (λ ended. EndsAs ways cast g ended.status ended.bytes.items) }
 {
+    records_have_sums::<Node>();
     plays_have_sound_records::<Node>();
     races_have_sound_records::<Node>();
     let value = record_from(report);
@@ -128,8 +129,8 @@ pub fn run_record<R: Threads + Wait + Sync, S: Source, K: Sink>(
     requires unseen { All (λ c. c.notes.entries.items ≡ []) cast.items }
 
     // Every status but running out of memory and a fault of the sink has its cause, and its bytes were put whole: of what was played
-    // the spelling of its record, which is sound where of each person with a node nothing is told to be forged and no strings
-    // collide.
+    // the spelling of its record, whose history is legal and conserved; and it is sound where of each person with a node nothing is
+    // told to be forged and no strings collide.
     ensures ended { result ≢ Status.Ran RanAs.NoMemory → result ≢ Status.Ran RanAs.WriteFault → (bytes : List ℕ)
         × EndsAs ways (map (player_of (λ c. tells (c.actor.vtable, c.actor.value)) (λ c. told (c.actor.vtable, c.actor.value))) cast.items) (given S.remaining S.faults words.now source.old source.new) result bytes
         × Appends (K.held sink.old) (K.held sink.new) bytes }

@@ -1,8 +1,10 @@
--- What was played is sound under its premises, by the laws of records.
+-- What was played has its sums, and is sound under its premises, by the laws of records.
 use Rattle.std.proofs.Common.{rules}
 use Rattle.node_way_laws.specs.Ways.{ways}
 use Rattle.script_record.proofs.Ends.{recorded_end}
 use Rattle.script_record.proofs.recording.recorded.Goals as goal
 
 pub returns : goal.returns
-returns c cast g e = recorded_end ways cast c.plays_have_sound_records.ensures (c.races_have_sound_records.ensures cast) g c.args.report c.write_record.new.out.items c.requires e (search rules)
+returns c cast g e =
+    recorded_end ways cast c.records_have_sums.ensures c.plays_have_sound_records.ensures (c.races_have_sound_records.ensures cast) g c.args.report c.requires e
+    c.write_record.new.out.items (search rules)
