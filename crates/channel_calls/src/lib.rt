@@ -19,6 +19,7 @@ mod row;
 mod same;
 mod states;
 mod told;
+mod valid;
 mod view;
 mod writing;
 
@@ -40,8 +41,9 @@ pub use laws::{
 pub use reading::{read_call, read_message, take_call};
 pub use refusal::{Refusal, Reply};
 pub use row::{Row, row_or_blank};
-pub use same::{is_op, parts_are_valid, same_call};
+pub use same::{is_op, same_call};
 pub use states::newest;
 pub use told::{fixed_of, time_after, time_set, told_row, top_turn};
+pub use valid::parts_are_valid;
 pub use view::{ChannelView, WorldView};
 pub use writing::{write_call, write_message};

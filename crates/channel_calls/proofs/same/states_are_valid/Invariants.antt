@@ -1,7 +1,0 @@
-use Rattle.std.proofs.Common.{take}
-use Rattle.std.specs.List.{AllByRecursion}
-use Rattle.nitro_bytes.specs.Parts.{IsState}
-use Rattle.channel_calls.proofs.same.states_are_valid.Given as goal
-
-abbrev pub invariant-loop-state : goal.invariant-loop-state
-invariant-loop-state l = AllByRecursion IsState (take l.state-index l.states)
