@@ -6,15 +6,14 @@
 #![tactic(auto)]
 
 ghost use Rattle.std.specs.Prelude.{◌≡◌};
-ghost use Rattle.channel_calls.specs.Limits.{KeepsCall};
-ghost use Rattle.channel_calls.specs.declared.call.Call.{Call as AnyCall};
-ghost use Rattle.channel_calls.specs.declared.call.Op.TheVariants as ops;
+ghost use Rattle.call_history.specs.Limits.{KeepsCall};
+ghost use Rattle.call_history.specs.declared.call.Call.{Call as AnyCall};
+ghost use Rattle.call_history.specs.declared.call.Op.TheVariants as ops;
 
 use anyhow::{Context, Result};
-use channel_calls::{
-    Entry, Op, Reply, copy_entry, read_call, read_message, write_call, write_message,
-};
-use nitro_bytes::{ByteFault, NoMemory};
+use call_bytes::{read_call, read_message, write_call, write_message};
+use call_history::{Entry, Op, Reply, copy_entry};
+use channel_values::{ByteFault, NoMemory};
 use std::{env, fs};
 
 /// Appends the bytes of the call of an entry's copy.

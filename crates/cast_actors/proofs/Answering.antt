@@ -1,17 +1,17 @@
 -- What an actor that answers in two ways enters keeps the limits.
 use Rattle.std.proofs.Common.{◌≡◌, ◌∙◌, ap, subst, Bool, true, false}
 use Rattle.std.specs.Prelude.{ℕ, List, Option, Some, None, cond, nat_le, find}
-use Rattle.nitro_bytes.specs.Parts.{FixedParts, StateParts}
-use Rattle.channel_model.specs.Rules.{newest}
-use Rattle.channel_calls.specs.declared.call.Call.TheVariants.{Deposit, Challenge, Respond, Refute, Checkpoint, Conclude, Transfer, Claim}
-use Rattle.channel_calls.specs.declared.call.Op.{Op}
-use Rattle.channel_calls.specs.declared.call.Op.TheVariants as ops
-use Rattle.channel_calls.specs.declared.entry.Entry.{Entry}
-use Rattle.round_model.specs.Acts.{IsWithinLimits}
-use Rattle.round_model.specs.declared.actor.Act.{Act}
-use Rattle.round_model.specs.declared.actor.Act.TheVariants as acts
-use Rattle.sign_index.proofs.Lengths.{short_signature}
-use Rattle.sign_index.specs.Signing.{Signing}
+use Rattle.channel_values.specs.Parts.{FixedParts, StateParts}
+use Rattle.channel_values.specs.Rules.{newest}
+use Rattle.call_history.specs.declared.call.Call.TheVariants.{Deposit, Challenge, Respond, Refute, Checkpoint, Conclude, Transfer, Claim}
+use Rattle.call_history.specs.declared.call.Op.{Op}
+use Rattle.call_history.specs.declared.call.Op.TheVariants as ops
+use Rattle.call_history.specs.declared.entry.Entry.{Entry}
+use Rattle.network_rounds.specs.Acts.{IsWithinLimits}
+use Rattle.network_rounds.specs.declared.actor.Act.{Act}
+use Rattle.network_rounds.specs.declared.actor.Act.TheVariants as acts
+use Rattle.lms_signatures.proofs.Lengths.{short_signature}
+use Rattle.lms_signatures.specs.Signing.{Signing}
 use Rattle.cast_actors.specs.Equivocates.{message_of, entering_if, responds, next_state, answer_to, answer_if, is_answerable, key_of, equivocated}
 
 if_signed : (s : Signing) (f : FixedParts) (from : StateParts) (o : Option StateParts) → IsWithinLimits (entering_if s f from o)

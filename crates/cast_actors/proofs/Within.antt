@@ -3,15 +3,15 @@ use Rattle.std.proofs.Common.{◌≡◌, Bool, true, false, List, [], ◌∷◌,
 use Rattle.std.specs.Prelude.{Option, Some, cond}
 use Rattle.std.specs.List.{list_all, find, AllByRecursion}
 use Rattle.std.proofs.lemmas.Bool.{and_parts, leb-true, true≢false}
-use Rattle.nitro_bytes.specs.Chains.{KeepsMark}
-use Rattle.nitro_bytes.specs.declared.chain.Mark.{Mark}
-use Rattle.channel_calls.specs.declared.call.Call.TheVariants.{Deposit, Challenge, Respond, Refute, Checkpoint, Conclude, Transfer, Claim}
-use Rattle.channel_calls.specs.declared.call.Op.{Op}
-use Rattle.channel_calls.specs.declared.call.Op.TheVariants as ops
-use Rattle.channel_calls.specs.declared.entry.Entry.{Entry}
-use Rattle.round_model.specs.declared.actor.Act.{Act}
-use Rattle.round_model.specs.declared.actor.Act.TheVariants as acts
-use Rattle.round_model.specs.Acts.{IsWithinLimits}
+use Rattle.channel_values.specs.Chains.{KeepsMark}
+use Rattle.channel_values.specs.declared.chain.Mark.{Mark}
+use Rattle.call_history.specs.declared.call.Call.TheVariants.{Deposit, Challenge, Respond, Refute, Checkpoint, Conclude, Transfer, Claim}
+use Rattle.call_history.specs.declared.call.Op.{Op}
+use Rattle.call_history.specs.declared.call.Op.TheVariants as ops
+use Rattle.call_history.specs.declared.entry.Entry.{Entry}
+use Rattle.network_rounds.specs.declared.actor.Act.{Act}
+use Rattle.network_rounds.specs.declared.actor.Act.TheVariants as acts
+use Rattle.network_rounds.specs.Acts.{IsWithinLimits}
 use Rattle.cast_actors.specs.Replays.{is_short, is_challenge, entering, entering_if, replayed}
 
 marks_keep : (marks : List Mark) → list_all (λ m. is_short m.signature) marks ≡ true → AllByRecursion KeepsMark marks

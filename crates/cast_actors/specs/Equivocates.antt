@@ -2,31 +2,31 @@
 use Rattle.std.specs.Prelude.{ℕ, ◌+◌, ◌-◌, ◌^◌, ◌%◌, ◌==◌, nat_le, Bool, false, ◌&&◌, if◌then◌else◌, List, [], slice_index_or, Option, Some, None, find}
 use Rattle.std.specs.Option.{option_map}
 use Rattle.std.specs.Str.{bytes_eq}
-use Rattle.nitro_bytes.specs.declared.chain.Signed.{Signed}
-use Rattle.nitro_bytes.specs.declared.value.AssetOutcome.{AssetOutcome}
-use Rattle.nitro_bytes.specs.declared.value.Dest.{Dest}
-use Rattle.nitro_bytes.specs.declared.value.Shape.{Shape}
-use Rattle.nitro_bytes.specs.declared.value.Shape.TheVariants.{Allocation, Guarantee}
-use Rattle.nitro_bytes.specs.Parts.{FixedParts, StateParts, state_with}
-use Rattle.nitro_bytes.specs.Spelling.{fixed, state}
-use Rattle.app_rules.specs.Rules.{person_at}
-use Rattle.channel_name.specs.Digests.{name_of_channel, digest_of_state}
-use Rattle.channel_name.specs.Messages.{message_of_state}
-use Rattle.channel_model.specs.Amounts.{amt, has}
-use Rattle.channel_model.specs.Chains.{mover}
-use Rattle.channel_model.specs.Rules.{people, newest}
-use Rattle.channel_calls.specs.declared.call.Call.TheVariants.{Challenge, Respond}
-use Rattle.channel_calls.specs.declared.call.Op.{Op}
-use Rattle.channel_calls.specs.declared.call.Op.TheVariants as ops
-use Rattle.channel_calls.specs.declared.entry.Entry.{Entry}
-use Rattle.channel_calls.specs.declared.refusal.Reply.{Reply}
-use Rattle.channel_calls.specs.History.{is_accepted}
-use Rattle.node_model.specs.Refusing.{moved}
-use Rattle.round_model.specs.declared.actor.Act.{Act}
-use Rattle.round_model.specs.declared.actor.Act.TheVariants.{Enter, Rest, Done}
-use Rattle.sign_index.specs.Made.{made_key, made_bytes}
-use Rattle.sign_index.specs.Signing.{Signing}
-use Rattle.support_chain.specs.Steps.{persons}
+use Rattle.channel_values.specs.declared.chain.Signed.{Signed}
+use Rattle.channel_values.specs.declared.value.AssetOutcome.{AssetOutcome}
+use Rattle.channel_values.specs.declared.value.Dest.{Dest}
+use Rattle.channel_values.specs.declared.value.Shape.{Shape}
+use Rattle.channel_values.specs.declared.value.Shape.TheVariants.{Allocation, Guarantee}
+use Rattle.channel_values.specs.Parts.{FixedParts, StateParts, state_with}
+use Rattle.channel_values.specs.Spelling.{fixed, state}
+use Rattle.support_rules.specs.Rules.{person_at}
+use Rattle.channel_values.specs.Digests.{name_of_channel, digest_of_state}
+use Rattle.channel_values.specs.Messages.{message_of_state}
+use Rattle.channel_values.specs.Amounts.{amt, has}
+use Rattle.channel_values.specs.Rows.{mover}
+use Rattle.channel_values.specs.Rules.{people, newest}
+use Rattle.call_history.specs.declared.call.Call.TheVariants.{Challenge, Respond}
+use Rattle.call_history.specs.declared.call.Op.{Op}
+use Rattle.call_history.specs.declared.call.Op.TheVariants as ops
+use Rattle.call_history.specs.declared.entry.Entry.{Entry}
+use Rattle.call_history.specs.declared.refusal.Reply.{Reply}
+use Rattle.call_history.specs.History.{is_accepted}
+use Rattle.channel_node.specs.Refusing.{moved}
+use Rattle.network_rounds.specs.declared.actor.Act.{Act}
+use Rattle.network_rounds.specs.declared.actor.Act.TheVariants.{Enter, Rest, Done}
+use Rattle.lms_signatures.specs.Made.{made_key, made_bytes}
+use Rattle.lms_signatures.specs.Signing.{Signing}
+use Rattle.support_rules.specs.Steps.{persons}
 
 -- the key is that of the participant who moves after the state
 abbrev pub moves_next : List ℕ → FixedParts → Option StateParts → Bool

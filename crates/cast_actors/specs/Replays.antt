@@ -1,12 +1,12 @@
 -- What an actor that plays old challenges again does.
 use Rattle.std.specs.Prelude.{ℕ, Bool, false, ◌&&◌, nat_le, List, length, Option, Some, None, find}
 use Rattle.std.specs.List.{list_all}
-use Rattle.channel_calls.specs.declared.call.Call.TheVariants.{Challenge}
-use Rattle.channel_calls.specs.declared.call.Op.{Op}
-use Rattle.channel_calls.specs.declared.call.Op.TheVariants as ops
-use Rattle.channel_calls.specs.declared.entry.Entry.{Entry}
-use Rattle.round_model.specs.declared.actor.Act.{Act}
-use Rattle.round_model.specs.declared.actor.Act.TheVariants.{Enter, Rest}
+use Rattle.call_history.specs.declared.call.Call.TheVariants.{Challenge}
+use Rattle.call_history.specs.declared.call.Op.{Op}
+use Rattle.call_history.specs.declared.call.Op.TheVariants as ops
+use Rattle.call_history.specs.declared.entry.Entry.{Entry}
+use Rattle.network_rounds.specs.declared.actor.Act.{Act}
+use Rattle.network_rounds.specs.declared.actor.Act.TheVariants.{Enter, Rest}
 
 abbrev pub is_short : List ℕ → Bool
 is_short signature = nat_le (length signature) 9004

@@ -2,24 +2,26 @@
 
 ghost use Rattle.std.specs.Prelude.{◌≡◌, ◌⊎◌, ◌+◌, false, [], IfOk, OnOk, OnErr, find, replicate};
 ghost use Rattle.std.specs.Option.{option_copied, option_map};
-ghost use Rattle.nitro_bytes.specs.Parts.{state_with};
-ghost use Rattle.channel_calls.specs.History.{is_accepted};
-ghost use Rattle.node_model.specs.Refusing as refusing;
-ghost use Rattle.round_model.specs.declared.actor.Act.TheVariants as acts;
-ghost use Rattle.script_rules.specs.Digests.{fresh};
-ghost use Rattle.sign_index.specs.Made.{made_bytes};
+ghost use Rattle.channel_values.specs.Parts.{state_with};
+ghost use Rattle.call_history.specs.History.{is_accepted};
+ghost use Rattle.channel_node.specs.Refusing as refusing;
+ghost use Rattle.network_rounds.specs.declared.actor.Act.TheVariants as acts;
+ghost use Rattle.script_steps.specs.Digests.{fresh};
+ghost use Rattle.lms_signatures.specs.Made.{made_bytes};
 ghost use Rattle.cast_actors.specs.Equivocates as equivocates;
 
-use channel_calls::{Call, Entry, Op, Reply, newest};
-use channel_name::{channel_name, state_digest, state_message};
-use nitro_bytes::{AssetOutcome, Dest, Fixed, Key, Listed, NoMemory, Shape, Signed, State};
-use node_signing::{Payment, state_of};
-use outcome_targets::{amt, has};
-use round_model::{Act, Actor, Notes};
-use script_rules::id_of;
-use sign_index::{SignFault, Signer};
+use call_history::{Call, Entry, Op, Reply, newest};
+use channel_values::{
+    AssetOutcome, Dest, Fixed, Key, Listed, NoMemory, Shape, Signed, State, channel_name,
+    state_digest, state_message,
+};
+use funding_plans::{amt, has};
+use lms_signatures::{SignFault, Signer};
+use network_rounds::{Act, Actor, Notes};
+use node_decisions::{Payment, state_of};
+use script_steps::id_of;
 use std::alloc::Global;
-use support_chain::{mover_at, people_of};
+use support_rules::{mover_at, people_of};
 
 /// The seed of its key.
 const SEED: [u8; 32] = [0x45; 32];

@@ -1,9 +1,9 @@
 //! An actor that rests once and is done.
 
 ghost use Rattle.std.specs.Prelude.{◌≡◌, false, [], if◌then◌else◌, true};
-ghost use Rattle.round_model.specs.declared.actor.Act.TheVariants as acts;
+ghost use Rattle.network_rounds.specs.declared.actor.Act.TheVariants as acts;
 
-use round_model::{Act, Actor, Notes};
+use network_rounds::{Act, Actor, Notes};
 
 /// It rests at its first act, and is done at its second.
 #[derive(Drop)]

@@ -4,11 +4,11 @@ ghost use Rattle.std.specs.Prelude.{◌≡◌, ◌⊎◌, false, [], find};
 ghost use Rattle.std.specs.List.{list_all};
 ghost use Rattle.std.specs.Option.{option_copied};
 ghost use Rattle.cast_actors.specs.Replays.{is_short, is_challenge, replayed};
-ghost use Rattle.round_model.specs.declared.actor.Act.TheVariants as acts;
+ghost use Rattle.network_rounds.specs.declared.actor.Act.TheVariants as acts;
 
-use channel_calls::{Call, Entry, Op, copy_call};
-use nitro_bytes::Mark;
-use round_model::{Act, Actor, Notes};
+use call_history::{Call, Entry, Op, copy_call};
+use channel_values::Mark;
+use network_rounds::{Act, Actor, Notes};
 
 /// The longest signature of the format.
 const MOST_BYTES: usize = 9004;

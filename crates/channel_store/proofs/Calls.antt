@@ -4,9 +4,9 @@ use Rattle.std.specs.Prelude.{Option, slice_set}
 use Rattle.std.specs.Option.{option_map}
 use Rattle.std.proofs.lemmas.List.{set-get_or}
 use Rattle.std.proofs.lemmas.Option.{slice_get_within, get_or_from_slice_get}
-use Rattle.nitro_bytes.specs.declared.chain.Signed.{Signed}
-use Rattle.channel_model.specs.Rules.{Rules}
-use Rattle.channel_calls.specs.Marked.{Marked, marked_of, is_newer}
+use Rattle.channel_values.specs.declared.chain.Signed.{Signed}
+use Rattle.channel_values.specs.Rules.{Rules}
+use Rattle.call_history.specs.Marked.{Marked, marked_of, is_newer}
 use Rattle.channel_store.specs.Keeping.{noting, with_chain, adopting}
 use Rattle.channel_store.specs.Good.{note_fault, AreGood}
 use Rattle.channel_store.specs.Storing.{place_of, kept_of, kept_at, kept_with}

@@ -5,15 +5,15 @@ use Rattle.std.specs.List.{slice_get, flat_map}
 use Rattle.std.proofs.lemmas.Bool.Decides.{nat_tests}
 use Rattle.std.proofs.lemmas.List.Elements.{All-nil, All-cons, All-head, All-tail, All-get_or, All-set, All-push, All-append}
 use Rattle.std.proofs.lemmas.Option.{slice_get_within, get_or_from_slice_get}
-use Rattle.nitro_bytes.specs.Parts.{FixedParts}
-use Rattle.nitro_bytes.specs.declared.chain.Signed.{Signed}
-use Rattle.channel_model.specs.Rules.{Rules, people, top_turn}
-use Rattle.channel_model.specs.Support.{supports}
-use Rattle.channel_calls.specs.Marked.{Marked, marked_of, is_supported, answered, extends, is_newer}
-use Rattle.channel_calls.specs.declared.held_chain.HeldChain.{HeldChain}
-use Rattle.chain_laws.proofs.Tests.{and-left, true-le, false-le}
-use Rattle.chain_laws.proofs.Chains.{parts}
-use Rattle.chain_laws.proofs.Growing.{noted-good, nothing-young}
+use Rattle.channel_values.specs.Parts.{FixedParts}
+use Rattle.channel_values.specs.declared.chain.Signed.{Signed}
+use Rattle.channel_values.specs.Rules.{Rules, people, top_turn}
+use Rattle.channel_values.specs.Support.{supports}
+use Rattle.call_history.specs.Marked.{Marked, marked_of, is_supported, answered, extends, is_newer}
+use Rattle.call_history.specs.declared.held_chain.HeldChain.{HeldChain}
+use Rattle.channel_safety.proofs.Tests.{and-left, true-le, false-le}
+use Rattle.channel_safety.proofs.Chains.{parts}
+use Rattle.channel_safety.proofs.ChainsGrow.{noted-good, nothing-young}
 use Rattle.channel_store.specs.Keeping.{is_held, with_chain, noting, adopting, held_chain}
 use Rattle.channel_store.specs.Good.{is_as_new, IsGoodKept, AreGood, AreSupported}
 use Rattle.channel_store.specs.Storing.{place_of, kept_of, kept_at, kept_with, added}

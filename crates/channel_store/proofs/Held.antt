@@ -2,12 +2,12 @@
 use Rattle.std.proofs.Common.{◌≡◌, Bool, true, false, cond, Some, None, refl, sym, ◌∙◌, ap}
 use Rattle.std.specs.Prelude.{Option, ◌&&◌, ◌==◌, not, is_none}
 use Rattle.std.specs.Option.{option_map}
-use Rattle.nitro_bytes.specs.Parts.{StateParts}
-use Rattle.nitro_bytes.specs.declared.chain.Signed.{Signed}
-use Rattle.nitro_bytes.specs.declared.fault.StepFault.{StepFault}
-use Rattle.channel_model.specs.Words.{fault_if, ◌⊳◌}
-use Rattle.channel_model.specs.Rules.{Rules, newest, is_signed_well}
-use Rattle.channel_calls.specs.Marked.{marked_of, chain_of, answered, is_step, extends}
+use Rattle.channel_values.specs.Parts.{StateParts}
+use Rattle.channel_values.specs.declared.chain.Signed.{Signed}
+use Rattle.channel_values.specs.declared.fault.StepFault.{StepFault}
+use Rattle.channel_values.specs.Words.{fault_if, ◌⊳◌}
+use Rattle.channel_values.specs.Rules.{Rules, newest, is_signed_well}
+use Rattle.call_history.specs.Marked.{marked_of, chain_of, answered, is_step, extends}
 use Rattle.channel_store.specs.Keeping.{is_ended, next_of, step_after, step_of, last_after, with_chain, noting}
 use Rattle.channel_store.specs.Good.{note_fault}
 use Rattle.channel_store.specs.declared.fault.NoteFault.{NoteFault}

@@ -3,3 +3,7 @@ pub mod Lists
 pub mod Held
 pub mod Good
 pub mod Calls
+pub mod Places
+pub mod Keeping
+pub mod Holding
+pub mod StaysGood

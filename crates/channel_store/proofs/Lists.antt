@@ -3,11 +3,11 @@ use Rattle.std.proofs.Common.{◌≡◌, ℕ, zero, suc, ◌+◌, ◌-◌, ◌<�
 use Rattle.std.specs.Prelude.{Option, slice_set, slice_index_or}
 use Rattle.std.specs.List.{flat_map}
 use Rattle.std.proofs.lemmas.List.{map-set, set-append_right}
-use Rattle.nitro_bytes.specs.Parts.{StateParts}
-use Rattle.channel_calls.specs.declared.held_chain.HeldChain.{HeldChain}
-use Rattle.channel_calls.specs.declared.held_chain.Known.{Known}
-use Rattle.channel_calls.specs.declared.held_chain.Place.{Place}
-use Rattle.chain_laws.proofs.Tests.{and-left, and-right, eqb-true}
+use Rattle.channel_values.specs.Parts.{StateParts}
+use Rattle.call_history.specs.declared.held_chain.HeldChain.{HeldChain}
+use Rattle.call_history.specs.declared.held_chain.Known.{Known}
+use Rattle.call_history.specs.declared.held_chain.Place.{Place}
+use Rattle.channel_safety.proofs.Tests.{and-left, and-right, eqb-true}
 use Rattle.channel_store.specs.Keeping.{is_held, held_chain, known_last, named, known_state, place_in}
 use Rattle.channel_store.specs.Good.{are_alike}
 use Rattle.channel_store.specs.declared.kept.Kept.{Kept}

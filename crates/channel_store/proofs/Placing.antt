@@ -5,11 +5,11 @@ use Rattle.std.specs.List.{slice_get}
 use Rattle.std.proofs.lemmas.List.Elements.{All-get_or}
 use Rattle.std.proofs.lemmas.List.{set-set, set-get_or}
 use Rattle.std.proofs.lemmas.Option.{slice_get-get_or, slice_get_past}
-use Rattle.channel_calls.specs.declared.held_chain.HeldChain.{HeldChain}
-use Rattle.channel_calls.specs.declared.held_chain.Known.{Known}
-use Rattle.channel_calls.specs.declared.held_chain.Place.{Place}
-use Rattle.channel_model.specs.Rules.{Rules}
-use Rattle.channel_calls.specs.Marked.{Marked, marked_of, is_newer}
+use Rattle.call_history.specs.declared.held_chain.HeldChain.{HeldChain}
+use Rattle.call_history.specs.declared.held_chain.Known.{Known}
+use Rattle.call_history.specs.declared.held_chain.Place.{Place}
+use Rattle.channel_values.specs.Rules.{Rules}
+use Rattle.call_history.specs.Marked.{Marked, marked_of, is_newer}
 use Rattle.channel_store.specs.Good.{IsLent, IsGoodKept, AreGood}
 use Rattle.channel_store.specs.Storing.{place_of}
 use Rattle.channel_store.specs.Noting.{is_newer_at, is_adopted}

@@ -2,15 +2,15 @@
 use Rattle.std.specs.Prelude.{◌≡◌, ◌==◌, Bool, true, not, ◌&&◌, nat_le, List, length, map, is_ok, Option}
 use Rattle.std.specs.List.{All, flat_map}
 use Rattle.std.specs.Option.{option_map}
-use Rattle.nitro_bytes.specs.declared.chain.Signed.{Signed}
-use Rattle.channel_model.specs.Words.{fault_if, ◌⊳◌}
-use Rattle.channel_model.specs.Rules.{Rules, top_turn, is_signed_well}
-use Rattle.channel_model.specs.Support.{supports}
-use Rattle.channel_calls.specs.Marked.{Marked, marked_of}
-use Rattle.channel_calls.specs.declared.held_chain.HeldChain.{HeldChain}
-use Rattle.channel_calls.specs.declared.held_chain.Known.{Known}
-use Rattle.channel_calls.specs.declared.held_chain.Place.{Place}
-use Rattle.net_model.specs.Good.{IsGood}
+use Rattle.channel_values.specs.declared.chain.Signed.{Signed}
+use Rattle.channel_values.specs.Words.{fault_if, ◌⊳◌}
+use Rattle.channel_values.specs.Rules.{Rules, top_turn, is_signed_well}
+use Rattle.channel_values.specs.Support.{supports}
+use Rattle.call_history.specs.Marked.{Marked, marked_of}
+use Rattle.call_history.specs.declared.held_chain.HeldChain.{HeldChain}
+use Rattle.call_history.specs.declared.held_chain.Known.{Known}
+use Rattle.call_history.specs.declared.held_chain.Place.{Place}
+use Rattle.channel_safety.specs.Good.{IsGood}
 use Rattle.channel_store.specs.declared.fault.NoteFault.{NoteFault}
 use Rattle.channel_store.specs.declared.fault.NoteFault.TheVariants as faults
 use Rattle.channel_store.specs.declared.kept.Kept.{Kept}

@@ -1,15 +1,15 @@
 -- What a store keeps of its channels, what it notes and adopts, and the lists that it lends out.
 use Rattle.std.specs.Prelude.{ℕ, Bool, ◌&&◌, nat_le, List, [], ◌∷◌, length, Option, Some, None, if◌then◌else◌}
 use Rattle.std.specs.List.{list_all}
-use Rattle.nitro_bytes.specs.Parts.{StateParts}
-use Rattle.nitro_bytes.specs.declared.chain.Signed.{Signed}
-use Rattle.nitro_bytes.specs.declared.fault.StepFault.{StepFault}
-use Rattle.channel_model.specs.Rules.{Rules, people, newest}
-use Rattle.channel_calls.specs.Marked.{Marked, marked_of, chain_of, next_after, extended, adopted}
-use Rattle.channel_calls.specs.declared.held_chain.HeldChain.{HeldChain}
-use Rattle.channel_calls.specs.declared.held_chain.Known.{Known}
-use Rattle.channel_calls.specs.declared.held_chain.Place.{Place}
-use Rattle.support_chain.specs.Steps.{persons}
+use Rattle.channel_values.specs.Parts.{StateParts}
+use Rattle.channel_values.specs.declared.chain.Signed.{Signed}
+use Rattle.channel_values.specs.declared.fault.StepFault.{StepFault}
+use Rattle.channel_values.specs.Rules.{Rules, people, newest}
+use Rattle.call_history.specs.Marked.{Marked, marked_of, chain_of, next_after, extended, adopted}
+use Rattle.call_history.specs.declared.held_chain.HeldChain.{HeldChain}
+use Rattle.call_history.specs.declared.held_chain.Known.{Known}
+use Rattle.call_history.specs.declared.held_chain.Place.{Place}
+use Rattle.support_rules.specs.Steps.{persons}
 use Rattle.channel_store.specs.declared.kept.Kept.{Kept}
 
 -- ---- one channel

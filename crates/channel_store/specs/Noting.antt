@@ -1,10 +1,10 @@
 -- What a store answers.
 use Rattle.std.specs.Prelude.{◌≡◌, ℕ, Bool, true, false, List, Option, Some, None, Result, Ok, Err}
-use Rattle.nitro_bytes.specs.Spelling.{fixed}
-use Rattle.nitro_bytes.specs.declared.chain.Signed.{Signed}
-use Rattle.nitro_bytes.specs.declared.fault.NoMemory.{NoMemory}
-use Rattle.channel_model.specs.Rules.{Rules}
-use Rattle.channel_calls.specs.Marked.{Marked, marked_of, is_newer}
+use Rattle.channel_values.specs.Spelling.{fixed}
+use Rattle.channel_values.specs.declared.chain.Signed.{Signed}
+use Rattle.channel_values.specs.declared.fault.NoMemory.{NoMemory}
+use Rattle.channel_values.specs.Rules.{Rules}
+use Rattle.call_history.specs.Marked.{Marked, marked_of, is_newer}
 use Rattle.channel_store.specs.Good.{note_fault}
 use Rattle.channel_store.specs.declared.fault.NoteFault.{NoteFault}
 use Rattle.channel_store.specs.declared.fault.NoteFault.TheVariants as faults

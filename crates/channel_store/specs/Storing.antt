@@ -2,10 +2,10 @@
 use Rattle.std.specs.Prelude.{ℕ, Bool, List, slice_set, Option, Some, None}
 use Rattle.std.specs.List.{slice_get, position_or_len}
 use Rattle.std.specs.Str.{bytes_eq}
-use Rattle.nitro_bytes.specs.Parts.{FixedParts}
-use Rattle.nitro_bytes.specs.Spelling.{fixed}
-use Rattle.channel_name.specs.Digests.{name_of_channel}
-use Rattle.channel_calls.specs.Marked.{nothing, chain_of}
+use Rattle.channel_values.specs.Parts.{FixedParts}
+use Rattle.channel_values.specs.Spelling.{fixed}
+use Rattle.channel_values.specs.Digests.{name_of_channel}
+use Rattle.call_history.specs.Marked.{nothing, chain_of}
 use Rattle.channel_store.specs.declared.kept.Kept.{Kept}
 
 -- ---- which channel

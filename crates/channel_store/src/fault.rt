@@ -2,7 +2,7 @@
 
 ghost use Rattle.std.specs.Prelude.{◌≡◌};
 
-use nitro_bytes::{NoMemory, StepFault};
+use channel_values::{NoMemory, StepFault};
 
 /// The first reason that holds.
 #[derive(Clone, Copy, Debug, PartialEq, Eq)]

@@ -4,18 +4,18 @@ ghost use Rattle.std.specs.Prelude.{◌≡◌, ◌<◌, ◌≤◌, length, None,
 ghost use Rattle.std.specs.List.{list_all};
 ghost use Rattle.std.specs.Option.{option_map};
 ghost use Rattle.std.specs.Result.{result_err};
-ghost use Rattle.channel_model.specs.Chains.{mover};
-ghost use Rattle.channel_model.specs.Rules.{people, newest, is_signed_well};
-ghost use Rattle.channel_calls.specs.Marked.{marked_of, is_supported, is_newer, next_after};
-ghost use Rattle.support_chain.specs.Real.{real};
+ghost use Rattle.channel_values.specs.Rows.{mover};
+ghost use Rattle.channel_values.specs.Rules.{people, newest, is_signed_well};
+ghost use Rattle.call_history.specs.Marked.{marked_of, is_supported, is_newer, next_after};
+ghost use Rattle.support_rules.specs.Real.{real};
 ghost use Rattle.channel_store.specs.Keeping.{is_held, is_ended, next_of, step_of, last_after, with_chain, noting};
 ghost use Rattle.channel_store.specs.Good.{note_fault, is_as_new, IsGoodKept};
 
 use crate::fault::NoteFault;
-use channel_calls::{answered, newest, top_turn};
-use nitro_bytes::{Chain, Fixed, Name, NoMemory, Signed, State, StepFault};
+use call_history::{answered, newest, top_turn};
+use channel_values::{Chain, Fixed, Name, NoMemory, Signed, State, StepFault};
 use std::mem;
-use support_chain::{people_of, signs_state, step, supports};
+use support_rules::{people_of, signs_state, step, supports};
 
 /// A channel, the participant's position in it, the states that were noted or shown with their marks, and the last
 /// state that the participant signed itself. Once each participant has a mark, the states are the held chain.

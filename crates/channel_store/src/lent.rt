@@ -3,15 +3,15 @@
 ghost use Rattle.std.specs.Prelude.{◌≡◌, ◌<◌, ◌≤◌, length, map, slice_set, slice_index_or, true, IfOk};
 ghost use Rattle.std.specs.Option.{option_map, option_to_list};
 ghost use Rattle.std.specs.List.{flat_map};
-ghost use Rattle.support_chain.specs.Steps.{persons};
+ghost use Rattle.support_rules.specs.Steps.{persons};
 ghost use Rattle.channel_store.specs.Keeping.{held_chain, known_last, known_state, place_in};
 ghost use Rattle.channel_store.specs.Good.{are_alike, IsLent, IsLentOne};
 
 use crate::kept::Kept;
-use channel_calls::{HeldChain, Known, Place};
-use nitro_bytes::{Fixed, Listed, Name, NoMemory, State};
+use call_history::{HeldChain, Known, Place};
+use channel_values::{Fixed, Listed, Name, NoMemory, State};
 use std::alloc::Global;
-use support_chain::people_of;
+use support_rules::people_of;
 
 /// The held chains, the last states signed in their channels, and the places, in the order of the channels.
 #[derive(Drop)]

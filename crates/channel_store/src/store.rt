@@ -5,11 +5,11 @@ ghost use Rattle.std.specs.List.{flat_map};
 ghost use Rattle.std.specs.Option.{option_map};
 ghost use Rattle.std.specs.Str.{bytes_eq};
 ghost use Rattle.std.specs.Result.{result_err};
-ghost use Rattle.nitro_bytes.specs.Spelling.{fixed as spelled};
-ghost use Rattle.channel_name.specs.Digests.{name_of_channel};
-ghost use Rattle.channel_model.specs.Rules.{people, newest};
-ghost use Rattle.support_chain.specs.Real.{real};
-ghost use Rattle.channel_calls.specs.Marked.{marked_of};
+ghost use Rattle.channel_values.specs.Spelling.{fixed as spelled};
+ghost use Rattle.channel_values.specs.Digests.{name_of_channel};
+ghost use Rattle.channel_values.specs.Rules.{people, newest};
+ghost use Rattle.support_rules.specs.Real.{real};
+ghost use Rattle.call_history.specs.Marked.{marked_of};
 ghost use Rattle.channel_store.specs.Keeping.{held_chain, known_state, place_in, next_of, noting, adopting};
 ghost use Rattle.channel_store.specs.Good.{AreGood, AreSupported};
 ghost use Rattle.channel_store.specs.Storing.{place_of, kept_of, kept_with, added};
@@ -18,9 +18,8 @@ ghost use Rattle.channel_store.specs.Noting.{refusal_of, Notes, is_adopted, Adop
 use crate::fault::NoteFault;
 use crate::kept::Kept;
 use crate::lent::{Lent, are_alike, lent_of, lists_of};
-use channel_calls::{HeldChain, Known, Place};
-use channel_name::channel_name;
-use nitro_bytes::{Chain, Fixed, Listed, Name, NoMemory, Signed, State};
+use call_history::{HeldChain, Known, Place};
+use channel_values::{Chain, Fixed, Listed, Name, NoMemory, Signed, State, channel_name};
 use std::alloc::Global;
 use std::marker::Model;
 use std::mem;
@@ -36,7 +35,7 @@ impl Model for Store {
     ghost use Rattle.std.specs.Prelude.{List};
     ghost use Rattle.channel_store.specs.declared.kept.Kept.{Kept};
     ghost use Rattle.channel_store.specs.Good.{IsStore};
-    ghost use Rattle.support_chain.specs.Real.{real};
+    ghost use Rattle.support_rules.specs.Real.{real};
 
     ghost Value = { List Kept };
 

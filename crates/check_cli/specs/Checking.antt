@@ -2,7 +2,7 @@
 use Rattle.std.specs.Prelude.{ℕ, List, length, codes}
 use Rattle.std.specs.Fmt.{decimal}
 use Rattle.report_lines.specs.Text.{◌&◌, ended}
-use Rattle.record_answers.specs.Answering.{Asked}
+use Rattle.record_checker.specs.Answering.{Asked}
 
 -- the line of a sound record of so many entries
 abbrev pub sound_line : (entries : ℕ) → List ℕ

@@ -1,15 +1,14 @@
 //! A check of a record, and the line that was put.
 
 ghost use Rattle.std.specs.Prelude.{◌≡◌, ⊤, IfOk, string_bytes};
-ghost use Rattle.record_answers.specs.Answering.{given};
-ghost use Rattle.record_answers.specs.Running.{IsRun, sunk};
+ghost use Rattle.record_checker.specs.Answering.{given};
+ghost use Rattle.record_checker.specs.Running.{IsRun, sunk};
 ghost use Rattle.check_cli.specs.Checking.{sound_line, check_asked};
 
-use byte_sink::Sink;
-use byte_source::Source;
-use nitro_bytes::{Label, NoMemory};
-use record_answers::{Answering, Status, run_on_record};
-use record_bytes::Record;
+use byte_streams::{Sink, Source};
+use channel_values::{Label, NoMemory};
+use record_checker::{Answering, Status, run_on_record};
+use run_record::Record;
 use std::alloc::{AllocError, Global};
 
 /// Answers a sound record with the number of its entries.

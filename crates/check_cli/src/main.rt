@@ -3,10 +3,9 @@
 
 mod checking;
 
-use byte_sink::StdSink;
-use byte_source::StdSource;
+use byte_streams::{StdSink, StdSource};
+use channel_values::{Label, NoMemory};
 use checking::run_check;
-use nitro_bytes::{Label, NoMemory};
 use std::process::ExitCode;
 use std::rt::Env;
 use std::{env, io};

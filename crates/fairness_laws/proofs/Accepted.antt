@@ -1,32 +1,32 @@
 -- What the plan was when a command was accepted.
 use Rattle.std.proofs.Common.{◌≡◌, ℕ, ◌^◌, Bool, true, ◌&&◌, not, List, refl, sym, subst}
 use Rattle.std.specs.Prelude.{◌==◌, nat_lt, Option, Some, None}
-use Rattle.chain_laws.proofs.Tests.{none-eq, and-left, not-false, eqb-true}
-use Rattle.channel_calls.specs.Flows.{is_among}
-use Rattle.channel_calls.specs.declared.entry.Entry.{Entry}
-use Rattle.channel_calls.specs.declared.event.Deed.{Deed}
-use Rattle.channel_calls.specs.declared.event.Deed.TheVariants as deeds
-use Rattle.channel_calls.specs.declared.event.NodeRefusal.TheVariants.{UnknownChannel, NotNext, NotAStep, NotWanted}
-use Rattle.channel_model.specs.Chains.{mover}
-use Rattle.channel_model.specs.Rules.{people}
-use Rattle.channel_model.specs.Words.{fault_if}
+use Rattle.channel_safety.proofs.Tests.{none-eq, and-left, not-false, eqb-true}
+use Rattle.call_history.specs.Flows.{is_among}
+use Rattle.call_history.specs.declared.entry.Entry.{Entry}
+use Rattle.call_history.specs.declared.event.Deed.{Deed}
+use Rattle.call_history.specs.declared.event.Deed.TheVariants as deeds
+use Rattle.call_history.specs.declared.event.NodeRefusal.TheVariants.{UnknownChannel, NotNext, NotAStep, NotWanted}
+use Rattle.channel_values.specs.Rows.{mover}
+use Rattle.channel_values.specs.Rules.{people}
+use Rattle.channel_values.specs.Words.{fault_if}
 use Rattle.channel_store.specs.Keeping.{next_of}
 use Rattle.channel_store.specs.Storing.{kept_of}
 use Rattle.channel_store.specs.declared.kept.Kept.{Kept}
-use Rattle.funding_value.specs.Parts.{own_channel, joined_of, running}
-use Rattle.funding_value.specs.Shapes.{items_in}
-use Rattle.funding_value.specs.declared.plan.Part.{Part}
-use Rattle.net_model.specs.Journals.{In}
-use Rattle.net_party.specs.declared.command.Command.{Command}
-use Rattle.net_party.specs.declared.command.Command.TheVariants as commands
-use Rattle.node_laws.proofs.Allowing.{first_none, rest_none, holds_not}
-use Rattle.node_model.specs.Minds.{Mind, facts_of}
-use Rattle.node_model.specs.Playing.{Signing, payment_in, Allowed}
-use Rattle.node_model.specs.Refusing.{not_open, unfinished, has_left, not_running, part_with, part_joined, close_part, standing_part, pay_refusal, is_payable, latest_outcome}
-use Rattle.node_tables.specs.Stages.{stages}
-use Rattle.store_laws.proofs.Places.{found_passes}
-use Rattle.support_chain.specs.Real.{real}
-use Rattle.wish_laws.proofs.Closing.{find-in}
+use Rattle.funding_plans.specs.Parts.{own_channel, joined_of, running}
+use Rattle.funding_plans.specs.Shapes.{items_in}
+use Rattle.funding_plans.specs.declared.plan.Part.{Part}
+use Rattle.channel_safety.specs.Journals.{In}
+use Rattle.network.specs.declared.command.Command.{Command}
+use Rattle.network.specs.declared.command.Command.TheVariants as commands
+use Rattle.channel_node.proofs.Allowing.{first_none, rest_none, holds_not}
+use Rattle.channel_node.specs.Minds.{Mind, facts_of}
+use Rattle.channel_node.specs.Playing.{Signing, payment_in, Allowed}
+use Rattle.channel_node.specs.Refusing.{not_open, unfinished, has_left, not_running, part_with, part_joined, close_part, standing_part, pay_refusal, is_payable, latest_outcome}
+use Rattle.stage_tables.specs.Stages.{stages}
+use Rattle.channel_store.proofs.Places.{found_passes}
+use Rattle.support_rules.specs.Real.{real}
+use Rattle.fairness_laws.proofs.Closing.{find-in}
 use Rattle.fairness_laws.proofs.Live.{each-none}
 
 -- a part that isn't refused runs

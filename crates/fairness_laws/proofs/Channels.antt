@@ -3,29 +3,29 @@ use Rattle.std.proofs.Common.{◌≡◌, ℕ, Bool, true, false, List, [], ◌�
 use Rattle.std.specs.Prelude.{Some}
 use Rattle.std.specs.List.{slice_get, list_any}
 use Rattle.std.specs.Str.{bytes_eq}
-use Rattle.nitro_bytes.specs.Outcomes.{AreApart}
-use Rattle.nitro_bytes.specs.Parts.{FixedParts}
-use Rattle.nitro_bytes.specs.declared.value.AssetOutcome.{AssetOutcome}
-use Rattle.chain_laws.proofs.Tests.{clash}
-use Rattle.channel_calls.proofs.Names.{bytes_eq_self}
-use Rattle.channel_calls.specs.declared.entry.Entry.{Entry}
-use Rattle.net_model.proofs.Members.{In-append_right}
-use Rattle.net_model.specs.Held.{held}
-use Rattle.net_model.specs.Journals.{In, Line}
-use Rattle.net_model.specs.Safety.{IsChannelOf}
-use Rattle.node_laws.proofs.Once.{played_journals_are_honest}
-use Rattle.node_model.specs.Places.{Told, lines_of}
-use Rattle.node_model.specs.Playing.{Signing}
-use Rattle.node_tables.specs.Stages.{stages}
-use Rattle.target_laws.proofs.OneByOne.{or_false}
+use Rattle.channel_values.specs.Outcomes.{AreApart}
+use Rattle.channel_values.specs.Parts.{FixedParts}
+use Rattle.channel_values.specs.declared.value.AssetOutcome.{AssetOutcome}
+use Rattle.channel_safety.proofs.Tests.{clash}
+use Rattle.call_history.proofs.Names.{bytes_eq_self}
+use Rattle.call_history.specs.declared.entry.Entry.{Entry}
+use Rattle.channel_safety.proofs.Members.{In-append_right}
+use Rattle.channel_safety.specs.Held.{held}
+use Rattle.channel_safety.specs.Journals.{In, Line}
+use Rattle.channel_safety.specs.Safety.{IsChannelOf}
+use Rattle.channel_node.proofs.Once.{played_journals_are_honest}
+use Rattle.channel_node.specs.Places.{Told, lines_of}
+use Rattle.channel_node.specs.Playing.{Signing}
+use Rattle.stage_tables.specs.Stages.{stages}
+use Rattle.fairness_laws.proofs.OneByOne.{or_false}
 use Rattle.fairness_laws.specs.PaymentLaws.{At}
 use Rattle.fairness_laws.specs.PlanSettings.{IsFair}
 use Rattle.share_laws.proofs.Finality.{opened-there, opens-not_watched}
-use Rattle.share_model.specs.Places.{channels}
-use Rattle.signing_laws.specs.Signatures.{IsOwn}
-use Rattle.support_chain.specs.Real.{real}
-use Rattle.wish_laws.proofs.Carried.{set_ups_are_carried}
-use Rattle.wish_laws.specs.Carried.{OpensWith, IsRepeatedIfAny}
+use Rattle.share_laws.specs.Places.{channels}
+use Rattle.share_laws.specs.Signatures.{IsOwn}
+use Rattle.support_rules.specs.Real.{real}
+use Rattle.fairness_laws.proofs.Carried.{set_ups_are_carried}
+use Rattle.fairness_laws.specs.Carried.{OpensWith, IsRepeatedIfAny}
 
 abbrev Named : FixedParts → FixedParts → Bool
 Named g h = bytes_eq (real.named g) (real.named h)

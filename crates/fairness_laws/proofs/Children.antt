@@ -2,55 +2,55 @@
 use Rattle.std.proofs.Common.{◌≡◌, ℕ, ◌+◌, ◌≤◌, Bool, true, false, ◌||◌, List, ◌∷◌, ◌⊎◌, inl, inr, refl, sym, ◌∙◌, ap, subst, arith}
 use Rattle.std.specs.Prelude.{◌==◌, Option, Some, None}
 use Rattle.std.specs.Str.{bytes_eq}
-use Rattle.nitro_bytes.specs.Outcomes.{IsOutcome}
-use Rattle.nitro_bytes.specs.Parts.{FixedParts, StateParts, IsState}
-use Rattle.nitro_bytes.specs.declared.value.AssetOutcome.{AssetOutcome}
-use Rattle.nitro_bytes.specs.declared.value.Dest.TheVariants.{Person}
-use Rattle.nitro_bytes.specs.declared.value.Item.{Item}
-use Rattle.chain_laws.proofs.Tests.{none-eq}
-use Rattle.channel_calls.proofs.Names.{bytes_eq_self}
-use Rattle.channel_calls.specs.History.{mode}
-use Rattle.channel_calls.specs.declared.entry.Entry.{Entry}
-use Rattle.channel_model.specs.Amounts.{amt}
-use Rattle.channel_model.specs.Rules.{people}
-use Rattle.channel_name.specs.Digests.{name_of_person}
-use Rattle.deadline_clock.specs.Mode.{is_final}
-use Rattle.funding_value.specs.Known.{FactsOf}
-use Rattle.funding_value.specs.Parts.{closed}
-use Rattle.funding_value.specs.Shapes.{items_in}
-use Rattle.funding_value.specs.declared.plan.Goal.{Goal}
-use Rattle.funding_value.specs.declared.plan.Part.TheVariants.{OnLedger}
+use Rattle.channel_values.specs.Outcomes.{IsOutcome}
+use Rattle.channel_values.specs.Parts.{FixedParts, StateParts, IsState}
+use Rattle.channel_values.specs.declared.value.AssetOutcome.{AssetOutcome}
+use Rattle.channel_values.specs.declared.value.Dest.TheVariants.{Person}
+use Rattle.channel_values.specs.declared.value.Item.{Item}
+use Rattle.channel_safety.proofs.Tests.{none-eq}
+use Rattle.call_history.proofs.Names.{bytes_eq_self}
+use Rattle.call_history.specs.History.{mode}
+use Rattle.call_history.specs.declared.entry.Entry.{Entry}
+use Rattle.channel_values.specs.Amounts.{amt}
+use Rattle.channel_values.specs.Rules.{people}
+use Rattle.channel_values.specs.Digests.{name_of_person}
+use Rattle.call_history.specs.Mode.{is_final}
+use Rattle.funding_plans.specs.Known.{FactsOf}
+use Rattle.funding_plans.specs.Parts.{closed}
+use Rattle.funding_plans.specs.Shapes.{items_in}
+use Rattle.funding_plans.specs.declared.plan.Goal.{Goal}
+use Rattle.funding_plans.specs.declared.plan.Part.TheVariants.{OnLedger}
 use Rattle.ledger_channel.specs.OnLedgers as children
 use Rattle.ledger_channel.specs.OnLedgers.{Funded, on_ledger_rows}
 use Rattle.ledger_channel.specs.Stages.{stage_on_ledger, wanted_on_ledger}
-use Rattle.net_model.specs.Journals.{In, Line}
-use Rattle.node_model.specs.Minds.{Mind, facts_of}
-use Rattle.node_model.specs.Openings.{shared}
-use Rattle.node_model.specs.Places.{Told, lines_of, mind_at}
-use Rattle.node_model.specs.Playing.{Signing}
-use Rattle.node_model.specs.Refusing.{is_open, stands_in, not_open}
-use Rattle.node_share_laws.specs.Orders.{orders_of}
-use Rattle.node_tables.specs.Stages.{stages}
-use Rattle.outcome_targets.specs.Limits.{is_valid}
-use Rattle.outcome_targets.specs.Outcomes.{amounts_in}
-use Rattle.outcome_targets.specs.declared.child.Child.{Child}
-use Rattle.plan_stages.specs.Asked.{wanted_of}
-use Rattle.share_model.specs.Funded.{up_to}
-use Rattle.share_model.specs.Places.{Order, listed, proposed}
-use Rattle.signing_laws.specs.Fairly.{Wants}
-use Rattle.signing_laws.specs.Moves.{SetsAside}
-use Rattle.signing_laws.specs.Settled.{EndsWith, Has}
-use Rattle.signing_laws.specs.Signatures.{IsOwn}
-use Rattle.signing_laws.specs.Wanted.{IsTarget}
-use Rattle.stage_rules.specs.Gathered.{goal_in}
-use Rattle.stage_rules.specs.Rows as rows
-use Rattle.stage_rules.specs.Seats.{holds, has_signed_past, settled_on, amounts_after, down_after}
-use Rattle.support_chain.specs.Real.{real}
-use Rattle.wish_laws.proofs.Finding.{asked-there, or-left}
-use Rattle.wish_laws.specs.Carried.{OpensWith}
+use Rattle.channel_safety.specs.Journals.{In, Line}
+use Rattle.channel_node.specs.Minds.{Mind, facts_of}
+use Rattle.channel_node.specs.Openings.{shared}
+use Rattle.channel_node.specs.Places.{Told, lines_of, mind_at}
+use Rattle.channel_node.specs.Playing.{Signing}
+use Rattle.channel_node.specs.Refusing.{is_open, stands_in, not_open}
+use Rattle.node_guarantees.specs.Orders.{orders_of}
+use Rattle.stage_tables.specs.Stages.{stages}
+use Rattle.funding_plans.specs.Limits.{is_valid}
+use Rattle.funding_plans.specs.Outcomes.{amounts_in}
+use Rattle.funding_plans.specs.declared.child.Child.{Child}
+use Rattle.stage_tables.specs.Asked.{wanted_of}
+use Rattle.share_laws.specs.Funded.{up_to}
+use Rattle.share_laws.specs.Places.{Order, listed, proposed}
+use Rattle.share_laws.specs.Fairly.{Wants}
+use Rattle.share_laws.specs.Moves.{SetsAside}
+use Rattle.share_laws.specs.Settled.{EndsWith, Has}
+use Rattle.share_laws.specs.Signatures.{IsOwn}
+use Rattle.share_laws.specs.Wanted.{IsTarget}
+use Rattle.funding_plans.specs.Gathered.{goal_in}
+use Rattle.funding_plans.specs.Rows as rows
+use Rattle.funding_plans.specs.Seats.{holds, has_signed_past, settled_on, amounts_after, down_after}
+use Rattle.support_rules.specs.Real.{real}
+use Rattle.fairness_laws.proofs.Finding.{asked-there, or-left}
+use Rattle.fairness_laws.specs.Carried.{OpensWith}
 use Rattle.fairness_laws.proofs.Apps.{no-payments}
 use Rattle.fairness_laws.proofs.Seat.Past.{two-people}
-use Rattle.fairness_laws.specs.Laws.{ChildrenWantFairly}
+use Rattle.fairness_laws.specs.FairLaws.{ChildrenWantFairly}
 use Rattle.fairness_laws.specs.LedgerLaws.{LedgersKeep}
 use Rattle.fairness_laws.specs.LedgerLending.{of_funded, lent}
 use Rattle.fairness_laws.specs.LedgerWanting.{IsChild}

@@ -3,57 +3,57 @@ use Rattle.std.proofs.Common.{◌≡◌, ℕ, ◌+◌, ◌-◌, ◌*◌, ◌<◌
 use Rattle.std.specs.Prelude.{◌==◌, Option, Some, None}
 use Rattle.std.specs.Option.{option_map}
 use Rattle.std.specs.Str.{bytes_eq}
-use Rattle.nitro_bytes.specs.Outcomes.{IsName, IsOutcome}
-use Rattle.nitro_bytes.specs.Parts.{FixedParts, StateParts, IsState}
-use Rattle.nitro_bytes.specs.declared.value.AssetOutcome.{AssetOutcome}
-use Rattle.nitro_bytes.specs.declared.value.Dest.TheVariants.{Person, Channel}
-use Rattle.nitro_bytes.specs.declared.value.Item.{Item}
-use Rattle.chain_laws.proofs.Tests.{some-eq, none-eq, and-left, and-right, clash}
-use Rattle.channel_calls.specs.Flows.{is_among}
-use Rattle.channel_calls.specs.History.{mode}
-use Rattle.channel_calls.specs.declared.entry.Entry.{Entry}
-use Rattle.channel_model.specs.Amounts.{amt, has}
-use Rattle.channel_model.specs.Rules.{people}
-use Rattle.channel_name.specs.Digests.{name_of_person}
-use Rattle.deadline_clock.specs.Mode.{is_final}
-use Rattle.funding_value.specs.Known.{FactsOf}
-use Rattle.funding_value.specs.Parts.{own_ledger, own_guarantor, joined_of, ledgers_of, closed}
-use Rattle.funding_value.specs.Shapes.{items_in}
-use Rattle.funding_value.specs.declared.plan.Goal.{Goal}
-use Rattle.funding_value.specs.declared.plan.Part.TheVariants as parts
-use Rattle.funding_value.specs.declared.plan.Virtual.{Virtual}
-use Rattle.net_model.specs.Journals.{In, Line}
-use Rattle.node_model.specs.Minds.{Mind, facts_of}
-use Rattle.node_model.specs.Openings.{shared}
-use Rattle.node_model.specs.Places.{Told, lines_of, mind_at}
-use Rattle.node_model.specs.Playing.{Signing}
-use Rattle.node_model.specs.Refusing.{is_open, stands_in, not_open}
-use Rattle.node_share_laws.specs.Orders.{orders_of}
-use Rattle.node_tables.specs.Stages.{stages}
-use Rattle.outcome_targets.specs.Limits.{is_valid}
-use Rattle.outcome_targets.specs.Outcomes.{amounts_in}
-use Rattle.outcome_targets.specs.Targets.{apart, together, guarantee}
-use Rattle.outcome_targets.specs.declared.child.Child.{Child}
-use Rattle.outcome_targets.specs.declared.terms.Terms.{Terms}
-use Rattle.plan_stages.specs.Asked.{wanted_of}
-use Rattle.share_model.specs.Funded.{up_to}
-use Rattle.share_model.specs.Places.{Order, plan, outcomes_of}
-use Rattle.signing_laws.proofs.Fits.{together_fits}
-use Rattle.signing_laws.specs.Fairly.{Wants}
-use Rattle.signing_laws.specs.Moves.{IsApart, IsTogether}
-use Rattle.signing_laws.specs.Settled.{EndsWith, ChildHas, InFull, Has, MayJoin}
-use Rattle.signing_laws.specs.Signatures.{IsOwn}
-use Rattle.signing_laws.specs.Wanted.{IsTarget, LendsNothing}
-use Rattle.signing_laws.specs.Wanted as wanted
-use Rattle.stage_rules.specs.Gathered.{goal_in}
-use Rattle.stage_rules.specs.Rows as rows
-use Rattle.stage_rules.specs.Seats.{Seat, holds, is_set_up, has_signed_past, settled_on, amounts_after}
-use Rattle.support_chain.specs.Real.{real}
+use Rattle.channel_values.specs.Outcomes.{IsName, IsOutcome}
+use Rattle.channel_values.specs.Parts.{FixedParts, StateParts, IsState}
+use Rattle.channel_values.specs.declared.value.AssetOutcome.{AssetOutcome}
+use Rattle.channel_values.specs.declared.value.Dest.TheVariants.{Person, Channel}
+use Rattle.channel_values.specs.declared.value.Item.{Item}
+use Rattle.channel_safety.proofs.Tests.{some-eq, none-eq, and-left, and-right, clash}
+use Rattle.call_history.specs.Flows.{is_among}
+use Rattle.call_history.specs.History.{mode}
+use Rattle.call_history.specs.declared.entry.Entry.{Entry}
+use Rattle.channel_values.specs.Amounts.{amt, has}
+use Rattle.channel_values.specs.Rules.{people}
+use Rattle.channel_values.specs.Digests.{name_of_person}
+use Rattle.call_history.specs.Mode.{is_final}
+use Rattle.funding_plans.specs.Known.{FactsOf}
+use Rattle.funding_plans.specs.Parts.{own_ledger, own_guarantor, joined_of, ledgers_of, closed}
+use Rattle.funding_plans.specs.Shapes.{items_in}
+use Rattle.funding_plans.specs.declared.plan.Goal.{Goal}
+use Rattle.funding_plans.specs.declared.plan.Part.TheVariants as parts
+use Rattle.funding_plans.specs.declared.plan.Virtual.{Virtual}
+use Rattle.channel_safety.specs.Journals.{In, Line}
+use Rattle.channel_node.specs.Minds.{Mind, facts_of}
+use Rattle.channel_node.specs.Openings.{shared}
+use Rattle.channel_node.specs.Places.{Told, lines_of, mind_at}
+use Rattle.channel_node.specs.Playing.{Signing}
+use Rattle.channel_node.specs.Refusing.{is_open, stands_in, not_open}
+use Rattle.node_guarantees.specs.Orders.{orders_of}
+use Rattle.stage_tables.specs.Stages.{stages}
+use Rattle.funding_plans.specs.Limits.{is_valid}
+use Rattle.funding_plans.specs.Outcomes.{amounts_in}
+use Rattle.funding_plans.specs.Targets.{apart, together, guarantee}
+use Rattle.funding_plans.specs.declared.child.Child.{Child}
+use Rattle.funding_plans.specs.declared.terms.Terms.{Terms}
+use Rattle.stage_tables.specs.Asked.{wanted_of}
+use Rattle.share_laws.specs.Funded.{up_to}
+use Rattle.share_laws.specs.Places.{Order, plan, outcomes_of}
+use Rattle.share_laws.proofs.Fits.{together_fits}
+use Rattle.share_laws.specs.Fairly.{Wants}
+use Rattle.share_laws.specs.Moves.{IsApart, IsTogether}
+use Rattle.share_laws.specs.Settled.{EndsWith, ChildHas, InFull, Has, MayJoin}
+use Rattle.share_laws.specs.Signatures.{IsOwn}
+use Rattle.share_laws.specs.Wanted.{IsTarget, LendsNothing}
+use Rattle.share_laws.specs.Wanted as wanted
+use Rattle.funding_plans.specs.Gathered.{goal_in}
+use Rattle.funding_plans.specs.Rows as rows
+use Rattle.funding_plans.specs.Seats.{Seat, holds, is_set_up, has_signed_past, settled_on, amounts_after}
+use Rattle.support_rules.specs.Real.{real}
 use Rattle.virtual_channel.specs.Ends as ends
 use Rattle.virtual_channel.specs.Ends.{End, end_rows}
 use Rattle.virtual_channel.specs.Stages.{stage_of_end, wanted_of_end}
-use Rattle.wish_laws.proofs.Finding.{asked-there, flips, or-left}
-use Rattle.signing_laws.proofs.Alone.{ends_as_it_can}
+use Rattle.fairness_laws.proofs.Finding.{asked-there, flips, or-left}
+use Rattle.share_laws.proofs.Alone.{ends_as_it_can}
 use Rattle.fairness_laws.proofs.Plan.Names.{in-among}
 use Rattle.fairness_laws.proofs.Seat.Past.{several, two-people}
 use Rattle.fairness_laws.proofs.Apps.{no-payments}
@@ -67,7 +67,7 @@ use Rattle.fairness_laws.specs.PlanParts.{EndIs}
 use Rattle.fairness_laws.specs.PlanSeats.{SeatIs}
 use Rattle.fairness_laws.specs.PlanSettings.{IsFair}
 use Rattle.fairness_laws.specs.SeatSitting.{Sits}
-use Rattle.fairness_laws.specs.Laws.{EndsWantFairly}
+use Rattle.fairness_laws.specs.FairLaws.{EndsWantFairly}
 use Rattle.fairness_laws.proofs.Joint.EndsKeep.{ends_keep}
 use Rattle.fairness_laws.proofs.Joint.Outcomes.{terms-of, together-asset, apart-asset}
 use Rattle.fairness_laws.proofs.Joint.Rows.{EndWants, guarantees, splits, opens, ups, joins, finals, parts as parts_back, downs, end-wants}

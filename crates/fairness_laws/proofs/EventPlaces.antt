@@ -1,20 +1,20 @@
 -- The places of a node's journal before and after an event or an entry.
 use Rattle.std.proofs.Common.{◌≡◌, ℕ, suc, ◌≤◌, true, false, List, [], ◌∷◌, ◌++◌, ◌⊎◌, inl, inr, length, refl, sym, ◌∙◌, ap, subst, arith}
 use Rattle.std.specs.Prelude.{None}
-use Rattle.chain_laws.proofs.Lists.{In-append_cases, append_assoc'}
-use Rattle.chain_laws.proofs.Tests.{clash}
-use Rattle.channel_calls.specs.declared.entry.Entry.{Entry}
-use Rattle.channel_calls.specs.declared.event.Deed.{Deed}
-use Rattle.channel_calls.specs.declared.event.Deed.TheVariants as deeds
-use Rattle.net_model.specs.Journals.{In, Line, is_watched, made_in}
-use Rattle.node_laws.proofs.Bridging.{lines-append, In-lines, plays-rises}
-use Rattle.node_model.specs.Places.{Told, line_of, lines_of}
-use Rattle.node_model.specs.Playing.{Signing, Plays}
-use Rattle.node_tables.specs.Stages.{stages}
+use Rattle.channel_safety.proofs.Lists.{In-append_cases, append_assoc'}
+use Rattle.channel_safety.proofs.Tests.{clash}
+use Rattle.call_history.specs.declared.entry.Entry.{Entry}
+use Rattle.call_history.specs.declared.event.Deed.{Deed}
+use Rattle.call_history.specs.declared.event.Deed.TheVariants as deeds
+use Rattle.channel_safety.specs.Journals.{In, Line, is_watched, made_in}
+use Rattle.channel_node.proofs.Bridging.{lines-append, In-lines, plays-rises}
+use Rattle.channel_node.specs.Places.{Told, line_of, lines_of}
+use Rattle.channel_node.specs.Playing.{Signing, Plays}
+use Rattle.stage_tables.specs.Stages.{stages}
 use Rattle.fairness_laws.specs.PaymentLaws.{At, ActsNext}
 use Rattle.fairness_laws.specs.PlanSettings.{IsFair}
-use Rattle.support_chain.specs.Real.{real}
-use Rattle.wish_laws.proofs.Over.{Seen}
+use Rattle.support_rules.specs.Real.{real}
+use Rattle.fairness_laws.proofs.Over.{Seen}
 use Rattle.fairness_laws.proofs.Seat.Past.{early}
 
 module _ (s : Signing) (h : List Entry) (journal : List Told) where

@@ -1,15 +1,15 @@
 -- The place at which a line of a node's journal signs a state.
 use Rattle.std.proofs.Common.{◌≡◌, ℕ, ◌≤◌, false, List, [], ◌∷◌, ◌++◌, inl, inr, length, refl, sym, ◌∙◌, ap, subst, arith}
 use Rattle.std.proofs.lemmas.List.{append_cancel_right, append_assoc}
-use Rattle.channel_calls.specs.declared.entry.Entry.{Entry}
-use Rattle.chain_laws.proofs.Lists.{append_assoc'}
-use Rattle.net_model.specs.Journals.{In, Line, is_watched}
-use Rattle.node_laws.proofs.Bridging.{plays-at}
-use Rattle.node_model.specs.Places.{Told, line_of, lines_of}
-use Rattle.node_model.specs.Playing.{Signing, PlaysEvent, Plays}
-use Rattle.node_model.specs.Tables.{Tables}
-use Rattle.share_model.specs.Places.{IsPlace}
-use Rattle.support_chain.specs.Real.{real}
+use Rattle.call_history.specs.declared.entry.Entry.{Entry}
+use Rattle.channel_safety.proofs.Lists.{append_assoc'}
+use Rattle.channel_safety.specs.Journals.{In, Line, is_watched}
+use Rattle.channel_node.proofs.Bridging.{plays-at}
+use Rattle.channel_node.specs.Places.{Told, line_of, lines_of}
+use Rattle.channel_node.specs.Playing.{Signing, PlaysEvent, Plays}
+use Rattle.channel_node.specs.Tables.{Tables}
+use Rattle.share_laws.specs.Places.{IsPlace}
+use Rattle.support_rules.specs.Real.{real}
 use Rattle.fairness_laws.specs.PaymentLaws.{At}
 
 first-line : Line → List Line → Line

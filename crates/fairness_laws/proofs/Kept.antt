@@ -1,37 +1,37 @@
 -- A node plans fairly, so nobody lowers the share of its person, and it can leave with it.
 use Rattle.std.proofs.Common.{◌≡◌, ℕ, ◌≤◌, Bool, false, cond, List, [], ◌∷◌, ◌++◌, flat_map, inl, inr, sym, ◌∙◌, ap, subst}
 use Rattle.std.specs.Prelude.{Option}
-use Rattle.channel_name.specs.Collisions.{NoneCollide}
-use Rattle.channel_name.specs.Digests.{name_of_person, person_string}
-use Rattle.channel_calls.specs.declared.entry.Entry.{Entry}
-use Rattle.exit_laws.specs.Fair.{LeavesFairly}
-use Rattle.funding_value.specs.declared.plan.Part.{Part}
-use Rattle.funding_value.specs.declared.plan.Part.TheVariants.{Root, OnLedger, End, Middle}
-use Rattle.history_laws.proofs.Telling.{tells}
-use Rattle.net_model.proofs.Members.{In-append_left, In-append_right, In-map, In-flat_map, contains, contained}
-use Rattle.net_model.specs.Hashed.{of_fixed, hashed}
-use Rattle.net_model.specs.Honest.{Honest}
-use Rattle.net_model.specs.Journals.{In, Line, is_watched, is_followed}
-use Rattle.net_party.specs.declared.command.Command.{Command}
-use Rattle.net_share_laws.proofs.RealExits.{leavers_are_paid}
-use Rattle.net_share_laws.proofs.RealShares.{hashes, shares_kept}
-use Rattle.node_laws.proofs.Bridging.{In-lines}
-use Rattle.node_laws.proofs.Once.{played_journals_are_honest}
-use Rattle.node_model.specs.Places.{Told, lines_of}
-use Rattle.node_model.specs.Playing.{Signing, Plays}
-use Rattle.node_share_laws.specs.Orders.{orders_of}
-use Rattle.node_tables.specs.Stages.{stages}
+use Rattle.channel_values.specs.Collisions.{NoneCollide}
+use Rattle.channel_values.specs.Digests.{name_of_person, person_string}
+use Rattle.call_history.specs.declared.entry.Entry.{Entry}
+use Rattle.channel_exits.specs.Fair.{LeavesFairly}
+use Rattle.funding_plans.specs.declared.plan.Part.{Part}
+use Rattle.funding_plans.specs.declared.plan.Part.TheVariants.{Root, OnLedger, End, Middle}
+use Rattle.channel_safety.proofs.Telling.{tells}
+use Rattle.channel_safety.proofs.Members.{In-append_left, In-append_right, In-map, In-flat_map, contains, contained}
+use Rattle.channel_safety.specs.Hashed.{of_fixed, hashed}
+use Rattle.channel_safety.specs.Honest.{Honest}
+use Rattle.channel_safety.specs.Journals.{In, Line, is_watched, is_followed}
+use Rattle.network.specs.declared.command.Command.{Command}
+use Rattle.node_guarantees.proofs.RealExits.{leavers_are_paid}
+use Rattle.node_guarantees.proofs.RealShares.{hashes, shares_kept}
+use Rattle.channel_node.proofs.Bridging.{In-lines}
+use Rattle.channel_node.proofs.Once.{played_journals_are_honest}
+use Rattle.channel_node.specs.Places.{Told, lines_of}
+use Rattle.channel_node.specs.Playing.{Signing, Plays}
+use Rattle.node_guarantees.specs.Orders.{orders_of}
+use Rattle.stage_tables.specs.Stages.{stages}
 use Rattle.fairness_laws.proofs.Children.{children_want_fairly}
 use Rattle.fairness_laws.proofs.EndPart.{ends_want_fairly}
 use Rattle.fairness_laws.proofs.Leaving.{wanting_plans_leave}
 use Rattle.fairness_laws.proofs.MiddlePart.{middles_want_fairly}
 use Rattle.fairness_laws.proofs.Roots.{roots_want_fairly}
-use Rattle.node_model.specs.Named.{named_by, named_in}
-use Rattle.fairness_laws.specs.Laws.{OfEachNode, NodesPlanFairly, NodesSignFairly, PlansKeepShares}
+use Rattle.channel_node.specs.Named.{named_by, named_in}
+use Rattle.fairness_laws.specs.FairLaws.{OfEachNode, NodesPlanFairly, NodesSignFairly, PlansKeepShares}
 use Rattle.fairness_laws.specs.PlanSettings.{PeopleAreTold, IsFair}
 use Rattle.fairness_laws.specs.Wanting.{WantsFairly}
 use Rattle.share_laws.specs.Lines.{AreInOrder}
-use Rattle.support_chain.specs.Real.{real}
+use Rattle.support_rules.specs.Real.{real}
 
 -- ---- names of people
 

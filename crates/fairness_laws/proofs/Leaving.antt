@@ -1,31 +1,31 @@
 -- A node whose parts want fairly plans fairly and leaves fairly: it signs guarantees alone, and of one asset.
 use Rattle.std.proofs.Common.{◌≡◌, ℕ, List, subst}
 use Rattle.std.specs.List.{AllByRecursion}
-use Rattle.channel_calls.specs.declared.entry.Entry.{Entry}
-use Rattle.channel_name.specs.Digests.{name_of_person}
-use Rattle.exit_laws.specs.Fair.{LeavesFairly, SignsInAsset}
-use Rattle.funding_value.specs.declared.plan.Part.{Part}
-use Rattle.funding_value.specs.declared.plan.Part.TheVariants.{Root, OnLedger, End, Middle}
-use Rattle.net_model.specs.Journals.{In, Line}
+use Rattle.call_history.specs.declared.entry.Entry.{Entry}
+use Rattle.channel_values.specs.Digests.{name_of_person}
+use Rattle.channel_exits.specs.Fair.{LeavesFairly, SignsInAsset}
+use Rattle.funding_plans.specs.declared.plan.Part.{Part}
+use Rattle.funding_plans.specs.declared.plan.Part.TheVariants.{Root, OnLedger, End, Middle}
+use Rattle.channel_safety.specs.Journals.{In, Line}
 use Rattle.fairness_laws.proofs.Joint.Splits.{ends_split, middles_split}
 use Rattle.fairness_laws.proofs.Plan.Parts.{parts_are_known}
 use Rattle.fairness_laws.proofs.Plans.{wanting_plans_fairly, whole-place}
 use Rattle.fairness_laws.proofs.Promises.{end-has_signed, end-in_asset, middle-has_signed, middle-in_asset}
-use Rattle.fairness_laws.specs.Laws.{WantingPlansLeave}
+use Rattle.fairness_laws.specs.FairLaws.{WantingPlansLeave}
 use Rattle.fairness_laws.specs.PaymentLaws.{At}
 use Rattle.fairness_laws.specs.PlanLaws.{PartAt}
 use Rattle.fairness_laws.specs.PlanSettings.{IsFair}
 use Rattle.fairness_laws.specs.Wanting.{WantsFairly}
-use Rattle.node_model.specs.Minds.{Mind}
-use Rattle.node_model.specs.Places.{Told, lines_of, mind_at}
-use Rattle.node_model.specs.Playing.{Signing}
-use Rattle.node_share_laws.proofs.Telling.{places_tell_shares}
-use Rattle.node_share_laws.specs.Orders.{orders_of}
-use Rattle.node_tables.specs.Stages.{stages}
+use Rattle.channel_node.specs.Minds.{Mind}
+use Rattle.channel_node.specs.Places.{Told, lines_of, mind_at}
+use Rattle.channel_node.specs.Playing.{Signing}
+use Rattle.node_guarantees.proofs.Telling.{places_tell_shares}
+use Rattle.node_guarantees.specs.Orders.{orders_of}
+use Rattle.stage_tables.specs.Stages.{stages}
 use Rattle.share_laws.proofs.Plans.{all-are}
 use Rattle.share_laws.specs.Signed.{HasSigned, PlansFairly}
-use Rattle.share_model.specs.Places.{Order, plan}
-use Rattle.support_chain.specs.Real.{real}
+use Rattle.share_laws.specs.Places.{Order, plan}
+use Rattle.support_rules.specs.Real.{real}
 
 module _ (s : Signing) (h : List Entry) (journal : List Told) (fair : IsFair s h journal)
     (wants : (p : Part) → In p (plan (orders_of real s.key journal) (lines_of s.key journal)) → WantsFairly s h journal p) where

@@ -2,52 +2,52 @@
 use Rattle.std.proofs.Common.{◌≡◌, ℕ, ◌+◌, ◌-◌, ◌*◌, ◌<◌, ◌≤◌, ◌^◌, Bool, true, false, ◌&&◌, List, [], ◌∷◌, ◌⊎◌, inl, inr, length, refl, sym, ◌∙◌, ap, subst, arith}
 use Rattle.std.specs.Prelude.{◌==◌, Option, Some, None}
 use Rattle.std.specs.Str.{bytes_eq}
-use Rattle.nitro_bytes.specs.Outcomes.{IsName, IsOutcome}
-use Rattle.nitro_bytes.specs.Parts.{FixedParts, StateParts, IsState}
-use Rattle.nitro_bytes.specs.declared.value.AssetOutcome.{AssetOutcome}
-use Rattle.chain_laws.proofs.Tests.{some-eq, and-left, and-right}
-use Rattle.channel_calls.specs.Flows.{is_among}
-use Rattle.channel_calls.specs.History.{mode}
-use Rattle.channel_calls.specs.declared.entry.Entry.{Entry}
-use Rattle.channel_model.specs.Rules.{people}
-use Rattle.channel_name.specs.Digests.{name_of_person}
-use Rattle.deadline_clock.specs.Mode.{is_final}
-use Rattle.funding_value.specs.Known.{FactsOf}
-use Rattle.funding_value.specs.Parts.{joined_of, ledgers_of, closed}
-use Rattle.funding_value.specs.Shapes.{items_in, list_in}
-use Rattle.funding_value.specs.declared.plan.Goal.{Goal}
-use Rattle.funding_value.specs.declared.plan.Part.TheVariants as parts
-use Rattle.funding_value.specs.declared.plan.Virtual.{Virtual}
-use Rattle.net_model.specs.Journals.{In, Line}
-use Rattle.node_model.specs.Minds.{Mind, facts_of}
-use Rattle.node_model.specs.Places.{Told, lines_of, mind_at}
-use Rattle.node_model.specs.Playing.{Signing}
-use Rattle.node_model.specs.Refusing.{is_open, stands_in, not_open}
-use Rattle.node_share_laws.specs.Orders.{orders_of}
-use Rattle.node_tables.specs.Stages.{stages}
-use Rattle.outcome_targets.specs.Limits.{is_valid}
-use Rattle.outcome_targets.specs.Targets.{apart, together, guarantee}
-use Rattle.outcome_targets.specs.declared.child.Child.{Child}
-use Rattle.outcome_targets.specs.declared.terms.Terms.{Terms}
-use Rattle.plan_stages.specs.Asked.{wanted_of}
-use Rattle.share_model.specs.Books.{outcome_in}
-use Rattle.share_model.specs.Places.{Order, plan, counting, outcomes_of}
-use Rattle.signing_laws.specs.Fairly.{Wants}
-use Rattle.signing_laws.specs.Moves.{SetsAside, PaysApart, PaysTogether}
-use Rattle.signing_laws.specs.Settled.{EndsWith, Between, InFull, Has, MayJoin}
-use Rattle.signing_laws.specs.Signatures.{IsOwn}
-use Rattle.signing_laws.specs.Wanted.{IsTarget, LendsNothing}
-use Rattle.signing_laws.specs.Wanted as wanted
-use Rattle.stage_rules.specs.Gathered.{goal_in}
-use Rattle.stage_rules.specs.Rows as rows
-use Rattle.stage_rules.specs.Seats.{Seat, holds, is_set_up, has_signed_past, settled_on, repeats, toward, up_in, down_in}
-use Rattle.support_chain.specs.Real.{real}
+use Rattle.channel_values.specs.Outcomes.{IsName, IsOutcome}
+use Rattle.channel_values.specs.Parts.{FixedParts, StateParts, IsState}
+use Rattle.channel_values.specs.declared.value.AssetOutcome.{AssetOutcome}
+use Rattle.channel_safety.proofs.Tests.{some-eq, and-left, and-right}
+use Rattle.call_history.specs.Flows.{is_among}
+use Rattle.call_history.specs.History.{mode}
+use Rattle.call_history.specs.declared.entry.Entry.{Entry}
+use Rattle.channel_values.specs.Rules.{people}
+use Rattle.channel_values.specs.Digests.{name_of_person}
+use Rattle.call_history.specs.Mode.{is_final}
+use Rattle.funding_plans.specs.Known.{FactsOf}
+use Rattle.funding_plans.specs.Parts.{joined_of, ledgers_of, closed}
+use Rattle.funding_plans.specs.Shapes.{items_in, list_in}
+use Rattle.funding_plans.specs.declared.plan.Goal.{Goal}
+use Rattle.funding_plans.specs.declared.plan.Part.TheVariants as parts
+use Rattle.funding_plans.specs.declared.plan.Virtual.{Virtual}
+use Rattle.channel_safety.specs.Journals.{In, Line}
+use Rattle.channel_node.specs.Minds.{Mind, facts_of}
+use Rattle.channel_node.specs.Places.{Told, lines_of, mind_at}
+use Rattle.channel_node.specs.Playing.{Signing}
+use Rattle.channel_node.specs.Refusing.{is_open, stands_in, not_open}
+use Rattle.node_guarantees.specs.Orders.{orders_of}
+use Rattle.stage_tables.specs.Stages.{stages}
+use Rattle.funding_plans.specs.Limits.{is_valid}
+use Rattle.funding_plans.specs.Targets.{apart, together, guarantee}
+use Rattle.funding_plans.specs.declared.child.Child.{Child}
+use Rattle.funding_plans.specs.declared.terms.Terms.{Terms}
+use Rattle.stage_tables.specs.Asked.{wanted_of}
+use Rattle.share_laws.specs.Books.{outcome_in}
+use Rattle.share_laws.specs.Places.{Order, plan, counting, outcomes_of}
+use Rattle.share_laws.specs.Fairly.{Wants}
+use Rattle.share_laws.specs.Moves.{SetsAside, PaysApart, PaysTogether}
+use Rattle.share_laws.specs.Settled.{EndsWith, Between, InFull, Has, MayJoin}
+use Rattle.share_laws.specs.Signatures.{IsOwn}
+use Rattle.share_laws.specs.Wanted.{IsTarget, LendsNothing}
+use Rattle.share_laws.specs.Wanted as wanted
+use Rattle.funding_plans.specs.Gathered.{goal_in}
+use Rattle.funding_plans.specs.Rows as rows
+use Rattle.funding_plans.specs.Seats.{Seat, holds, is_set_up, has_signed_past, settled_on, repeats, toward, up_in, down_in}
+use Rattle.support_rules.specs.Real.{real}
 use Rattle.virtual_channel.specs.Apart.{apart_at}
 use Rattle.virtual_channel.specs.Middles as middles
 use Rattle.virtual_channel.specs.Middles.{Middle, middle_rows, back_to}
 use Rattle.virtual_channel.specs.Stages.{stage_of_middle, wanted_of_middle}
-use Rattle.wish_laws.proofs.Finding.{asked-there, or-left}
-use Rattle.wish_laws.specs.Carried.{OpensWith}
+use Rattle.fairness_laws.proofs.Finding.{asked-there, or-left}
+use Rattle.fairness_laws.specs.Carried.{OpensWith}
 use Rattle.fairness_laws.proofs.Plan.Plans.{plans_are_whole}
 use Rattle.fairness_laws.proofs.Plan.Bearers.{middle-bare}
 use Rattle.fairness_laws.proofs.Plan.Names.{in-among}
@@ -56,7 +56,7 @@ use Rattle.fairness_laws.proofs.Apps.{no-payments}
 use Rattle.fairness_laws.proofs.Seat.Held.{held-past}
 use Rattle.fairness_laws.proofs.Joint.Terms.{ledgers-differ as other-ledgers, three-people}
 use Rattle.fairness_laws.specs.JointKeeping.{MiddleKeeps, IsSplit}
-use Rattle.fairness_laws.specs.Laws.{MiddlesWantFairly}
+use Rattle.fairness_laws.specs.FairLaws.{MiddlesWantFairly}
 use Rattle.fairness_laws.specs.LedgerLaws.{LedgersKeep, LedgersStand}
 use Rattle.fairness_laws.specs.LedgerLending.{of_middle, lent}
 use Rattle.fairness_laws.specs.LedgerWanting.{IsChild}

@@ -4,8 +4,8 @@ use Rattle.std.specs.Int.{w32, byte_len, to_be_bytes}
 use Rattle.std.specs.List.{AllByRecursion, slice_index}
 use Rattle.sha2.proofs.Facts256.{length-sha256}
 use Rattle.sha2.specs.Sha256.{sha256, digest_bytes}
-use Rattle.nitro_bytes.specs.Outcomes.{AreBytes, IsName}
-use Rattle.channel_name.specs.Digests.{name_of_channel, name_of_person}
+use Rattle.channel_values.specs.Outcomes.{AreBytes, IsName}
+use Rattle.channel_values.specs.Digests.{name_of_channel, name_of_person}
 use Rattle.fairness_laws.specs.LedgerEvents.{NamesAreNames}
 use Rattle.fairness_laws.proofs.Ledger.Spelled.{none, append, number}
 

@@ -2,52 +2,52 @@
 use Rattle.std.proofs.Common.{◌≡◌, ℕ, ◌-◌, ◌<◌, Bool, true, false, cond, List, [], ◌∷◌, ◌⊎◌, inl, inr, refl, sym, ◌∙◌, ap, subst}
 use Rattle.std.specs.Prelude.{Some}
 use Rattle.std.specs.Str.{bytes_eq}
-use Rattle.nitro_bytes.specs.Parts.{FixedParts}
-use Rattle.nitro_bytes.specs.declared.chain.Signed.{Signed}
-use Rattle.nitro_bytes.specs.declared.value.AssetOutcome.{AssetOutcome}
-use Rattle.channel_model.specs.Rules.{people}
-use Rattle.channel_calls.proofs.Names.{same_bytes, bytes_eq_self}
-use Rattle.channel_calls.specs.Flows.{is_among}
-use Rattle.channel_calls.specs.History.{Legal}
-use Rattle.channel_calls.specs.declared.entry.Entry.{Entry}
-use Rattle.chain_laws.proofs.Lists.{In-get}
-use Rattle.chain_laws.proofs.Tests.{some-eq}
-use Rattle.funding_value.specs.Parts.{own_channel, channels_of}
-use Rattle.funding_value.specs.declared.plan.Goal.{Goal}
-use Rattle.funding_value.specs.declared.plan.Part.{Part}
-use Rattle.funding_value.specs.declared.plan.Part.TheVariants as parts
-use Rattle.net_model.specs.Journals.{In, Line, made_in}
-use Rattle.net_party.specs.declared.command.Command.{Command}
-use Rattle.net_party.specs.declared.command.Command.TheVariants as commands
-use Rattle.net_party.specs.declared.command.Route.{Route}
-use Rattle.node_laws.proofs.Allowing.{apart-one}
-use Rattle.node_model.specs.Minds.{Mind, facts_of}
-use Rattle.node_model.specs.Openings.{opened_by, parts_of, shared, takes_part, virtual}
-use Rattle.node_model.specs.Places.{Told, lines_of, mind_at}
-use Rattle.node_model.specs.Playing.{Signing, Plays}
-use Rattle.node_tables.specs.Stages.{stages}
+use Rattle.channel_values.specs.Parts.{FixedParts}
+use Rattle.channel_values.specs.declared.chain.Signed.{Signed}
+use Rattle.channel_values.specs.declared.value.AssetOutcome.{AssetOutcome}
+use Rattle.channel_values.specs.Rules.{people}
+use Rattle.call_history.proofs.Names.{same_bytes, bytes_eq_self}
+use Rattle.call_history.specs.Flows.{is_among}
+use Rattle.call_history.specs.History.{Legal}
+use Rattle.call_history.specs.declared.entry.Entry.{Entry}
+use Rattle.channel_safety.proofs.Lists.{In-get}
+use Rattle.channel_safety.proofs.Tests.{some-eq}
+use Rattle.funding_plans.specs.Parts.{own_channel, channels_of}
+use Rattle.funding_plans.specs.declared.plan.Goal.{Goal}
+use Rattle.funding_plans.specs.declared.plan.Part.{Part}
+use Rattle.funding_plans.specs.declared.plan.Part.TheVariants as parts
+use Rattle.channel_safety.specs.Journals.{In, Line, made_in}
+use Rattle.network.specs.declared.command.Command.{Command}
+use Rattle.network.specs.declared.command.Command.TheVariants as commands
+use Rattle.network.specs.declared.command.Route.{Route}
+use Rattle.channel_node.proofs.Allowing.{apart-one}
+use Rattle.channel_node.specs.Minds.{Mind, facts_of}
+use Rattle.channel_node.specs.Openings.{opened_by, parts_of, shared, takes_part, virtual}
+use Rattle.channel_node.specs.Places.{Told, lines_of, mind_at}
+use Rattle.channel_node.specs.Playing.{Signing, Plays}
+use Rattle.stage_tables.specs.Stages.{stages}
 use Rattle.fairness_laws.proofs.Plan.Places.{plays-there}
 use Rattle.fairness_laws.proofs.Opening.Children.{FundedAt, funded-at, goal-opening, wants-opening, child-starts}
 use Rattle.fairness_laws.proofs.Opening.Ends.{end-starts, payment-channel-of, channel-wants}
 use Rattle.fairness_laws.proofs.Rows.{exactly}
 use Rattle.fairness_laws.proofs.Opening.Seated.{seated}
 use Rattle.fairness_laws.proofs.Opening.Virtuals.{names-differ, at-end}
-use Rattle.outcome_targets.specs.declared.terms.Terms.{Terms}
+use Rattle.funding_plans.specs.declared.terms.Terms.{Terms}
 use Rattle.share_laws.proofs.Finality.{opened-there}
 use Rattle.fairness_laws.specs.PlanParts.{OnLedgerIs}
 use Rattle.fairness_laws.specs.PlanSettings.{IsFair}
-use Rattle.share_model.specs.Places.{channels}
-use Rattle.stage_rules.specs.Gathered.{goal_in}
-use Rattle.stage_rules.specs.Seats.{Seat}
-use Rattle.support_chain.specs.Real.{real}
-use Rattle.support_chain.specs.Steps.{persons}
+use Rattle.share_laws.specs.Places.{channels}
+use Rattle.funding_plans.specs.Gathered.{goal_in}
+use Rattle.funding_plans.specs.Seats.{Seat}
+use Rattle.support_rules.specs.Real.{real}
+use Rattle.support_rules.specs.Steps.{persons}
 use Rattle.virtual_channel.specs.Stages.{terms_for}
-use Rattle.wish_laws.proofs.Closing.{goal-found}
-use Rattle.wish_laws.proofs.Commanded.{IsGoalOf, took-later, one-command, apart-names, goals-of}
-use Rattle.wish_laws.proofs.Firsts.{opener, first-place}
-use Rattle.wish_laws.proofs.Planned.{is-planned, own-among, one-part}
-use Rattle.wish_laws.proofs.Opening.{RootOf, root-of}
-use Rattle.wish_laws.specs.Opens.{Took}
+use Rattle.fairness_laws.proofs.Closing.{goal-found}
+use Rattle.fairness_laws.proofs.Commanded.{IsGoalOf, took-later, one-command, apart-names, goals-of}
+use Rattle.fairness_laws.proofs.FirstRounds.{opener, first-place}
+use Rattle.fairness_laws.proofs.Planned.{is-planned, own-among, one-part}
+use Rattle.fairness_laws.proofs.RootOpening.{RootOf, root-of}
+use Rattle.fairness_laws.specs.Opens.{Took}
 use Rattle.fairness_laws.specs.PaymentLaws.{At}
 
 -- in the first round of a channel the participant signs this outcome alone, without data

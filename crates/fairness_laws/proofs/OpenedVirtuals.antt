@@ -1,28 +1,28 @@
 -- What the channels of a virtual channel open with, and what is signed in its guarantors, by the command that opened its part.
 use Rattle.std.proofs.Common.{◌≡◌, ℕ, ◌+◌, ◌≤◌, Bool, true, false, cond, List, [], ◌∷◌, inl, inr, refl, sym, ◌∙◌, ap, subst, arith}
 use Rattle.std.specs.Prelude.{Some}
-use Rattle.nitro_bytes.specs.Outcomes.{IsName}
-use Rattle.nitro_bytes.specs.Parts.{FixedParts}
-use Rattle.nitro_bytes.specs.declared.value.AssetOutcome.{AssetOutcome}
-use Rattle.channel_name.specs.Digests.{name_of_person}
-use Rattle.channel_calls.specs.Flows.{is_among}
-use Rattle.channel_calls.specs.declared.entry.Entry.{Entry}
-use Rattle.channel_model.specs.Rules.{people}
-use Rattle.funding_value.specs.Parts.{own_channel, own_guarantor, ledgers_of}
-use Rattle.funding_value.specs.declared.plan.Goal.{Goal}
-use Rattle.funding_value.specs.declared.plan.Part.{Part}
-use Rattle.funding_value.specs.declared.plan.Part.TheVariants as parts
-use Rattle.funding_value.specs.declared.plan.Virtual.{Virtual}
-use Rattle.net_model.specs.Held.{held}
-use Rattle.net_model.specs.Journals.{In}
-use Rattle.net_party.specs.declared.command.Command.{Command}
-use Rattle.net_party.specs.declared.command.Command.TheVariants as commands
-use Rattle.net_party.specs.declared.command.Route.{Route}
-use Rattle.node_laws.proofs.Reaching.{Reaches}
-use Rattle.node_model.specs.Minds.{Mind, facts_of}
-use Rattle.node_model.specs.Openings.{opened_by, parts_of, shared, takes_part, virtual}
-use Rattle.node_model.specs.Places.{Told, lines_of, mind_at}
-use Rattle.node_model.specs.Playing.{Signing}
+use Rattle.channel_values.specs.Outcomes.{IsName}
+use Rattle.channel_values.specs.Parts.{FixedParts}
+use Rattle.channel_values.specs.declared.value.AssetOutcome.{AssetOutcome}
+use Rattle.channel_values.specs.Digests.{name_of_person}
+use Rattle.call_history.specs.Flows.{is_among}
+use Rattle.call_history.specs.declared.entry.Entry.{Entry}
+use Rattle.channel_values.specs.Rules.{people}
+use Rattle.funding_plans.specs.Parts.{own_channel, own_guarantor, ledgers_of}
+use Rattle.funding_plans.specs.declared.plan.Goal.{Goal}
+use Rattle.funding_plans.specs.declared.plan.Part.{Part}
+use Rattle.funding_plans.specs.declared.plan.Part.TheVariants as parts
+use Rattle.funding_plans.specs.declared.plan.Virtual.{Virtual}
+use Rattle.channel_safety.specs.Held.{held}
+use Rattle.channel_safety.specs.Journals.{In}
+use Rattle.network.specs.declared.command.Command.{Command}
+use Rattle.network.specs.declared.command.Command.TheVariants as commands
+use Rattle.network.specs.declared.command.Route.{Route}
+use Rattle.channel_node.proofs.Reaching.{Reaches}
+use Rattle.channel_node.specs.Minds.{Mind, facts_of}
+use Rattle.channel_node.specs.Openings.{opened_by, parts_of, shared, takes_part, virtual}
+use Rattle.channel_node.specs.Places.{Told, lines_of, mind_at}
+use Rattle.channel_node.specs.Playing.{Signing}
 use Rattle.fairness_laws.proofs.NamesAreNames.{names_are_names}
 use Rattle.fairness_laws.proofs.Opening.Ends.{EndAt, end-at, ends_open, guarantor-named, guarantor-inside, posted-starts}
 use Rattle.fairness_laws.proofs.Opening.Guarantors.{ends_sign, middles_sign}
@@ -36,18 +36,18 @@ use Rattle.fairness_laws.specs.OpeningChannels.{guarantor_of, SignsOnly}
 use Rattle.fairness_laws.specs.PaymentLaws.{At}
 use Rattle.fairness_laws.specs.PlanParts.{EndIs, MiddleIs}
 use Rattle.fairness_laws.specs.PlanSettings.{IsFair}
-use Rattle.outcome_targets.specs.Targets.{apart, guarantee}
-use Rattle.outcome_targets.specs.declared.terms.Terms.{Terms}
-use Rattle.share_model.specs.Places.{channels}
-use Rattle.stage_rules.specs.Gathered.{goal_in}
-use Rattle.stage_rules.specs.Seats.{Seat}
-use Rattle.support_chain.specs.Real.{real}
-use Rattle.support_chain.specs.Steps.{persons}
+use Rattle.funding_plans.specs.Targets.{apart, guarantee}
+use Rattle.funding_plans.specs.declared.terms.Terms.{Terms}
+use Rattle.share_laws.specs.Places.{channels}
+use Rattle.funding_plans.specs.Gathered.{goal_in}
+use Rattle.funding_plans.specs.Seats.{Seat}
+use Rattle.support_rules.specs.Real.{real}
+use Rattle.support_rules.specs.Steps.{persons}
 use Rattle.virtual_channel.specs.Stages.{terms_for, own_end}
-use Rattle.wish_laws.proofs.Commanded.{IsGoalOf}
-use Rattle.wish_laws.proofs.Firsts as firsts
-use Rattle.wish_laws.specs.Carried.{OpensWith}
-use Rattle.wish_laws.specs.Opens.{Took}
+use Rattle.fairness_laws.proofs.Commanded.{IsGoalOf}
+use Rattle.fairness_laws.proofs.FirstRounds as firsts
+use Rattle.fairness_laws.specs.Carried.{OpensWith}
+use Rattle.fairness_laws.specs.Opens.{Took}
 
 -- the virtual channel of a part
 abbrev virtual-or : Virtual → Part → Virtual

@@ -3,22 +3,22 @@ use Rattle.std.proofs.Common.{◌≡◌, ℕ, ◌^◌, ◌<◌, Bool, true, fals
 use Rattle.std.proofs.lemmas.Bool.Decides.{nat_tests}
 use Rattle.std.specs.Prelude.{◌==◌, nat_le, nat_lt, is_ok, Some, None}
 use Rattle.std.specs.List.{AllByRecursion}
-use Rattle.nitro_bytes.specs.Outcomes.{is_same, IsItem, IsShape, IsAssetOutcome}
-use Rattle.nitro_bytes.specs.Parts.{StateParts}
-use Rattle.nitro_bytes.specs.Reading.{outcome_of}
-use Rattle.nitro_bytes.specs.declared.value.AssetOutcome.{AssetOutcome}
-use Rattle.nitro_bytes.specs.declared.value.Dest.{Dest}
-use Rattle.nitro_bytes.specs.declared.value.Item.{Item}
-use Rattle.nitro_bytes.specs.declared.value.Shape.{Shape}
-use Rattle.nitro_bytes.specs.declared.value.Shape.TheVariants.{Allocation, Guarantee}
-use Rattle.app_rules.specs.Ballots.{ballot_of}
-use Rattle.app_rules.specs.Toward.{has_no_votes}
-use Rattle.chain_laws.proofs.Tests.{clash, and-left}
-use Rattle.channel_calls.specs.Dues.{shape_in}
-use Rattle.channel_model.specs.Amounts.{amt}
-use Rattle.funding_value.specs.Shapes.{items_of, items_in}
-use Rattle.net_model.specs.Journals.{In}
-use Rattle.share_model.specs.Places.{listed, proposed, outcomes_of}
+use Rattle.channel_values.specs.Outcomes.{is_same, IsItem, IsShape, IsAssetOutcome}
+use Rattle.channel_values.specs.Parts.{StateParts}
+use Rattle.channel_values.specs.Reading.{outcome_of}
+use Rattle.channel_values.specs.declared.value.AssetOutcome.{AssetOutcome}
+use Rattle.channel_values.specs.declared.value.Dest.{Dest}
+use Rattle.channel_values.specs.declared.value.Item.{Item}
+use Rattle.channel_values.specs.declared.value.Shape.{Shape}
+use Rattle.channel_values.specs.declared.value.Shape.TheVariants.{Allocation, Guarantee}
+use Rattle.support_rules.specs.Ballots.{ballot_of}
+use Rattle.support_rules.specs.Toward.{has_no_votes}
+use Rattle.channel_safety.proofs.Tests.{clash, and-left}
+use Rattle.call_history.specs.Dues.{shape_in}
+use Rattle.channel_values.specs.Amounts.{amt}
+use Rattle.funding_plans.specs.Shapes.{items_of, items_in}
+use Rattle.channel_safety.specs.Journals.{In}
+use Rattle.share_laws.specs.Places.{listed, proposed, outcomes_of}
 use Rattle.fairness_laws.specs.OpeningChannels.{IsExactly}
 
 -- without data with its own alone

@@ -1,8 +1,8 @@
 -- Where a payment waits a chain is held of its channel, which is a payment channel.
 use Rattle.std.proofs.Common.{◌≡◌, ℕ, ◌+◌, ◌<◌, ◌≤◌, Bool, true, false, List, [], ◌∷◌, inl, inr, length, refl, sym, ◌∙◌, ap, subst, arith}
 use Rattle.std.specs.Prelude.{nat_le, Some, None}
-use Rattle.chain_laws.proofs.Lists.{In-get, get-within}
-use Rattle.funding_value.specs.declared.plan.Part.TheVariants.{Root, OnLedger, End}
+use Rattle.channel_safety.proofs.Lists.{In-get, get-within}
+use Rattle.funding_plans.specs.declared.plan.Part.TheVariants.{Root, OnLedger, End}
 use Rattle.share_laws.proofs.Finality.{opened-there}
 use Rattle.fairness_laws.proofs.Apps.{no-payments, no-payments-either}
 use Rattle.fairness_laws.proofs.Ledger.Payments.{app-of}
@@ -14,43 +14,43 @@ use Rattle.fairness_laws.proofs.Opening.Virtuals.{Differ, names-differ, at-end}
 use Rattle.fairness_laws.proofs.Plan.Names.{place-within}
 use Rattle.fairness_laws.proofs.Plan.Places.{plays-there}
 use Rattle.fairness_laws.specs.Wanting.{PaysInHeld}
-use Rattle.node_model.specs.Minds.{facts_of}
-use Rattle.node_model.specs.Openings.{shared, virtual, takes_part, place_among, opened_by, parts_of}
-use Rattle.share_model.specs.Places.{channels}
+use Rattle.channel_node.specs.Minds.{facts_of}
+use Rattle.channel_node.specs.Openings.{shared, virtual, takes_part, place_among, opened_by, parts_of}
+use Rattle.share_laws.specs.Places.{channels}
 use Rattle.virtual_channel.specs.Stages.{terms_for}
-use Rattle.wish_laws.proofs.Commanded.{fitted, stand, took-later}
-use Rattle.wish_laws.proofs.Opening.{root-starts}
+use Rattle.fairness_laws.proofs.Commanded.{fitted, stand, took-later}
+use Rattle.fairness_laws.proofs.RootOpening.{root-starts}
 use Rattle.std.proofs.lemmas.Bool.Decides.{nat_tests}
 use Rattle.std.specs.Str.{bytes_eq}
-use Rattle.chain_laws.proofs.Tests.{none-eq, some-eq, cond-true}
-use Rattle.nitro_bytes.specs.Parts.{FixedParts}
-use Rattle.nitro_bytes.specs.declared.value.AssetOutcome.{AssetOutcome}
-use Rattle.channel_calls.proofs.Names.{bytes_eq_self}
-use Rattle.channel_calls.specs.Marked.{Marked, marked_of, next_after}
-use Rattle.channel_calls.specs.declared.entry.Entry.{Entry}
-use Rattle.channel_model.specs.Rules.{people, newest}
+use Rattle.channel_safety.proofs.Tests.{none-eq, some-eq, cond-true}
+use Rattle.channel_values.specs.Parts.{FixedParts}
+use Rattle.channel_values.specs.declared.value.AssetOutcome.{AssetOutcome}
+use Rattle.call_history.proofs.Names.{bytes_eq_self}
+use Rattle.call_history.specs.Marked.{Marked, marked_of, next_after}
+use Rattle.call_history.specs.declared.entry.Entry.{Entry}
+use Rattle.channel_values.specs.Rules.{people, newest}
 use Rattle.channel_store.specs.Keeping.{is_held, next_of}
 use Rattle.channel_store.specs.declared.kept.Kept.{Kept}
-use Rattle.funding_value.specs.declared.plan.Part.{Part}
-use Rattle.net_model.specs.Held.{held}
-use Rattle.net_model.specs.Journals.{In}
-use Rattle.net_party.specs.declared.command.Command.{Command}
-use Rattle.net_party.specs.declared.command.Command.TheVariants as commands
-use Rattle.node_laws.proofs.Reaching.{Reaches}
-use Rattle.node_model.specs.Places.{Told, lines_of, mind_at}
-use Rattle.node_model.specs.Playing.{Signing, pending}
-use Rattle.node_tables.specs.Stages.{stages}
+use Rattle.funding_plans.specs.declared.plan.Part.{Part}
+use Rattle.channel_safety.specs.Held.{held}
+use Rattle.channel_safety.specs.Journals.{In}
+use Rattle.network.specs.declared.command.Command.{Command}
+use Rattle.network.specs.declared.command.Command.TheVariants as commands
+use Rattle.channel_node.proofs.Reaching.{Reaches}
+use Rattle.channel_node.specs.Places.{Told, lines_of, mind_at}
+use Rattle.channel_node.specs.Playing.{Signing, pending}
+use Rattle.stage_tables.specs.Stages.{stages}
 use Rattle.fairness_laws.proofs.Payment.Made.{young-next}
 use Rattle.fairness_laws.specs.PaymentLaws.{At}
 use Rattle.fairness_laws.specs.PlanSeats.{SeatIs}
 use Rattle.fairness_laws.proofs.Plan.Holding.{Holds}
 use Rattle.fairness_laws.specs.PlanSettings.{IsFair}
-use Rattle.signing_laws.specs.Signatures.{IsOwn}
-use Rattle.stage_rules.specs.Seats.{Seat, state_is, holds}
-use Rattle.support_chain.specs.Real.{real}
-use Rattle.view_laws.specs.Laws.{IsKeptAt}
-use Rattle.wish_laws.proofs.Firsts.{Starts, Opener, opener, waits, paid-app}
-use Rattle.wish_laws.specs.Opens.{Took}
+use Rattle.share_laws.specs.Signatures.{IsOwn}
+use Rattle.funding_plans.specs.Seats.{Seat, state_is, holds}
+use Rattle.support_rules.specs.Real.{real}
+use Rattle.node_guarantees.specs.ViewLaws.{IsKeptAt}
+use Rattle.fairness_laws.proofs.FirstRounds.{Starts, Opener, opener, waits, paid-app}
+use Rattle.fairness_laws.specs.Opens.{Took}
 use Rattle.fairness_laws.proofs.Signing.{kept-of}
 
 -- how the command of a channel opens it

@@ -1,32 +1,32 @@
 -- Who signs what its parts want fairly plans fairly.
 use Rattle.std.proofs.Common.{◌≡◌, ℕ, ◌≤◌, true, List, [], ◌∷◌, ◌++◌, inl, inr, length, refl, sym, ◌∙◌, ap, subst}
 use Rattle.std.specs.Prelude.{Option, Some, None}
-use Rattle.nitro_bytes.specs.Parts.{FixedParts, IsFixed}
-use Rattle.channel_name.specs.Digests.{name_of_person}
-use Rattle.channel_calls.specs.Rows.{fixed_of}
-use Rattle.channel_calls.specs.declared.entry.Entry.{Entry}
-use Rattle.channel_calls.specs.declared.event.Deed.{Deed}
-use Rattle.channel_calls.specs.declared.event.Deed.TheVariants as deeds
-use Rattle.funding_value.specs.declared.plan.Part.{Part}
+use Rattle.channel_values.specs.Parts.{FixedParts, IsFixed}
+use Rattle.channel_values.specs.Digests.{name_of_person}
+use Rattle.call_history.specs.Rows.{fixed_of}
+use Rattle.call_history.specs.declared.entry.Entry.{Entry}
+use Rattle.call_history.specs.declared.event.Deed.{Deed}
+use Rattle.call_history.specs.declared.event.Deed.TheVariants as deeds
+use Rattle.funding_plans.specs.declared.plan.Part.{Part}
 use Rattle.history_view.specs.Few.{OfFew}
-use Rattle.net_model.proofs.Members.{In-append_right}
-use Rattle.net_model.specs.Journals.{In, Line, is_watched}
-use Rattle.net_model.specs.Strings.{signed_of}
-use Rattle.node_model.specs.Places.{Told, line_of, lines_of, AreFew}
-use Rattle.node_model.specs.Playing.{Signing, Plays}
-use Rattle.node_laws.proofs.Bridging.{In-lines, lines-append}
-use Rattle.node_share_laws.proofs.Ordering.{Fits, fits-journal}
-use Rattle.node_share_laws.specs.Laws.{IsFront}
-use Rattle.node_share_laws.specs.Orders.{orders_of}
-use Rattle.node_tables.specs.Stages.{stages}
+use Rattle.channel_safety.proofs.Members.{In-append_right}
+use Rattle.channel_safety.specs.Journals.{In, Line, is_watched}
+use Rattle.channel_safety.specs.Strings.{signed_of}
+use Rattle.channel_node.specs.Places.{Told, line_of, lines_of, AreFew}
+use Rattle.channel_node.specs.Playing.{Signing, Plays}
+use Rattle.channel_node.proofs.Bridging.{In-lines, lines-append}
+use Rattle.node_guarantees.proofs.Ordering.{Fits, fits-journal}
+use Rattle.node_guarantees.specs.NodeShareLaws.{IsFront}
+use Rattle.node_guarantees.specs.Orders.{orders_of}
+use Rattle.stage_tables.specs.Stages.{stages}
 use Rattle.fairness_laws.proofs.Plan.Plans.{plans_are_whole}
 use Rattle.fairness_laws.specs.PlanLaws.{PlanIs}
 use Rattle.fairness_laws.specs.PaymentLaws.{At}
 use Rattle.fairness_laws.specs.PlanSettings.{IsFair}
-use Rattle.share_model.specs.Kept.{is_signing, SignsFairly}
-use Rattle.share_model.specs.Places.{Order, plan, IsPlace}
-use Rattle.support_chain.specs.Real.{real}
-use Rattle.fairness_laws.specs.Laws.{WantingPlansFairly}
+use Rattle.share_laws.specs.Kept.{is_signing, SignsFairly}
+use Rattle.share_laws.specs.Places.{Order, plan, IsPlace}
+use Rattle.support_rules.specs.Real.{real}
+use Rattle.fairness_laws.specs.FairLaws.{WantingPlansFairly}
 use Rattle.fairness_laws.specs.Wanting.{WantsFairly}
 use Rattle.fairness_laws.proofs.Fronts.{Split, split, Acts, acts}
 use Rattle.fairness_laws.proofs.Paying.{pays_in_held}

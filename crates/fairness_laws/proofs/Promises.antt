@@ -2,24 +2,24 @@
 use Rattle.std.proofs.Common.{◌≡◌, ℕ, Bool, true, false, cond, List, [], ◌∷◌, ◌⊎◌, inl, inr, refl, sym, ◌∙◌, ap, subst}
 use Rattle.std.specs.Prelude.{◌==◌, Some, None}
 use Rattle.std.specs.List.{AllByRecursion}
-use Rattle.nitro_bytes.specs.Parts.{FixedParts}
-use Rattle.nitro_bytes.specs.declared.chain.Signed.{Signed}
-use Rattle.nitro_bytes.specs.declared.value.AssetOutcome.{AssetOutcome}
-use Rattle.nitro_bytes.specs.declared.value.Dest.{Dest}
-use Rattle.nitro_bytes.specs.declared.value.Dest.TheVariants.{Person, Channel}
-use Rattle.nitro_bytes.specs.declared.value.Shape.{Shape}
-use Rattle.nitro_bytes.specs.declared.value.Shape.TheVariants.{Guarantee}
-use Rattle.chain_laws.proofs.Tests.{none-eq}
-use Rattle.channel_calls.specs.declared.entry.Entry.{Entry}
-use Rattle.channel_name.specs.Digests.{name_of_person}
-use Rattle.exit_laws.specs.Fair.{HasAsset, HasNoOther, Signs, SignsInAsset}
-use Rattle.funding_value.specs.Parts.{own_guarantor}
-use Rattle.funding_value.specs.Shapes.{items_of}
-use Rattle.funding_value.specs.declared.plan.Goal.{Goal}
-use Rattle.funding_value.specs.declared.plan.Part.TheVariants.{End, Middle}
-use Rattle.funding_value.specs.declared.plan.Virtual.{Virtual}
-use Rattle.net_model.proofs.Members.{In-append_right}
-use Rattle.net_model.specs.Journals.{In, Line, made_in}
+use Rattle.channel_values.specs.Parts.{FixedParts}
+use Rattle.channel_values.specs.declared.chain.Signed.{Signed}
+use Rattle.channel_values.specs.declared.value.AssetOutcome.{AssetOutcome}
+use Rattle.channel_values.specs.declared.value.Dest.{Dest}
+use Rattle.channel_values.specs.declared.value.Dest.TheVariants.{Person, Channel}
+use Rattle.channel_values.specs.declared.value.Shape.{Shape}
+use Rattle.channel_values.specs.declared.value.Shape.TheVariants.{Guarantee}
+use Rattle.channel_safety.proofs.Tests.{none-eq}
+use Rattle.call_history.specs.declared.entry.Entry.{Entry}
+use Rattle.channel_values.specs.Digests.{name_of_person}
+use Rattle.channel_exits.specs.Fair.{HasAsset, HasNoOther, Signs, SignsInAsset}
+use Rattle.funding_plans.specs.Parts.{own_guarantor}
+use Rattle.funding_plans.specs.Shapes.{items_of}
+use Rattle.funding_plans.specs.declared.plan.Goal.{Goal}
+use Rattle.funding_plans.specs.declared.plan.Part.TheVariants.{End, Middle}
+use Rattle.funding_plans.specs.declared.plan.Virtual.{Virtual}
+use Rattle.channel_safety.proofs.Members.{In-append_right}
+use Rattle.channel_safety.specs.Journals.{In, Line, made_in}
 use Rattle.fairness_laws.proofs.Joint.Pays.{only-there, only-other}
 use Rattle.fairness_laws.proofs.Apps.{no-payments, no-payments-either}
 use Rattle.fairness_laws.proofs.Outcomes.{exactly-alone}
@@ -30,16 +30,16 @@ use Rattle.fairness_laws.specs.OpeningChannels.{SignsOnly}
 use Rattle.fairness_laws.specs.PaymentLaws.{At}
 use Rattle.fairness_laws.specs.PlanParts.{EndIs, MiddleIs}
 use Rattle.fairness_laws.specs.PlanSettings.{IsFair}
-use Rattle.node_model.specs.Minds.{Mind, facts_of}
-use Rattle.node_model.specs.Places.{Told, lines_of, mind_at}
-use Rattle.node_model.specs.Playing.{Signing}
-use Rattle.outcome_targets.specs.Targets.{only, together, guarantee}
-use Rattle.outcome_targets.specs.declared.terms.Terms.{Terms}
+use Rattle.channel_node.specs.Minds.{Mind, facts_of}
+use Rattle.channel_node.specs.Places.{Told, lines_of, mind_at}
+use Rattle.channel_node.specs.Playing.{Signing}
+use Rattle.funding_plans.specs.Targets.{only, together, guarantee}
+use Rattle.funding_plans.specs.declared.terms.Terms.{Terms}
 use Rattle.share_laws.specs.Signed.{Promises, SignsGuarantees, IsNoPayment, HasSigned}
 use Rattle.share_laws.specs.Sound.{IsPromise}
-use Rattle.share_model.specs.Places.{channels, outcomes_of}
-use Rattle.stage_rules.specs.Gathered.{goal_in}
-use Rattle.support_chain.specs.Real.{real}
+use Rattle.share_laws.specs.Places.{channels, outcomes_of}
+use Rattle.funding_plans.specs.Gathered.{goal_in}
+use Rattle.support_rules.specs.Real.{real}
 
 -- ---- an outcome of one asset
 

@@ -3,27 +3,27 @@ use Rattle.std.proofs.Common.{◌≡◌, ℕ, ◌*◌, ◌≤◌, Bool, true, fa
 use Rattle.std.specs.Prelude.{Option, Some, None}
 use Rattle.std.specs.Option.{option_or}
 use Rattle.std.specs.Str.{bytes_eq}
-use Rattle.nitro_bytes.specs.Parts.{FixedParts, StateParts, IsState}
-use Rattle.channel_name.specs.Digests.{name_of_person}
-use Rattle.chain_laws.proofs.Tests.{some-eq, none-eq, and-left}
-use Rattle.channel_calls.proofs.Names.{same_bytes}
-use Rattle.channel_calls.specs.Flows.{is_among}
-use Rattle.channel_calls.specs.History.{mode}
-use Rattle.channel_calls.specs.declared.entry.Entry.{Entry}
-use Rattle.channel_model.specs.Rules.{people}
-use Rattle.deadline_clock.specs.Mode.{is_final}
-use Rattle.funding_value.specs.Known.{FactsOf}
-use Rattle.funding_value.specs.Parts.{joined_of, ledgers_of}
-use Rattle.funding_value.specs.declared.plan.Part.{Part}
-use Rattle.funding_value.specs.declared.plan.Part.TheVariants.{Root}
+use Rattle.channel_values.specs.Parts.{FixedParts, StateParts, IsState}
+use Rattle.channel_values.specs.Digests.{name_of_person}
+use Rattle.channel_safety.proofs.Tests.{some-eq, none-eq, and-left}
+use Rattle.call_history.proofs.Names.{same_bytes}
+use Rattle.call_history.specs.Flows.{is_among}
+use Rattle.call_history.specs.History.{mode}
+use Rattle.call_history.specs.declared.entry.Entry.{Entry}
+use Rattle.channel_values.specs.Rules.{people}
+use Rattle.call_history.specs.Mode.{is_final}
+use Rattle.funding_plans.specs.Known.{FactsOf}
+use Rattle.funding_plans.specs.Parts.{joined_of, ledgers_of}
+use Rattle.funding_plans.specs.declared.plan.Part.{Part}
+use Rattle.funding_plans.specs.declared.plan.Part.TheVariants.{Root}
 use Rattle.ledger_channel.specs.Roots.{Direct, root_rows}
 use Rattle.ledger_channel.specs.Roots as roots
 use Rattle.ledger_channel.specs.Stages.{wanted_of_root}
-use Rattle.net_model.specs.Held.{held}
-use Rattle.node_model.specs.Minds.{facts_of}
-use Rattle.node_model.specs.Places.{Told, lines_of, mind_at}
-use Rattle.node_model.specs.Playing.{Signing}
-use Rattle.node_share_laws.specs.Orders.{orders_of}
+use Rattle.channel_safety.specs.Held.{held}
+use Rattle.channel_node.specs.Minds.{facts_of}
+use Rattle.channel_node.specs.Places.{Told, lines_of, mind_at}
+use Rattle.channel_node.specs.Playing.{Signing}
+use Rattle.node_guarantees.specs.Orders.{orders_of}
 use Rattle.fairness_laws.proofs.Seat.Past.{people-are}
 use Rattle.fairness_laws.specs.PaymentLaws.{At}
 use Rattle.fairness_laws.proofs.Plan.Parts.{parts_are_known}
@@ -31,19 +31,19 @@ use Rattle.fairness_laws.specs.PlanLaws.{PartAt}
 use Rattle.fairness_laws.specs.PlanParts.{RootIs}
 use Rattle.fairness_laws.specs.PlanSeats.{SeatIs}
 use Rattle.fairness_laws.specs.PlanSettings.{IsFair}
-use Rattle.plan_stages.specs.Asked.{is_unfinished, unfinished_on, part_with, wanted_of, asked_in, wanted_in}
+use Rattle.stage_tables.specs.Asked.{is_unfinished, unfinished_on, part_with, wanted_of, asked_in, wanted_in}
 use Rattle.fairness_laws.proofs.Seat.Sitting.{repeats_are_fair, finals_are_fair}
 use Rattle.fairness_laws.specs.SeatSitting.{Sits}
-use Rattle.signing_laws.specs.Fairly.{Wants}
-use Rattle.signing_laws.specs.Signatures.{IsOwn}
-use Rattle.stage_rules.specs.Gathered.{goal_in}
-use Rattle.stage_rules.specs.Rows as rows
-use Rattle.support_chain.specs.Real.{real}
-use Rattle.wish_laws.proofs.Finding.{asked-there}
-use Rattle.wish_laws.proofs.Opening.{root-opens}
-use Rattle.wish_laws.proofs.Picking.{IsWanted, opens, closes, wants}
-use Rattle.wish_laws.specs.Carried.{IsRepeatedIfAny}
-use Rattle.fairness_laws.specs.Laws.{RootsWantFairly}
+use Rattle.share_laws.specs.Fairly.{Wants}
+use Rattle.share_laws.specs.Signatures.{IsOwn}
+use Rattle.funding_plans.specs.Gathered.{goal_in}
+use Rattle.funding_plans.specs.Rows as rows
+use Rattle.support_rules.specs.Real.{real}
+use Rattle.fairness_laws.proofs.Finding.{asked-there}
+use Rattle.fairness_laws.proofs.RootOpening.{root-opens}
+use Rattle.fairness_laws.proofs.Picking.{IsWanted, opens, closes, wants}
+use Rattle.fairness_laws.specs.Carried.{IsRepeatedIfAny}
+use Rattle.fairness_laws.specs.FairLaws.{RootsWantFairly}
 use Rattle.fairness_laws.proofs.Channels.{one-named, channel-of, carried}
 use Rattle.fairness_laws.proofs.Plan.Holding.{Holds}
 use Rattle.fairness_laws.proofs.Signing.{sits, kept-of}

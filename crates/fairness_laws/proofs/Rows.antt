@@ -3,16 +3,16 @@ use Rattle.std.proofs.Common.{◌≡◌, ℕ, zero, suc, ◌<◌, ◌≤◌, Boo
 use Rattle.std.proofs.lemmas.Bool.{eq-eqb}
 use Rattle.std.specs.Prelude.{◌==◌, nat_le, nat_lt, Option, Some, None}
 use Rattle.std.specs.Str.{bytes_eq}
-use Rattle.nitro_bytes.specs.Parts.{StateParts, state_with}
-use Rattle.chain_laws.proofs.Tests.{none-eq, and-left, and-right, lt-true, lt-false, clash}
-use Rattle.outcome_targets.specs.Limits.{is_valid}
-use Rattle.stage_rules.specs.Rows.{Row, stage_in, wanted_in}
-use Rattle.nitro_bytes.specs.declared.value.AssetOutcome.{AssetOutcome}
+use Rattle.channel_values.specs.Parts.{StateParts, state_with}
+use Rattle.channel_safety.proofs.Tests.{none-eq, and-left, and-right, lt-true, lt-false, clash}
+use Rattle.funding_plans.specs.Limits.{is_valid}
+use Rattle.funding_plans.specs.Rows.{Row, stage_in, wanted_in}
+use Rattle.channel_values.specs.declared.value.AssetOutcome.{AssetOutcome}
 use Rattle.fairness_laws.specs.OpeningChannels.{IsExactly}
 use Rattle.ledger_channel.specs.OnLedgers.{Funded, on_ledger_rows}
 use Rattle.ledger_channel.specs.OnLedgers as funded
-use Rattle.stage_rules.specs.Seats.{Seat, holds, is_turn, repeats, final_state, toward, is_down}
-use Rattle.wish_laws.proofs.Roots.{when-some}
+use Rattle.funding_plans.specs.Seats.{Seat, holds, is_turn, repeats, final_state, toward, is_down}
+use Rattle.fairness_laws.proofs.RootWishes.{when-some}
 
 -- ---- the stage
 

@@ -4,77 +4,77 @@ use Rattle.std.specs.Prelude.{◌==◌, Option, Some, None, is_none, slice_index
 use Rattle.std.specs.List.{slice_get, list_any}
 use Rattle.std.specs.Option.{option_or}
 use Rattle.std.specs.Str.{bytes_eq}
-use Rattle.nitro_bytes.specs.Outcomes.{AreApart}
-use Rattle.nitro_bytes.specs.Parts.{FixedParts, StateParts, IsState, state_with}
-use Rattle.nitro_bytes.specs.declared.value.AssetOutcome.{AssetOutcome}
-use Rattle.nitro_bytes.specs.declared.value.Dest.{Dest}
-use Rattle.nitro_bytes.specs.declared.value.Dest.TheVariants.{Person}
-use Rattle.channel_name.specs.Digests.{name_of_person}
-use Rattle.chain_laws.proofs.Tests.{some-eq, none-eq, and-right, cond-true, cond-false, clash}
-use Rattle.channel_calls.proofs.Names.{same_bytes, bytes_eq_self}
-use Rattle.channel_calls.specs.Flows.{is_among}
-use Rattle.channel_calls.specs.History.{Legal, row, mode, rest_of_channel}
-use Rattle.channel_calls.specs.Marked.{Marked, marked_of}
-use Rattle.channel_calls.specs.declared.entry.Entry.{Entry}
-use Rattle.channel_calls.specs.declared.event.Deed.{Deed}
-use Rattle.channel_calls.specs.declared.event.Deed.TheVariants as deeds
-use Rattle.channel_calls.specs.declared.event.NodeRefusal.{NodeRefusal}
-use Rattle.channel_model.specs.Chains.{mover, last_of}
-use Rattle.channel_model.specs.Rules.{people, newest}
+use Rattle.channel_values.specs.Outcomes.{AreApart}
+use Rattle.channel_values.specs.Parts.{FixedParts, StateParts, IsState, state_with}
+use Rattle.channel_values.specs.declared.value.AssetOutcome.{AssetOutcome}
+use Rattle.channel_values.specs.declared.value.Dest.{Dest}
+use Rattle.channel_values.specs.declared.value.Dest.TheVariants.{Person}
+use Rattle.channel_values.specs.Digests.{name_of_person}
+use Rattle.channel_safety.proofs.Tests.{some-eq, none-eq, and-right, cond-true, cond-false, clash}
+use Rattle.call_history.proofs.Names.{same_bytes, bytes_eq_self}
+use Rattle.call_history.specs.Flows.{is_among}
+use Rattle.call_history.specs.History.{Legal, row, mode, rest_of_channel}
+use Rattle.call_history.specs.Marked.{Marked, marked_of}
+use Rattle.call_history.specs.declared.entry.Entry.{Entry}
+use Rattle.call_history.specs.declared.event.Deed.{Deed}
+use Rattle.call_history.specs.declared.event.Deed.TheVariants as deeds
+use Rattle.call_history.specs.declared.event.NodeRefusal.{NodeRefusal}
+use Rattle.channel_values.specs.Rows.{mover, last_of}
+use Rattle.channel_values.specs.Rules.{people, newest}
 use Rattle.channel_store.specs.Keeping.{is_held, next_of}
 use Rattle.channel_store.specs.Storing.{kept_of}
 use Rattle.channel_store.specs.declared.kept.Kept.{Kept}
-use Rattle.deadline_clock.specs.Mode.{is_final, mode_at}
-use Rattle.deadline_clock.specs.declared.standing.Standing.{Standing}
-use Rattle.deadline_clock.specs.declared.standing.Standing.TheVariants.{Open, Challenged, Final}
-use Rattle.funding_value.specs.declared.plan.Part.{Part}
-use Rattle.history_laws.proofs.Rowing.{legal-suffix}
-use Rattle.net_model.specs.Held.{held}
-use Rattle.net_model.specs.Journals.{In, Line, is_followed, some_if}
-use Rattle.net_party.specs.declared.command.Command.{Command}
-use Rattle.net_party.specs.declared.command.Command.TheVariants as commands
-use Rattle.node_laws.proofs.Agreeing.{Agree}
-use Rattle.node_laws.proofs.Standing.{known}
-use Rattle.node_model.specs.Minds.{Mind, facts_of}
-use Rattle.node_model.specs.Openings.{parts_of}
-use Rattle.node_model.specs.Places.{Told, line_of, lines_of, mind_at}
-use Rattle.node_model.specs.Playing as playing
-use Rattle.node_model.specs.Playing.{Signing, pending, Allowed}
-use Rattle.node_model.specs.Refusing.{is_open, stands_in, not_open, own, other, latest_outcome, outcome_or, opening_of, goal_of, paying, moved, wish_staying, wish, follows, can_sign, if_signable, signs_of}
-use Rattle.node_model.specs.Refusing as refusing
-use Rattle.node_share_laws.proofs.Growing.{Grows}
-use Rattle.node_share_laws.proofs.Ordering.{Fits, lines-length}
-use Rattle.node_share_laws.proofs.Placing.{grows-at}
-use Rattle.node_share_laws.proofs.Telling.{all-kept, places_tell_shares}
-use Rattle.node_share_laws.specs.Laws.{KnowsShare}
-use Rattle.node_share_laws.specs.Orders.{order_of, orders_of}
-use Rattle.node_share_laws.specs.Orders as asks
-use Rattle.node_tables.specs.Stages.{stages}
+use Rattle.call_history.specs.Mode.{is_final, mode_at}
+use Rattle.call_history.specs.declared.standing.Standing.{Standing}
+use Rattle.call_history.specs.declared.standing.Standing.TheVariants.{Open, Challenged, Final}
+use Rattle.funding_plans.specs.declared.plan.Part.{Part}
+use Rattle.channel_safety.proofs.Rowing.{legal-suffix}
+use Rattle.channel_safety.specs.Held.{held}
+use Rattle.channel_safety.specs.Journals.{In, Line, is_followed, some_if}
+use Rattle.network.specs.declared.command.Command.{Command}
+use Rattle.network.specs.declared.command.Command.TheVariants as commands
+use Rattle.channel_node.proofs.Agreeing.{Agree}
+use Rattle.channel_node.proofs.Standing.{known}
+use Rattle.channel_node.specs.Minds.{Mind, facts_of}
+use Rattle.channel_node.specs.Openings.{parts_of}
+use Rattle.channel_node.specs.Places.{Told, line_of, lines_of, mind_at}
+use Rattle.channel_node.specs.Playing as playing
+use Rattle.channel_node.specs.Playing.{Signing, pending, Allowed}
+use Rattle.channel_node.specs.Refusing.{is_open, stands_in, not_open, own, other, latest_outcome, outcome_or, opening_of, goal_of, paying, moved, wish_staying, wish, follows, can_sign, if_signable, signs_of}
+use Rattle.channel_node.specs.Refusing as refusing
+use Rattle.node_guarantees.proofs.Growing.{Grows}
+use Rattle.node_guarantees.proofs.Ordering.{Fits, lines-length}
+use Rattle.node_guarantees.proofs.Placing.{grows-at}
+use Rattle.node_guarantees.proofs.Telling.{all-kept, places_tell_shares}
+use Rattle.node_guarantees.specs.NodeShareLaws.{KnowsShare}
+use Rattle.node_guarantees.specs.Orders.{order_of, orders_of}
+use Rattle.node_guarantees.specs.Orders as asks
+use Rattle.stage_tables.specs.Stages.{stages}
 use Rattle.fairness_laws.proofs.Plan.Plans.{plans_are_whole}
 use Rattle.fairness_laws.proofs.Payment.Made.{held-ends}
 use Rattle.fairness_laws.proofs.Plan.Holding.{Holds, holds}
 use Rattle.fairness_laws.specs.PlanLaws.{PlanIs}
 use Rattle.fairness_laws.specs.PlanSeats.{SeatIs, seat_of}
 use Rattle.fairness_laws.specs.PlanSettings.{IsFair}
-use Rattle.plan_stages.specs.Asked.{wanted_of, asked_in, wanted_in}
+use Rattle.stage_tables.specs.Asked.{wanted_of, asked_in, wanted_in}
 use Rattle.fairness_laws.proofs.Seat.Paying.{payments_are_fair}
 use Rattle.fairness_laws.specs.SeatSitting.{HeldEnds, Sits}
-use Rattle.share_laws.proofs.Fair.{whole-plan}
+use Rattle.share_laws.proofs.FairPlaces.{whole-plan}
 use Rattle.share_laws.proofs.Keeping.{held-over_line}
 use Rattle.share_laws.specs.Turns.{names}
-use Rattle.share_model.specs.Bases.{all_bases}
-use Rattle.share_model.specs.Kept.{is_paying, last_order, SignsFairly}
-use Rattle.share_model.specs.Places as places
-use Rattle.share_model.specs.Places.{Order, paying as pays, opening, plan, channels, last_made, possible, possible_after, outcomes_of, IsPlace}
-use Rattle.signing_laws.proofs.Signers.{signers_are_fair}
-use Rattle.signing_laws.specs.Fairly.{Wants, Pays, SignsWell}
-use Rattle.signing_laws.specs.Signatures.{signing, IsOwn}
-use Rattle.stage_rules.specs.Seats.{Seat}
-use Rattle.support_chain.specs.Real.{real}
-use Rattle.support_chain.specs.Steps.{persons}
-use Rattle.view_laws.specs.Laws.{IsKeptAt, AreKeptAt}
-use Rattle.wish_laws.proofs.Finding.{asked-there}
-use Rattle.net_model.proofs.Members.{In-append_left}
+use Rattle.share_laws.specs.Bases.{all_bases}
+use Rattle.share_laws.specs.Kept.{is_paying, last_order, SignsFairly}
+use Rattle.share_laws.specs.Places as places
+use Rattle.share_laws.specs.Places.{Order, paying as pays, opening, plan, channels, last_made, possible, possible_after, outcomes_of, IsPlace}
+use Rattle.share_laws.proofs.Signers.{signers_are_fair}
+use Rattle.share_laws.specs.Fairly.{Wants, Pays, SignsWell}
+use Rattle.share_laws.specs.Signatures.{signing, IsOwn}
+use Rattle.funding_plans.specs.Seats.{Seat}
+use Rattle.support_rules.specs.Real.{real}
+use Rattle.support_rules.specs.Steps.{persons}
+use Rattle.node_guarantees.specs.ViewLaws.{IsKeptAt, AreKeptAt}
+use Rattle.fairness_laws.proofs.Finding.{asked-there}
+use Rattle.channel_safety.proofs.Members.{In-append_left}
 use Rattle.fairness_laws.specs.PaymentLaws.{At}
 use Rattle.fairness_laws.proofs.Payment.Kept.{KeptAs, kept-as, SignsOf, signs-of}
 use Rattle.fairness_laws.specs.Wanting.{WantsFairly, PaysInHeld}

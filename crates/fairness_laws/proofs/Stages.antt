@@ -1,10 +1,10 @@
 -- How far a part is, by its stage.
 use Rattle.std.proofs.Common.{◌≡◌, ℕ, ◌<◌, true, false, arith}
-use Rattle.chain_laws.proofs.Tests.{or-right}
+use Rattle.channel_safety.proofs.Tests.{or-right}
 use Rattle.ledger_channel.specs.OnLedgers.{Funded, on_ledger_rows}
 use Rattle.ledger_channel.specs.Roots.{Direct, root_rows}
-use Rattle.stage_rules.specs.Rows.{stage_in}
-use Rattle.stage_rules.specs.Seats.{holds, settled_on, is_down}
+use Rattle.funding_plans.specs.Rows.{stage_in}
+use Rattle.funding_plans.specs.Seats.{holds, settled_on, is_down}
 use Rattle.virtual_channel.specs.Ends.{End, end_rows}
 use Rattle.virtual_channel.specs.Ends as ends
 use Rattle.virtual_channel.specs.Middles.{Middle, middle_rows}

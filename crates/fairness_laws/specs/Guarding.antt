@@ -1,18 +1,18 @@
 -- A node signs what a part of its plan wants, where nothing is forged.
 use Rattle.std.specs.Prelude.{◌≡◌, List, Some, None}
-use Rattle.nitro_bytes.specs.Parts.{FixedParts, StateParts}
-use Rattle.channel_calls.specs.declared.entry.Entry.{Entry}
+use Rattle.channel_values.specs.Parts.{FixedParts, StateParts}
+use Rattle.call_history.specs.declared.entry.Entry.{Entry}
 use Rattle.channel_store.specs.Storing.{kept_of}
 use Rattle.channel_store.specs.declared.kept.Kept.{Kept}
-use Rattle.net_model.specs.Journals.{In}
-use Rattle.node_model.specs.Places.{Told, lines_of, mind_at}
-use Rattle.node_model.specs.Playing.{Signing}
-use Rattle.node_model.specs.Refusing.{wish, signs_in}
+use Rattle.channel_safety.specs.Journals.{In}
+use Rattle.channel_node.specs.Places.{Told, lines_of, mind_at}
+use Rattle.channel_node.specs.Playing.{Signing}
+use Rattle.channel_node.specs.Refusing.{wish, signs_in}
 use Rattle.fairness_laws.specs.PaymentLaws.{At}
 use Rattle.fairness_laws.specs.PlanSettings.{IsFair}
-use Rattle.node_tables.specs.Stages.{stages}
-use Rattle.share_model.specs.Places.{channels}
-use Rattle.support_chain.specs.Real.{real}
+use Rattle.stage_tables.specs.Stages.{stages}
+use Rattle.share_laws.specs.Places.{channels}
+use Rattle.support_rules.specs.Real.{real}
 
 -- At each place of its journal it signs in each own channel what it wishes there while no payment waits: what the stage of the part
 -- that is asked wants, unless it left or a live channel isn't open.

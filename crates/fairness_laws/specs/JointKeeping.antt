@@ -1,21 +1,21 @@
 -- What the joint channels of a node's virtual channels can end with, at each place of its journal.
 use Rattle.std.specs.Prelude.{◌≡◌, ℕ, ◌+◌, true, false, List, [], ◌∷◌, Some, ◌⊎◌}
-use Rattle.nitro_bytes.specs.Parts.{StateParts}
-use Rattle.nitro_bytes.specs.declared.chain.Signed.{Signed}
-use Rattle.nitro_bytes.specs.declared.value.AssetOutcome.{AssetOutcome}
-use Rattle.channel_calls.specs.declared.entry.Entry.{Entry}
-use Rattle.funding_value.specs.declared.plan.Goal.{Goal}
-use Rattle.funding_value.specs.declared.plan.Part.TheVariants as parts
-use Rattle.funding_value.specs.declared.plan.Virtual.{Virtual}
-use Rattle.net_model.specs.Journals.{In, Line, made_in}
-use Rattle.node_model.specs.Minds.{facts_of}
-use Rattle.node_model.specs.Places.{Told, lines_of, mind_at}
-use Rattle.node_model.specs.Playing.{Signing}
-use Rattle.outcome_targets.specs.Targets.{apart, together}
-use Rattle.outcome_targets.specs.declared.terms.Terms.{Terms}
-use Rattle.share_model.specs.Places.{outcomes_of}
-use Rattle.stage_rules.specs.Seats.{state_is, holds, has_signed_past, settled_on}
-use Rattle.support_chain.specs.Real.{real}
+use Rattle.channel_values.specs.Parts.{StateParts}
+use Rattle.channel_values.specs.declared.chain.Signed.{Signed}
+use Rattle.channel_values.specs.declared.value.AssetOutcome.{AssetOutcome}
+use Rattle.call_history.specs.declared.entry.Entry.{Entry}
+use Rattle.funding_plans.specs.declared.plan.Goal.{Goal}
+use Rattle.funding_plans.specs.declared.plan.Part.TheVariants as parts
+use Rattle.funding_plans.specs.declared.plan.Virtual.{Virtual}
+use Rattle.channel_safety.specs.Journals.{In, Line, made_in}
+use Rattle.channel_node.specs.Minds.{facts_of}
+use Rattle.channel_node.specs.Places.{Told, lines_of, mind_at}
+use Rattle.channel_node.specs.Playing.{Signing}
+use Rattle.funding_plans.specs.Targets.{apart, together}
+use Rattle.funding_plans.specs.declared.terms.Terms.{Terms}
+use Rattle.share_laws.specs.Places.{outcomes_of}
+use Rattle.funding_plans.specs.Seats.{state_is, holds, has_signed_past, settled_on}
+use Rattle.support_rules.specs.Real.{real}
 use Rattle.virtual_channel.specs.Ends as ends
 use Rattle.virtual_channel.specs.Ends.{End}
 use Rattle.virtual_channel.specs.Middles as middles

@@ -1,24 +1,24 @@
 -- What is known of a node's payments, and of the set-ups of its ledgers, where it acts.
 use Rattle.std.specs.Prelude.{◌≡◌, ◌≤◌, ◌*◌, ℕ, true, false, List, length, Some, None, ◌⊎◌}
-use Rattle.nitro_bytes.specs.Outcomes.{IsName}
-use Rattle.nitro_bytes.specs.Parts.{FixedParts, StateParts, IsState}
-use Rattle.channel_calls.specs.declared.entry.Entry.{Entry}
-use Rattle.funding_value.specs.declared.plan.Goal.{Goal}
-use Rattle.funding_value.specs.declared.plan.Part.{Part}
-use Rattle.funding_value.specs.declared.plan.Part.TheVariants as kinds
-use Rattle.net_model.specs.Journals.{In}
-use Rattle.net_party.specs.declared.command.Command.TheVariants as commands
-use Rattle.node_model.specs.Minds.{facts_of}
-use Rattle.node_model.specs.Places.{Told, lines_of, mind_at}
-use Rattle.node_model.specs.Playing.{Signing, pending}
-use Rattle.node_share_laws.specs.Laws.{IsFront}
+use Rattle.channel_values.specs.Outcomes.{IsName}
+use Rattle.channel_values.specs.Parts.{FixedParts, StateParts, IsState}
+use Rattle.call_history.specs.declared.entry.Entry.{Entry}
+use Rattle.funding_plans.specs.declared.plan.Goal.{Goal}
+use Rattle.funding_plans.specs.declared.plan.Part.{Part}
+use Rattle.funding_plans.specs.declared.plan.Part.TheVariants as kinds
+use Rattle.channel_safety.specs.Journals.{In}
+use Rattle.network.specs.declared.command.Command.TheVariants as commands
+use Rattle.channel_node.specs.Minds.{facts_of}
+use Rattle.channel_node.specs.Places.{Told, lines_of, mind_at}
+use Rattle.channel_node.specs.Playing.{Signing, pending}
+use Rattle.node_guarantees.specs.NodeShareLaws.{IsFront}
 use Rattle.fairness_laws.specs.PaymentLaws.{ActsNext}
 use Rattle.fairness_laws.specs.PlanBearers.{bears}
 use Rattle.fairness_laws.specs.PlanSeats.{SeatIs}
-use Rattle.share_model.specs.Places.{channels, outcomes_of}
-use Rattle.stage_rules.specs.Gathered.{goal_in}
-use Rattle.stage_rules.specs.Seats.{Seat, repeats}
-use Rattle.support_chain.specs.Real.{real}
+use Rattle.share_laws.specs.Places.{channels, outcomes_of}
+use Rattle.funding_plans.specs.Gathered.{goal_in}
+use Rattle.funding_plans.specs.Seats.{Seat, repeats}
+use Rattle.support_rules.specs.Real.{real}
 use Rattle.fairness_laws.specs.LedgerLending.{Lent}
 use Rattle.fairness_laws.specs.LedgerPlaces.{is_ledger, own_at, parts_at, lends_at}
 

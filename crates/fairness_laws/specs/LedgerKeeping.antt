@@ -1,17 +1,17 @@
 -- What a ledger can end with, for the parts that stand on it.
 use Rattle.std.specs.Prelude.{◌≡◌, ℕ, ◌+◌, ◌-◌, ◌^◌, ◌≤◌, true, false, List, [], ◌∷◌, ◌++◌, Option, Some, ◌⊎◌}
 use Rattle.std.specs.Str.{bytes_eq}
-use Rattle.nitro_bytes.specs.Outcomes.{IsOutcome}
-use Rattle.nitro_bytes.specs.Parts.{StateParts}
-use Rattle.nitro_bytes.specs.declared.value.AssetOutcome.{AssetOutcome}
-use Rattle.nitro_bytes.specs.declared.value.Dest.TheVariants.{Person, Channel}
-use Rattle.channel_model.specs.Amounts.{amt, has}
-use Rattle.funding_value.specs.Shapes.{items_in}
-use Rattle.funding_value.specs.declared.plan.Part.{Part}
-use Rattle.net_model.specs.Journals.{In}
-use Rattle.outcome_targets.specs.Outcomes as outcomes
-use Rattle.outcome_targets.specs.Outcomes.{names}
-use Rattle.share_model.specs.Places.{outcomes_of}
+use Rattle.channel_values.specs.Outcomes.{IsOutcome}
+use Rattle.channel_values.specs.Parts.{StateParts}
+use Rattle.channel_values.specs.declared.value.AssetOutcome.{AssetOutcome}
+use Rattle.channel_values.specs.declared.value.Dest.TheVariants.{Person, Channel}
+use Rattle.channel_values.specs.Amounts.{amt, has}
+use Rattle.funding_plans.specs.Shapes.{items_in}
+use Rattle.funding_plans.specs.declared.plan.Part.{Part}
+use Rattle.channel_safety.specs.Journals.{In}
+use Rattle.funding_plans.specs.Outcomes as outcomes
+use Rattle.funding_plans.specs.Outcomes.{names}
+use Rattle.share_laws.specs.Places.{outcomes_of}
 use Rattle.fairness_laws.specs.LedgerLending.{Lent}
 use Rattle.fairness_laws.specs.LedgerMoving.{HaveItems, Afford}
 

@@ -1,15 +1,15 @@
 -- What a part wants to sign in a channel, by its rows.
 use Rattle.std.specs.Prelude.{◌≡◌, ◌<◌, ◌≤◌, ℕ, ◌+◌, ◌-◌, ◌^◌, true, false, List, length, Some}
 use Rattle.std.specs.Str.{bytes_eq}
-use Rattle.nitro_bytes.specs.Outcomes.{IsName, IsOutcome}
-use Rattle.nitro_bytes.specs.Parts.{StateParts}
-use Rattle.funding_value.specs.declared.plan.Part.{Part}
-use Rattle.net_model.specs.Journals.{In}
-use Rattle.outcome_targets.specs.declared.child.Child.{Child}
+use Rattle.channel_values.specs.Outcomes.{IsName, IsOutcome}
+use Rattle.channel_values.specs.Parts.{StateParts}
+use Rattle.funding_plans.specs.declared.plan.Part.{Part}
+use Rattle.channel_safety.specs.Journals.{In}
+use Rattle.funding_plans.specs.declared.child.Child.{Child}
 use Rattle.ledger_channel.specs.OnLedgers.{Funded, on_ledger_rows}
 use Rattle.ledger_channel.specs.OnLedgers as funded
-use Rattle.stage_rules.specs.Rows.{wanted_in, stage_in}
-use Rattle.stage_rules.specs.Seats.{state_is, holds, has_signed_past, repeats, final_state, toward, settled_on, up_in, down_in, is_down}
+use Rattle.funding_plans.specs.Rows.{wanted_in, stage_in}
+use Rattle.funding_plans.specs.Seats.{state_is, holds, has_signed_past, repeats, final_state, toward, settled_on, up_in, down_in, is_down}
 use Rattle.virtual_channel.specs.Ends.{End, end_rows}
 use Rattle.virtual_channel.specs.Ends as ends
 use Rattle.virtual_channel.specs.Middles.{Middle, middle_rows, is_without}

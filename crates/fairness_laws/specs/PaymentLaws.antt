@@ -1,24 +1,24 @@
 -- The payment channels of a node's parts share one amount between their two people, at each place of its journal.
 use Rattle.std.specs.Prelude.{◌≡◌, ℕ, ◌+◌, true, false, List, [], ◌∷◌, ◌++◌, length, Some}
-use Rattle.nitro_bytes.specs.Parts.{FixedParts, StateParts}
-use Rattle.nitro_bytes.specs.declared.value.AssetOutcome.{AssetOutcome}
-use Rattle.channel_calls.specs.declared.entry.Entry.{Entry}
-use Rattle.funding_value.specs.declared.plan.Goal.{Goal}
-use Rattle.funding_value.specs.declared.plan.Part.TheVariants as parts
-use Rattle.funding_value.specs.declared.plan.Virtual.{Virtual}
-use Rattle.net_model.specs.Journals.{In, is_watched}
-use Rattle.node_model.specs.Minds.{facts_of}
-use Rattle.node_model.specs.Openings.{shared}
-use Rattle.node_model.specs.Places.{Told, lines_of, mind_at}
-use Rattle.node_model.specs.Playing.{Signing}
-use Rattle.node_share_laws.specs.Laws.{IsFront}
+use Rattle.channel_values.specs.Parts.{FixedParts, StateParts}
+use Rattle.channel_values.specs.declared.value.AssetOutcome.{AssetOutcome}
+use Rattle.call_history.specs.declared.entry.Entry.{Entry}
+use Rattle.funding_plans.specs.declared.plan.Goal.{Goal}
+use Rattle.funding_plans.specs.declared.plan.Part.TheVariants as parts
+use Rattle.funding_plans.specs.declared.plan.Virtual.{Virtual}
+use Rattle.channel_safety.specs.Journals.{In, is_watched}
+use Rattle.channel_node.specs.Minds.{facts_of}
+use Rattle.channel_node.specs.Openings.{shared}
+use Rattle.channel_node.specs.Places.{Told, lines_of, mind_at}
+use Rattle.channel_node.specs.Playing.{Signing}
+use Rattle.node_guarantees.specs.NodeShareLaws.{IsFront}
 use Rattle.fairness_laws.specs.PlanParts.{OnLedgerIs, EndIs}
 use Rattle.fairness_laws.specs.PlanSeats.{SeatIs}
 use Rattle.fairness_laws.specs.PlanSettings.{IsFair}
-use Rattle.share_model.specs.Places.{IsPlace, outcomes_of}
-use Rattle.stage_rules.specs.Gathered.{goal_in}
-use Rattle.stage_rules.specs.Seats.{Seat}
-use Rattle.support_chain.specs.Real.{real}
+use Rattle.share_laws.specs.Places.{IsPlace, outcomes_of}
+use Rattle.funding_plans.specs.Gathered.{goal_in}
+use Rattle.funding_plans.specs.Seats.{Seat}
+use Rattle.support_rules.specs.Real.{real}
 
 -- a place of a history and of a node's journal
 pub record At (s : Signing) (h : List Entry) (journal : List Told) (past : List Entry) (front : List Told) : Type 0 where

@@ -1,23 +1,23 @@
 -- What the parts of a node's plan are at each place of its journal.
 use Rattle.std.specs.Prelude.{◌≡◌, ℕ, List, Some}
 use Rattle.std.specs.Str.{bytes_eq}
-use Rattle.nitro_bytes.specs.Outcomes.{AreApart}
-use Rattle.channel_calls.specs.declared.entry.Entry.{Entry}
-use Rattle.funding_value.specs.Parts.{own_channel}
-use Rattle.funding_value.specs.declared.plan.Goal.{Goal}
-use Rattle.funding_value.specs.declared.plan.Part.{Part}
-use Rattle.net_model.specs.Journals.{In}
-use Rattle.node_model.specs.Minds.{facts_of}
-use Rattle.node_model.specs.Places.{Told, lines_of, mind_at}
-use Rattle.node_model.specs.Playing.{Signing}
-use Rattle.node_share_laws.specs.Laws.{IsFront}
-use Rattle.node_share_laws.specs.Orders.{orders_of}
+use Rattle.channel_values.specs.Outcomes.{AreApart}
+use Rattle.call_history.specs.declared.entry.Entry.{Entry}
+use Rattle.funding_plans.specs.Parts.{own_channel}
+use Rattle.funding_plans.specs.declared.plan.Goal.{Goal}
+use Rattle.funding_plans.specs.declared.plan.Part.{Part}
+use Rattle.channel_safety.specs.Journals.{In}
+use Rattle.channel_node.specs.Minds.{facts_of}
+use Rattle.channel_node.specs.Places.{Told, lines_of, mind_at}
+use Rattle.channel_node.specs.Playing.{Signing}
+use Rattle.node_guarantees.specs.NodeShareLaws.{IsFront}
+use Rattle.node_guarantees.specs.Orders.{orders_of}
 use Rattle.share_laws.specs.Finality.{RestsOnNoPayments}
 use Rattle.share_laws.specs.Turns.{names}
-use Rattle.share_model.specs.Places.{Order, channels, plan}
-use Rattle.signing_laws.specs.Plans.{IsPlan}
-use Rattle.stage_rules.specs.Gathered.{goal_in}
-use Rattle.support_chain.specs.Real.{real}
+use Rattle.share_laws.specs.Places.{Order, channels, plan}
+use Rattle.share_laws.specs.Plans.{IsPlan}
+use Rattle.funding_plans.specs.Gathered.{goal_in}
+use Rattle.support_rules.specs.Real.{real}
 use Rattle.fairness_laws.specs.PlanParts.{PartIs}
 use Rattle.fairness_laws.specs.PlanSettings.{IsNodes}
 

@@ -1,27 +1,27 @@
 -- What a part of a plan is, by the command that opened it: the channels, their people and applications, and the goal.
 use Rattle.std.specs.Prelude.{◌≡◌, ℕ, ◌+◌, ◌*◌, ◌-◌, ◌^◌, ◌≤◌, true, false, List, [], ◌∷◌, Some, if◌then◌else◌}
 use Rattle.std.specs.Str.{bytes_eq}
-use Rattle.nitro_bytes.specs.Parts.{FixedParts}
-use Rattle.channel_name.specs.Digests.{name_of_person}
-use Rattle.channel_calls.specs.declared.entry.Entry.{Entry}
-use Rattle.funding_value.specs.Known.{FactsOf}
-use Rattle.funding_value.specs.Parts.{own_ledger, own_guarantor}
-use Rattle.funding_value.specs.declared.plan.Goal.{Goal}
-use Rattle.funding_value.specs.declared.plan.Part.{Part}
-use Rattle.funding_value.specs.declared.plan.Part.TheVariants as parts
-use Rattle.funding_value.specs.declared.plan.Virtual.{Virtual}
+use Rattle.channel_values.specs.Parts.{FixedParts}
+use Rattle.channel_values.specs.Digests.{name_of_person}
+use Rattle.call_history.specs.declared.entry.Entry.{Entry}
+use Rattle.funding_plans.specs.Known.{FactsOf}
+use Rattle.funding_plans.specs.Parts.{own_ledger, own_guarantor}
+use Rattle.funding_plans.specs.declared.plan.Goal.{Goal}
+use Rattle.funding_plans.specs.declared.plan.Part.{Part}
+use Rattle.funding_plans.specs.declared.plan.Part.TheVariants as parts
+use Rattle.funding_plans.specs.declared.plan.Virtual.{Virtual}
 use Rattle.ledger_channel.specs.OnLedgers.{Funded}
 use Rattle.ledger_channel.specs.Roots.{Direct}
 use Rattle.ledger_channel.specs.Stages.{direct_in, funded_in}
-use Rattle.net_model.specs.Journals.{Line}
-use Rattle.node_model.specs.Openings.{shared}
-use Rattle.node_tables.specs.Fitting.{are_shared}
-use Rattle.outcome_targets.specs.Targets.{apart, guarantee}
-use Rattle.outcome_targets.specs.declared.child.Child.{Child}
-use Rattle.outcome_targets.specs.declared.terms.Terms.{Terms}
-use Rattle.stage_rules.specs.Seats.{Seat}
-use Rattle.support_chain.specs.Real.{real}
-use Rattle.support_chain.specs.Steps.{persons}
+use Rattle.channel_safety.specs.Journals.{Line}
+use Rattle.channel_node.specs.Openings.{shared}
+use Rattle.stage_tables.specs.Fitting.{are_shared}
+use Rattle.funding_plans.specs.Targets.{apart, guarantee}
+use Rattle.funding_plans.specs.declared.child.Child.{Child}
+use Rattle.funding_plans.specs.declared.terms.Terms.{Terms}
+use Rattle.funding_plans.specs.Seats.{Seat}
+use Rattle.support_rules.specs.Real.{real}
+use Rattle.support_rules.specs.Steps.{persons}
 use Rattle.virtual_channel.specs.Ends.{End}
 use Rattle.virtual_channel.specs.Middles.{Middle}
 use Rattle.virtual_channel.specs.Stages.{end_in, middle_in}

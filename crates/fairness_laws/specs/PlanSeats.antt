@@ -1,18 +1,18 @@
 -- What the tables of stages know of a channel is what is held of it, and what its participant signed last.
 use Rattle.std.specs.Prelude.{◌≡◌, ℕ, ◌&&◌, List, Some, None, if◌then◌else◌}
 use Rattle.std.specs.List.{slice_get, list_all}
-use Rattle.nitro_bytes.specs.Parts.{FixedParts}
-use Rattle.nitro_bytes.specs.declared.value.AssetOutcome.{AssetOutcome}
-use Rattle.channel_calls.specs.declared.entry.Entry.{Entry}
-use Rattle.channel_model.specs.Rules.{newest}
+use Rattle.channel_values.specs.Parts.{FixedParts}
+use Rattle.channel_values.specs.declared.value.AssetOutcome.{AssetOutcome}
+use Rattle.call_history.specs.declared.entry.Entry.{Entry}
+use Rattle.channel_values.specs.Rules.{newest}
 use Rattle.channel_store.specs.Keeping.{is_held, next_of}
 use Rattle.channel_store.specs.declared.kept.Kept.{Kept}
-use Rattle.net_model.specs.Journals.{Line}
-use Rattle.signing_laws.specs.Signatures.{IsOwn}
-use Rattle.stage_rules.specs.Seats.{Seat}
-use Rattle.support_chain.specs.Real.{real}
-use Rattle.support_chain.specs.Steps.{persons}
-use Rattle.view_laws.specs.Laws.{IsKeptAt}
+use Rattle.channel_safety.specs.Journals.{Line}
+use Rattle.share_laws.specs.Signatures.{IsOwn}
+use Rattle.funding_plans.specs.Seats.{Seat}
+use Rattle.support_rules.specs.Real.{real}
+use Rattle.support_rules.specs.Steps.{persons}
+use Rattle.node_guarantees.specs.ViewLaws.{IsKeptAt}
 
 -- the seat of a channel of which this is kept
 abbrev pub seat_of : FixedParts → List AssetOutcome → Kept → Seat

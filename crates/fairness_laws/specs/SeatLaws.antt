@@ -1,24 +1,24 @@
 -- What a seat wants in its channel keeps its participant's share.
 use Rattle.std.specs.Prelude.{◌≡◌, ◌≢◌, ℕ, ◌*◌, ◌≤◌, true, false, List, [], Option, Some, ◌⊎◌}
-use Rattle.nitro_bytes.specs.Outcomes.{IsOutcome}
-use Rattle.nitro_bytes.specs.Parts.{FixedParts, StateParts, IsState, state_with}
-use Rattle.nitro_bytes.specs.declared.value.AssetOutcome.{AssetOutcome}
-use Rattle.nitro_bytes.specs.declared.value.Dest.TheVariants.{Person}
-use Rattle.channel_name.specs.Digests.{name_of_person}
-use Rattle.channel_model.specs.Rules.{people}
-use Rattle.channel_calls.specs.Flows.{is_among}
-use Rattle.channel_calls.specs.declared.entry.Entry.{Entry}
-use Rattle.net_model.specs.Held.{held}
-use Rattle.net_model.specs.Journals.{Line}
-use Rattle.node_model.specs.Refusing.{moved}
-use Rattle.outcome_targets.specs.Limits.{is_valid}
-use Rattle.share_model.specs.Bases.{all_bases}
-use Rattle.share_model.specs.Places.{Order, plan}
-use Rattle.signing_laws.specs.Fairly.{Wants, Pays}
-use Rattle.signing_laws.specs.Wanted.{IsTarget}
-use Rattle.stage_rules.specs.Seats.{Seat, repeats, final_state, pass_on, toward}
-use Rattle.support_chain.specs.Real.{real}
-use Rattle.wish_laws.specs.Carried.{IsRepeatedIfAny}
+use Rattle.channel_values.specs.Outcomes.{IsOutcome}
+use Rattle.channel_values.specs.Parts.{FixedParts, StateParts, IsState, state_with}
+use Rattle.channel_values.specs.declared.value.AssetOutcome.{AssetOutcome}
+use Rattle.channel_values.specs.declared.value.Dest.TheVariants.{Person}
+use Rattle.channel_values.specs.Digests.{name_of_person}
+use Rattle.channel_values.specs.Rules.{people}
+use Rattle.call_history.specs.Flows.{is_among}
+use Rattle.call_history.specs.declared.entry.Entry.{Entry}
+use Rattle.channel_safety.specs.Held.{held}
+use Rattle.channel_safety.specs.Journals.{Line}
+use Rattle.channel_node.specs.Refusing.{moved}
+use Rattle.funding_plans.specs.Limits.{is_valid}
+use Rattle.share_laws.specs.Bases.{all_bases}
+use Rattle.share_laws.specs.Places.{Order, plan}
+use Rattle.share_laws.specs.Fairly.{Wants, Pays}
+use Rattle.share_laws.specs.Wanted.{IsTarget}
+use Rattle.funding_plans.specs.Seats.{Seat, repeats, final_state, pass_on, toward}
+use Rattle.support_rules.specs.Real.{real}
+use Rattle.fairness_laws.specs.Carried.{IsRepeatedIfAny}
 use Rattle.fairness_laws.specs.SeatSitting.{Sits}
 
 -- a repeated state of the set-up, where the latest state that is held repeats the opening outcome while the set-up lasts

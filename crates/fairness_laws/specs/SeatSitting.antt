@@ -1,22 +1,22 @@
 -- The seat of a participant in a channel that isn't final: what is held of it ends in an outcome with which it could end.
 use Rattle.std.specs.Prelude.{◌≡◌, ◌≢◌, ℕ, true, false, List, Some}
-use Rattle.nitro_bytes.specs.Parts.{FixedParts}
-use Rattle.nitro_bytes.specs.declared.chain.Signed.{Signed}
-use Rattle.nitro_bytes.specs.declared.value.AssetOutcome.{AssetOutcome}
-use Rattle.channel_name.specs.Digests.{name_of_person}
-use Rattle.channel_calls.specs.Flows.{is_among}
-use Rattle.channel_calls.specs.History.{mode}
-use Rattle.channel_calls.specs.Marked.{Marked, marked_of}
-use Rattle.channel_calls.specs.declared.entry.Entry.{Entry}
+use Rattle.channel_values.specs.Parts.{FixedParts}
+use Rattle.channel_values.specs.declared.chain.Signed.{Signed}
+use Rattle.channel_values.specs.declared.value.AssetOutcome.{AssetOutcome}
+use Rattle.channel_values.specs.Digests.{name_of_person}
+use Rattle.call_history.specs.Flows.{is_among}
+use Rattle.call_history.specs.History.{mode}
+use Rattle.call_history.specs.Marked.{Marked, marked_of}
+use Rattle.call_history.specs.declared.entry.Entry.{Entry}
 use Rattle.channel_store.specs.Keeping.{is_held}
-use Rattle.deadline_clock.specs.Mode.{is_final}
-use Rattle.held_laws.specs.Laws.{EndsPossibly}
-use Rattle.net_model.specs.Journals.{Line}
+use Rattle.call_history.specs.Mode.{is_final}
+use Rattle.share_laws.specs.HeldLaws.{EndsPossibly}
+use Rattle.channel_safety.specs.Journals.{Line}
 use Rattle.fairness_laws.specs.PlanSeats.{SeatIs}
-use Rattle.share_model.specs.Bases.{all_bases}
-use Rattle.share_model.specs.Places.{Order, plan, last_made}
-use Rattle.stage_rules.specs.Seats.{Seat}
-use Rattle.support_chain.specs.Real.{real}
+use Rattle.share_laws.specs.Bases.{all_bases}
+use Rattle.share_laws.specs.Places.{Order, plan, last_made}
+use Rattle.funding_plans.specs.Seats.{Seat}
+use Rattle.support_rules.specs.Real.{real}
 
 -- the state that the participant signed last, after which what is held ends
 pub record HeldEnds (key : List ℕ) (front : List Line) (f : FixedParts) (w : Marked) : Type 0 where

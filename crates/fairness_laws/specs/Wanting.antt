@@ -1,26 +1,26 @@
 -- What the parts of a node's plan want, and what it pays, keeps its person's share.
 use Rattle.std.specs.Prelude.{◌≡◌, ℕ, true, false, List, Some, None}
-use Rattle.nitro_bytes.specs.Parts.{FixedParts, StateParts, IsState}
-use Rattle.channel_name.specs.Digests.{name_of_person}
-use Rattle.channel_calls.specs.History.{mode}
-use Rattle.channel_calls.specs.declared.entry.Entry.{Entry}
+use Rattle.channel_values.specs.Parts.{FixedParts, StateParts, IsState}
+use Rattle.channel_values.specs.Digests.{name_of_person}
+use Rattle.call_history.specs.History.{mode}
+use Rattle.call_history.specs.declared.entry.Entry.{Entry}
 use Rattle.channel_store.specs.Keeping.{is_held}
 use Rattle.channel_store.specs.declared.kept.Kept.{Kept}
-use Rattle.deadline_clock.specs.Mode.{is_final}
-use Rattle.funding_value.specs.declared.plan.Part.{Part}
-use Rattle.net_party.specs.declared.command.Command.TheVariants.{Pay}
-use Rattle.node_model.specs.Minds.{facts_of}
-use Rattle.node_model.specs.Places.{Told, lines_of, mind_at}
-use Rattle.node_model.specs.Playing.{Signing, pending}
-use Rattle.node_model.specs.Refusing.{not_open}
-use Rattle.node_share_laws.specs.Orders.{orders_of}
-use Rattle.node_tables.specs.Stages.{stages}
+use Rattle.call_history.specs.Mode.{is_final}
+use Rattle.funding_plans.specs.declared.plan.Part.{Part}
+use Rattle.network.specs.declared.command.Command.TheVariants.{Pay}
+use Rattle.channel_node.specs.Minds.{facts_of}
+use Rattle.channel_node.specs.Places.{Told, lines_of, mind_at}
+use Rattle.channel_node.specs.Playing.{Signing, pending}
+use Rattle.channel_node.specs.Refusing.{not_open}
+use Rattle.node_guarantees.specs.Orders.{orders_of}
+use Rattle.stage_tables.specs.Stages.{stages}
 use Rattle.fairness_laws.specs.PaymentLaws.{At}
-use Rattle.plan_stages.specs.Asked.{asked_in, wanted_in}
-use Rattle.signing_laws.specs.Fairly.{Wants}
-use Rattle.signing_laws.specs.Signatures.{IsOwn}
-use Rattle.support_chain.specs.Real.{real}
-use Rattle.view_laws.specs.Laws.{IsKeptAt}
+use Rattle.stage_tables.specs.Asked.{asked_in, wanted_in}
+use Rattle.share_laws.specs.Fairly.{Wants}
+use Rattle.share_laws.specs.Signatures.{IsOwn}
+use Rattle.support_rules.specs.Real.{real}
+use Rattle.node_guarantees.specs.ViewLaws.{IsKeptAt}
 
 -- each state that this part wants, where it is asked about a channel that isn't final, and all live channels are open
 abbrev pub WantsFairly : Signing → List Entry → List Told → Part → Type 0

@@ -4,33 +4,33 @@ use Rattle.std.proofs.lemmas.Bool.Decides.{nat_tests}
 use Rattle.std.specs.Prelude.{nat_lt, nat_le, ◌==◌, Option, Result}
 use Rattle.std.specs.Result.{result_err}
 use Rattle.std.specs.Str.{bytes_eq}
-use Rattle.nitro_bytes.specs.Parts.{FixedParts, StateParts}
-use Rattle.nitro_bytes.specs.declared.chain.Chain.{Chain}
-use Rattle.nitro_bytes.specs.declared.chain.Mark.{Mark}
-use Rattle.nitro_bytes.specs.declared.chain.Signed.{Signed}
-use Rattle.nitro_bytes.specs.declared.fault.SupportFault.{SupportFault}
-use Rattle.nitro_bytes.specs.declared.fault.SupportFault.TheVariants as faults
-use Rattle.deadline_clock.specs.Mode.{mode_at, is_final, is_challenged}
-use Rattle.deadline_clock.specs.declared.standing.Standing.{Standing}
-use Rattle.deadline_clock.specs.declared.standing.Standing.TheVariants.{Challenged, Final}
-use Rattle.channel_model.specs.Words.{fault_if, ◌⊳◌}
-use Rattle.channel_model.specs.Chains.{first_between, last_of, turn_fault, turn_unless, marked_row, mover}
-use Rattle.channel_model.specs.Rules.{Rules, people, top_turn, is_signed_well, signs_challenge}
-use Rattle.channel_model.specs.Support.{link_fault, support_of, verified_marks}
-use Rattle.channel_calls.specs.Refusing.{refuse_if, refuse_fault, told}
-use Rattle.channel_calls.specs.Rows.{is_stale, fixed_of, turned, after_challenge, after_turn, after_refute, after_conclude}
-use Rattle.channel_calls.specs.Replies as replies
-use Rattle.channel_calls.specs.History.{is_accepted, is_named, time_set, or_before, now_of, turning, row, mode, call_reply, reply_to, Legal}
-use Rattle.channel_calls.specs.declared.call.Call.TheVariants.{Challenge, Respond, Refute, Checkpoint, Conclude}
-use Rattle.channel_calls.specs.declared.call.Op.{Op}
-use Rattle.channel_calls.specs.declared.call.Op.TheVariants as ops
-use Rattle.channel_calls.specs.declared.entry.Entry.{Entry}
-use Rattle.channel_calls.specs.declared.refusal.Refusal.{Refusal}
-use Rattle.channel_calls.specs.declared.refusal.Refusal.TheVariants.{IsFinal, NotSupported, Stale, BadChallenger, NoChallenge, WrongState, WrongTurn, BadSignature, BadStep, NotNewer, NotChallengers, NotFinalState, Backwards, TooLate}
-use Rattle.channel_calls.specs.declared.refusal.Reply.{Reply}
-use Rattle.channel_calls.specs.declared.refusal.Reply.TheVariants.{Until, Opened, Concluded, Now, No}
-use Rattle.channel_calls.specs.declared.row.Row.{Row}
-use Rattle.channel_calls.proofs.Names.{same_bytes}
+use Rattle.channel_values.specs.Parts.{FixedParts, StateParts}
+use Rattle.channel_values.specs.declared.chain.Chain.{Chain}
+use Rattle.channel_values.specs.declared.chain.Mark.{Mark}
+use Rattle.channel_values.specs.declared.chain.Signed.{Signed}
+use Rattle.channel_values.specs.declared.fault.SupportFault.{SupportFault}
+use Rattle.channel_values.specs.declared.fault.SupportFault.TheVariants as faults
+use Rattle.call_history.specs.Mode.{mode_at, is_final, is_challenged}
+use Rattle.call_history.specs.declared.standing.Standing.{Standing}
+use Rattle.call_history.specs.declared.standing.Standing.TheVariants.{Challenged, Final}
+use Rattle.channel_values.specs.Words.{fault_if, ◌⊳◌}
+use Rattle.channel_values.specs.Rows.{first_between, last_of, turn_fault, turn_unless, marked_row, mover}
+use Rattle.channel_values.specs.Rules.{Rules, people, top_turn, is_signed_well, signs_challenge}
+use Rattle.channel_values.specs.Support.{link_fault, support_of, verified_marks}
+use Rattle.call_history.specs.Refusing.{refuse_if, refuse_fault, told}
+use Rattle.call_history.specs.Rows.{is_stale, fixed_of, turned, after_challenge, after_turn, after_refute, after_conclude}
+use Rattle.call_history.specs.Replies as replies
+use Rattle.call_history.specs.History.{is_accepted, is_named, time_set, or_before, now_of, turning, row, mode, call_reply, reply_to, Legal}
+use Rattle.call_history.specs.declared.call.Call.TheVariants.{Challenge, Respond, Refute, Checkpoint, Conclude}
+use Rattle.call_history.specs.declared.call.Op.{Op}
+use Rattle.call_history.specs.declared.call.Op.TheVariants as ops
+use Rattle.call_history.specs.declared.entry.Entry.{Entry}
+use Rattle.call_history.specs.declared.refusal.Refusal.{Refusal}
+use Rattle.call_history.specs.declared.refusal.Refusal.TheVariants.{IsFinal, NotSupported, Stale, BadChallenger, NoChallenge, WrongState, WrongTurn, BadSignature, BadStep, NotNewer, NotChallengers, NotFinalState, Backwards, TooLate}
+use Rattle.call_history.specs.declared.refusal.Reply.{Reply}
+use Rattle.call_history.specs.declared.refusal.Reply.TheVariants.{Until, Opened, Concluded, Now, No}
+use Rattle.call_history.specs.declared.row.Row.{Row}
+use Rattle.call_history.proofs.Names.{same_bytes}
 
 -- ---- tests
 

@@ -1,7 +1,7 @@
 -- What is held of an asset and what a person was paid of it, at their places and changed.
 use Rattle.std.proofs.Common.{◌≡◌, ℕ, ◌<◌, ◌≤◌, List, [], ◌∷◌, ◌++◌, length, set, get_or, sym, ap}
 use Rattle.std.specs.List.{position_or_len}
-use Rattle.channel_calls.proofs.Tabled.{changed_at, added_at, found_at, none_at}
+use Rattle.call_history.proofs.Tabled.{changed_at, added_at, found_at, none_at}
 use Rattle.history_view.specs.Views.{is_in, held_amount, held_with, is_paid, paid_amount, paid_with}
 use Rattle.history_view.proofs.Placed.{changed_same}
 

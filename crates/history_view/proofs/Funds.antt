@@ -4,24 +4,24 @@ use Rattle.std.proofs.lemmas.Bool.{eqb-true, eq-eqb}
 use Rattle.std.proofs.lemmas.List.Sums.{sum_by-cons, sum_by-append}
 use Rattle.std.specs.Prelude.{◌==◌, Option}
 use Rattle.std.specs.Str.{bytes_eq}
-use Rattle.nitro_bytes.specs.Outcomes.{is_same}
-use Rattle.nitro_bytes.specs.declared.value.Dest.{Dest}
-use Rattle.nitro_bytes.specs.declared.value.Dest.TheVariants.{Person, Channel}
-use Rattle.channel_model.specs.Rules.{Rules}
-use Rattle.channel_calls.specs.Dues.{shape_in}
-use Rattle.channel_calls.specs.Flows.{comes_from, brings, into, held_in, paid_in, AreCovered, AreWithinAmounts}
-use Rattle.channel_calls.specs.History.{item_dest, listed_dest, flow_to, flow_of, flows_of, paid_to, payer_of, IsHeldBy, reply_to}
-use Rattle.channel_calls.specs.declared.call.Call.TheVariants.{Deposit, Transfer, Claim}
-use Rattle.channel_calls.specs.declared.call.Op.{Op}
-use Rattle.channel_calls.specs.declared.call.Op.TheVariants as ops
-use Rattle.channel_calls.specs.declared.entry.Entry.{Entry}
-use Rattle.channel_calls.specs.declared.funds.Flow.{Flow}
-use Rattle.channel_calls.specs.declared.refusal.Reply.{Reply}
-use Rattle.channel_calls.specs.declared.refusal.Reply.TheVariants.{Held, Paid}
-use Rattle.channel_calls.specs.declared.view.ChannelView.{ChannelView}
-use Rattle.channel_calls.proofs.Conservation.{held_fits, paid_fits}
-use Rattle.channel_calls.proofs.Legality.{HasSource, moved_cons, pays_what_is_held}
-use Rattle.channel_calls.proofs.Names.{same_bytes, bytes_eq_self}
+use Rattle.channel_values.specs.Outcomes.{is_same}
+use Rattle.channel_values.specs.declared.value.Dest.{Dest}
+use Rattle.channel_values.specs.declared.value.Dest.TheVariants.{Person, Channel}
+use Rattle.channel_values.specs.Rules.{Rules}
+use Rattle.call_history.specs.Dues.{shape_in}
+use Rattle.call_history.specs.Flows.{comes_from, brings, into, held_in, paid_in, AreCovered, AreWithinAmounts}
+use Rattle.call_history.specs.History.{item_dest, listed_dest, flow_to, flow_of, flows_of, paid_to, payer_of, IsHeldBy, reply_to}
+use Rattle.call_history.specs.declared.call.Call.TheVariants.{Deposit, Transfer, Claim}
+use Rattle.call_history.specs.declared.call.Op.{Op}
+use Rattle.call_history.specs.declared.call.Op.TheVariants as ops
+use Rattle.call_history.specs.declared.entry.Entry.{Entry}
+use Rattle.call_history.specs.declared.funds.Flow.{Flow}
+use Rattle.call_history.specs.declared.refusal.Reply.{Reply}
+use Rattle.call_history.specs.declared.refusal.Reply.TheVariants.{Held, Paid}
+use Rattle.call_history.specs.declared.view.ChannelView.{ChannelView}
+use Rattle.call_history.proofs.Conservation.{held_fits, paid_fits}
+use Rattle.call_history.proofs.Legality.{HasSource, moved_cons, pays_what_is_held}
+use Rattle.call_history.proofs.Names.{same_bytes, bytes_eq_self}
 use Rattle.history_view.specs.Views.{view_of, held_amount, paid_amount, channel_gave, channel_got, views_gave, views_got, views_moved, paid_got, paid_moved}
 use Rattle.history_view.specs.Room.{HasRoom, HaveRoom}
 use Rattle.history_view.proofs.Viewing.{view_with, amount_with, balance_with}

@@ -2,8 +2,8 @@
 use Rattle.std.proofs.Common.{◌≡◌, ℕ, zero, suc, ◌<◌, ◌≤◌, List, [], ◌∷◌, ◌++◌, Some, None, length, set, get_or, refl, sym, ◌∙◌, ap, arith}
 use Rattle.std.proofs.lemmas.List.Folds.{find_at}
 use Rattle.std.specs.List.{position_or_len, find, slice_get}
-use Rattle.channel_calls.specs.declared.view.ChannelView.{ChannelView}
-use Rattle.channel_calls.proofs.Tabled.{found_at, none_at}
+use Rattle.call_history.specs.declared.view.ChannelView.{ChannelView}
+use Rattle.call_history.proofs.Tabled.{found_at, none_at}
 use Rattle.history_view.specs.Views.{unknown, is_of, view_of, views_with}
 use Rattle.history_view.proofs.Placed.{change_there, change_added, found_added}
 

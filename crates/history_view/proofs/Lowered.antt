@@ -4,12 +4,12 @@ use Rattle.std.specs.Prelude.{◌==◌, ◌||◌, take}
 use Rattle.std.proofs.lemmas.List.{take_more}
 use Rattle.std.proofs.lemmas.List.Sums.{sum_by-cons}
 use Rattle.std.specs.List.{AllByRecursion, list_any}
-use Rattle.nitro_bytes.specs.Outcomes.{pays_same, total, is_unordered, AreApart, AreItems, IsItem, IsShape, IsAssetOutcome, IsOutcome}
-use Rattle.nitro_bytes.specs.declared.value.AssetOutcome.{AssetOutcome}
-use Rattle.nitro_bytes.specs.declared.value.Item.{Item}
-use Rattle.nitro_bytes.specs.declared.value.Shape.{Shape}
-use Rattle.nitro_bytes.specs.declared.value.Shape.TheVariants.{Allocation, Guarantee}
-use Rattle.channel_calls.specs.Rest.{lower_at, lower_shape, lower_outcome}
+use Rattle.channel_values.specs.Outcomes.{pays_same, total, is_unordered, AreApart, AreItems, IsItem, IsShape, IsAssetOutcome, IsOutcome}
+use Rattle.channel_values.specs.declared.value.AssetOutcome.{AssetOutcome}
+use Rattle.channel_values.specs.declared.value.Item.{Item}
+use Rattle.channel_values.specs.declared.value.Shape.{Shape}
+use Rattle.channel_values.specs.declared.value.Shape.TheVariants.{Allocation, Guarantee}
+use Rattle.call_history.specs.Rest.{lower_at, lower_shape, lower_outcome}
 
 -- ---- at the place
 

@@ -1,16 +1,16 @@
 -- Following where rules name channels as the network does.
 use Rattle.std.proofs.Common.{◌≡◌, ℕ, List, ◌∷◌, Some, None, OnOk, refl, sym, ◌∙◌, ap, subst}
 use Rattle.std.specs.Prelude.{Option, Result, Ok, Err}
-use Rattle.nitro_bytes.specs.Parts.{FixedParts}
-use Rattle.channel_model.specs.Rules.{Rules}
-use Rattle.channel_calls.specs.Rows.{fixed_of}
-use Rattle.channel_calls.specs.Told.{told_row}
-use Rattle.channel_calls.specs.History.{time_set, or_before, flow_of, payment_of, Legal}
-use Rattle.channel_calls.specs.declared.call.Op.{Op}
-use Rattle.channel_calls.specs.declared.entry.Entry.{Entry}
-use Rattle.channel_calls.specs.declared.view.ChannelView.{ChannelView}
-use Rattle.channel_calls.specs.declared.view.WorldView.{WorldView}
-use Rattle.channel_calls.specs.Naming.{name_of, NamesChannels}
+use Rattle.channel_values.specs.Parts.{FixedParts}
+use Rattle.channel_values.specs.Rules.{Rules}
+use Rattle.call_history.specs.Rows.{fixed_of}
+use Rattle.call_history.specs.Told.{told_row}
+use Rattle.call_history.specs.History.{time_set, or_before, flow_of, payment_of, Legal}
+use Rattle.call_history.specs.declared.call.Op.{Op}
+use Rattle.call_history.specs.declared.entry.Entry.{Entry}
+use Rattle.call_history.specs.declared.view.ChannelView.{ChannelView}
+use Rattle.call_history.specs.declared.view.WorldView.{WorldView}
+use Rattle.call_history.specs.Naming.{name_of, NamesChannels}
 use Rattle.history_view.specs.Views.{channel_turned, views_with, views_turned, views_moved, views_paid, paid_moved, followed}
 use Rattle.history_view.specs.Standing.{StandsFor}
 use Rattle.history_view.specs.Few.{OfFew}

@@ -2,8 +2,8 @@
 use Rattle.std.proofs.Common.{◌≡◌, ℕ, ◌<◌, List, [], ◌∷◌, ◌++◌, Bool, true, false, cond, length, set, get_or, sym, ◌∙◌, ap, arith}
 use Rattle.std.proofs.lemmas.List.{get_or_push, set_at}
 use Rattle.std.specs.List.{position_or_len}
-use Rattle.channel_calls.specs.Tables.{found, changed}
-use Rattle.channel_calls.proofs.Tabled.{changed_at, added_at, found_at, none_at}
+use Rattle.call_history.specs.Tables.{found, changed}
+use Rattle.call_history.proofs.Tabled.{changed_at, added_at, found_at, none_at}
 
 -- the change of what is found stands at the place
 pub change_there : {X : Type 0} (is : X → Bool) (change : X → X) (none : X) (xs : List X) (i : ℕ) → i ≡ position_or_len is xs → i < length xs

@@ -1,16 +1,16 @@
 -- A call that pays turns no row.
 use Rattle.std.proofs.Common.{◌≡◌, ℕ, List, [], None, Some, refl, sym, subst}
 use Rattle.std.specs.Prelude.{Option}
-use Rattle.nitro_bytes.specs.Parts.{FixedParts}
-use Rattle.channel_calls.specs.Told.{told_row}
-use Rattle.channel_calls.specs.Rows.{fixed_of}
-use Rattle.channel_calls.specs.History.{flow_of}
-use Rattle.channel_calls.specs.declared.call.Call.TheVariants.{Deposit, Challenge, Respond, Refute, Checkpoint, Conclude, Transfer, Claim}
-use Rattle.channel_calls.specs.declared.call.Op.{Op}
-use Rattle.channel_calls.specs.declared.call.Op.TheVariants as ops
-use Rattle.channel_calls.specs.declared.refusal.Reply.{Reply}
-use Rattle.channel_calls.specs.declared.refusal.Reply.TheVariants.{Held, Until, Opened, Concluded, Paid, Now, No}
-use Rattle.channel_calls.specs.declared.view.ChannelView.{ChannelView}
+use Rattle.channel_values.specs.Parts.{FixedParts}
+use Rattle.call_history.specs.Told.{told_row}
+use Rattle.call_history.specs.Rows.{fixed_of}
+use Rattle.call_history.specs.History.{flow_of}
+use Rattle.call_history.specs.declared.call.Call.TheVariants.{Deposit, Challenge, Respond, Refute, Checkpoint, Conclude, Transfer, Claim}
+use Rattle.call_history.specs.declared.call.Op.{Op}
+use Rattle.call_history.specs.declared.call.Op.TheVariants as ops
+use Rattle.call_history.specs.declared.refusal.Reply.{Reply}
+use Rattle.call_history.specs.declared.refusal.Reply.TheVariants.{Held, Until, Opened, Concluded, Paid, Now, No}
+use Rattle.call_history.specs.declared.view.ChannelView.{ChannelView}
 use Rattle.history_view.specs.Views.{views_turned}
 use Rattle.history_view.specs.Room.{HaveRoom}
 

@@ -6,32 +6,32 @@ use Rattle.std.specs.Prelude.{◌==◌, Option, Result}
 use Rattle.std.specs.Option.{option_map}
 use Rattle.std.specs.Str.{bytes_eq}
 use mathlib.Core.Path.{fun_ext}
-use Rattle.nitro_bytes.specs.declared.value.AssetOutcome.{AssetOutcome}
-use Rattle.nitro_bytes.specs.declared.value.Item.{Item}
-use Rattle.nitro_bytes.specs.declared.value.Shape.{Shape}
-use Rattle.nitro_bytes.specs.declared.value.Shape.TheVariants.{Allocation, Guarantee}
-use Rattle.deadline_clock.specs.Mode.{is_final}
-use Rattle.channel_model.specs.Rules.{Rules, top_outcome}
-use Rattle.channel_calls.specs.Refusing.{refuse_if, told}
-use Rattle.channel_calls.specs.Dues.{shape_in, transfer_due, claim_due}
-use Rattle.channel_calls.specs.Flows.{pays, paid_of_item}
-use Rattle.channel_calls.specs.Rest.{less_paid, rest_shape, rest_outcome, lower_outcome}
-use Rattle.channel_calls.specs.Replies as replies
-use Rattle.channel_calls.specs.History.{listed_dest, place_in, payment_of, payments_of, paid_of, rest_of_channel, held_of, now_of, turning, row, mode, settles, settled, call_reply, reply_to, Legal}
-use Rattle.channel_calls.specs.declared.call.Call.TheVariants.{Challenge, Conclude, Transfer, Claim}
-use Rattle.channel_calls.specs.declared.call.Op.{Op}
-use Rattle.channel_calls.specs.declared.call.Op.TheVariants as ops
-use Rattle.channel_calls.specs.declared.entry.Entry.{Entry}
-use Rattle.channel_calls.specs.declared.funds.Due.{Due}
-use Rattle.channel_calls.specs.declared.funds.Payment.{Payment}
-use Rattle.channel_calls.specs.declared.refusal.Refusal.{Refusal}
-use Rattle.channel_calls.specs.declared.refusal.Refusal.TheVariants.{NotFinal, WrongOutcome}
-use Rattle.channel_calls.specs.declared.refusal.Reply.{Reply}
-use Rattle.channel_calls.specs.declared.refusal.Reply.TheVariants.{Paid}
-use Rattle.channel_calls.specs.declared.row.Row.{Row}
-use Rattle.channel_calls.specs.declared.view.ChannelView.{ChannelView}
-use Rattle.channel_calls.proofs.Names.{same_bytes}
-use Rattle.channel_calls.proofs.Payouts.{rest_more}
+use Rattle.channel_values.specs.declared.value.AssetOutcome.{AssetOutcome}
+use Rattle.channel_values.specs.declared.value.Item.{Item}
+use Rattle.channel_values.specs.declared.value.Shape.{Shape}
+use Rattle.channel_values.specs.declared.value.Shape.TheVariants.{Allocation, Guarantee}
+use Rattle.call_history.specs.Mode.{is_final}
+use Rattle.channel_values.specs.Rules.{Rules, top_outcome}
+use Rattle.call_history.specs.Refusing.{refuse_if, told}
+use Rattle.call_history.specs.Dues.{shape_in, transfer_due, claim_due}
+use Rattle.call_history.specs.Flows.{pays, paid_of_item}
+use Rattle.call_history.specs.Rest.{less_paid, rest_shape, rest_outcome, lower_outcome}
+use Rattle.call_history.specs.Replies as replies
+use Rattle.call_history.specs.History.{listed_dest, place_in, payment_of, payments_of, paid_of, rest_of_channel, held_of, now_of, turning, row, mode, settles, settled, call_reply, reply_to, Legal}
+use Rattle.call_history.specs.declared.call.Call.TheVariants.{Challenge, Conclude, Transfer, Claim}
+use Rattle.call_history.specs.declared.call.Op.{Op}
+use Rattle.call_history.specs.declared.call.Op.TheVariants as ops
+use Rattle.call_history.specs.declared.entry.Entry.{Entry}
+use Rattle.call_history.specs.declared.funds.Due.{Due}
+use Rattle.call_history.specs.declared.funds.Payment.{Payment}
+use Rattle.call_history.specs.declared.refusal.Refusal.{Refusal}
+use Rattle.call_history.specs.declared.refusal.Refusal.TheVariants.{NotFinal, WrongOutcome}
+use Rattle.call_history.specs.declared.refusal.Reply.{Reply}
+use Rattle.call_history.specs.declared.refusal.Reply.TheVariants.{Paid}
+use Rattle.call_history.specs.declared.row.Row.{Row}
+use Rattle.call_history.specs.declared.view.ChannelView.{ChannelView}
+use Rattle.call_history.proofs.Names.{same_bytes}
+use Rattle.call_history.proofs.Payouts.{rest_more}
 use Rattle.history_view.specs.Views.{view_of, views_with, channel_paid, views_paid}
 use Rattle.history_view.proofs.Accepting.{not_false, not_both, passes, turned_still, turning_names, turning_tells, was_still}
 use Rattle.history_view.proofs.Turns.{turned_view}

@@ -4,9 +4,9 @@ use Rattle.std.specs.Prelude.{Option}
 use Rattle.std.specs.Str.{bytes_eq}
 use Rattle.std.proofs.lemmas.Bool.{eq-eqb}
 use Rattle.std.proofs.lemmas.Slice.Eq.{bytes_eq-Decides}
-use Rattle.channel_calls.specs.Flows.{comes_from}
-use Rattle.channel_calls.specs.declared.view.ChannelView.{ChannelView}
-use Rattle.channel_calls.proofs.Tabled.{found_same, found_other}
+use Rattle.call_history.specs.Flows.{comes_from}
+use Rattle.call_history.specs.declared.view.ChannelView.{ChannelView}
+use Rattle.call_history.proofs.Tabled.{found_same, found_other}
 use Rattle.history_view.specs.Views.{unknown, is_of, view_of, views_with, is_in, held_amount, held_with, channel_gave, views_gave}
 
 same_name : (a b : List ℕ) → bytes_eq a b ≡ true → a ≡ b

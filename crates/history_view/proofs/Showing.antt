@@ -3,25 +3,25 @@
 use Rattle.std.proofs.Common.{◌≡◌, ℕ, zero, suc, ◌≤◌, Bool, true, false, cond, List, [], ◌∷◌, ◌++◌, length, drop, Some, None, refl, sym, ◌∙◌, ap, arith}
 use Rattle.std.specs.Prelude.{nat_lt, Option}
 use Rattle.std.specs.Option.{option_map}
-use Rattle.nitro_bytes.specs.Parts.{FixedParts, StateParts}
-use Rattle.nitro_bytes.specs.declared.chain.Chain.{Chain}
-use Rattle.nitro_bytes.specs.declared.chain.Signed.{Signed}
-use Rattle.deadline_clock.specs.Mode.{mode_at, is_final, is_challenged}
-use Rattle.channel_model.specs.Chains.{last_of}
-use Rattle.channel_model.specs.Rules.{Rules, newest, turn_of, top_turn}
-use Rattle.channel_calls.specs.Marked.{Marked, nothing, marked_of, longer, lowest, answered}
-use Rattle.channel_calls.specs.Rows.{fixed_of, turned}
-use Rattle.channel_calls.specs.Shown.{challenge_in, challenged, shown_by}
-use Rattle.channel_calls.specs.History.{is_named, time_set, or_before, now_of, turning, row, mode, Legal}
-use Rattle.channel_calls.specs.declared.call.Call.TheVariants.{Challenge, Respond, Refute, Checkpoint, Conclude}
-use Rattle.channel_calls.specs.declared.call.Op.{Op}
-use Rattle.channel_calls.specs.declared.call.Op.TheVariants as ops
-use Rattle.channel_calls.specs.declared.entry.Entry.{Entry}
-use Rattle.channel_calls.specs.declared.refusal.Reply.{Reply}
-use Rattle.channel_calls.specs.declared.row.Row.{Row}
-use Rattle.channel_calls.specs.declared.view.ChannelView.{ChannelView}
-use Rattle.channel_calls.proofs.LoweredMarks.{lowest_le}
-use Rattle.channel_calls.proofs.Names.{same_bytes}
+use Rattle.channel_values.specs.Parts.{FixedParts, StateParts}
+use Rattle.channel_values.specs.declared.chain.Chain.{Chain}
+use Rattle.channel_values.specs.declared.chain.Signed.{Signed}
+use Rattle.call_history.specs.Mode.{mode_at, is_final, is_challenged}
+use Rattle.channel_values.specs.Rows.{last_of}
+use Rattle.channel_values.specs.Rules.{Rules, newest, turn_of, top_turn}
+use Rattle.call_history.specs.Marked.{Marked, nothing, marked_of, longer, lowest, answered}
+use Rattle.call_history.specs.Rows.{fixed_of, turned}
+use Rattle.call_history.specs.Shown.{challenge_in, challenged, shown_by}
+use Rattle.call_history.specs.History.{is_named, time_set, or_before, now_of, turning, row, mode, Legal}
+use Rattle.call_history.specs.declared.call.Call.TheVariants.{Challenge, Respond, Refute, Checkpoint, Conclude}
+use Rattle.call_history.specs.declared.call.Op.{Op}
+use Rattle.call_history.specs.declared.call.Op.TheVariants as ops
+use Rattle.call_history.specs.declared.entry.Entry.{Entry}
+use Rattle.call_history.specs.declared.refusal.Reply.{Reply}
+use Rattle.call_history.specs.declared.row.Row.{Row}
+use Rattle.call_history.specs.declared.view.ChannelView.{ChannelView}
+use Rattle.call_history.proofs.LoweredMarks.{lowest_le}
+use Rattle.call_history.proofs.Names.{same_bytes}
 use Rattle.history_view.specs.Views.{newer_shown, with_answer, shown_after}
 use Rattle.history_view.specs.Standing.{newer, newest_shown, IsChainOf}
 use Rattle.history_view.proofs.Accepting.{not_below, some_of, challenged_is_still, still_before, challenged_before, ended_now, ShowsNewer, Answers, Tells, turning_names, turning_tells, time_up}

@@ -3,25 +3,25 @@ use Rattle.std.proofs.Common.{◌≡◌, ℕ, ◌≤◌, Bool, true, false, ◌&
 use Rattle.std.specs.Prelude.{Option, nat_le}
 use Rattle.std.specs.Option.{option_map}
 use Rattle.std.proofs.lemmas.Bool.Decides.{nat_tests}
-use Rattle.nitro_bytes.specs.Parts.{FixedParts}
-use Rattle.nitro_bytes.specs.declared.chain.Chain.{Chain}
-use Rattle.deadline_clock.specs.Mode.{is_challenged}
-use Rattle.channel_model.specs.Rules.{Rules}
-use Rattle.channel_calls.specs.Marked.{Marked, marked_of}
-use Rattle.channel_calls.specs.Rows.{fixed_of}
-use Rattle.channel_calls.specs.Shown.{challenge_in, challenged}
-use Rattle.channel_calls.specs.Told.{told_row}
-use Rattle.channel_calls.specs.History.{is_accepted, is_named, time_set, or_before, turning, flow_of, flows_of, held_of, payment_of, rest_of_channel, settled, mode, Legal}
-use Rattle.channel_calls.specs.declared.call.Call.TheVariants.{Challenge, Respond, Refute, Checkpoint, Conclude}
-use Rattle.channel_calls.specs.declared.call.Op.{Op}
-use Rattle.channel_calls.specs.declared.call.Op.TheVariants as ops
-use Rattle.channel_calls.specs.declared.entry.Entry.{Entry}
-use Rattle.channel_calls.specs.declared.view.ChannelView.{ChannelView}
-use Rattle.channel_calls.specs.declared.view.WorldView.{WorldView}
-use Rattle.channel_calls.proofs.Conservation.{within_amounts}
-use Rattle.channel_calls.proofs.Legality.{covered}
-use Rattle.channel_calls.proofs.Names.{bytes_eq_self}
-use Rattle.channel_calls.proofs.Telling.{refused_tells}
+use Rattle.channel_values.specs.Parts.{FixedParts}
+use Rattle.channel_values.specs.declared.chain.Chain.{Chain}
+use Rattle.call_history.specs.Mode.{is_challenged}
+use Rattle.channel_values.specs.Rules.{Rules}
+use Rattle.call_history.specs.Marked.{Marked, marked_of}
+use Rattle.call_history.specs.Rows.{fixed_of}
+use Rattle.call_history.specs.Shown.{challenge_in, challenged}
+use Rattle.call_history.specs.Told.{told_row}
+use Rattle.call_history.specs.History.{is_accepted, is_named, time_set, or_before, turning, flow_of, flows_of, held_of, payment_of, rest_of_channel, settled, mode, Legal}
+use Rattle.call_history.specs.declared.call.Call.TheVariants.{Challenge, Respond, Refute, Checkpoint, Conclude}
+use Rattle.call_history.specs.declared.call.Op.{Op}
+use Rattle.call_history.specs.declared.call.Op.TheVariants as ops
+use Rattle.call_history.specs.declared.entry.Entry.{Entry}
+use Rattle.call_history.specs.declared.view.ChannelView.{ChannelView}
+use Rattle.call_history.specs.declared.view.WorldView.{WorldView}
+use Rattle.call_history.proofs.Conservation.{within_amounts}
+use Rattle.call_history.proofs.Legality.{covered}
+use Rattle.call_history.proofs.Names.{bytes_eq_self}
+use Rattle.call_history.proofs.Telling.{refused_tells}
 use Rattle.history_view.specs.Views.{view_of, held_amount, views_moved, views_paid, followed}
 use Rattle.history_view.specs.Room.{is_short, turns_short, CanFollow}
 use Rattle.history_view.specs.Standing.{IsChainOf, KnowsChannel, StandsFor, UnseenStands, FollowingKeepsStanding}

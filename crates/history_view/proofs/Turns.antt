@@ -2,16 +2,16 @@
 use Rattle.std.proofs.Common.{◌≡◌, ℕ, List, ◌∷◌, Bool, true, false, cond, ◌&&◌, Some, None, refl, sym, ◌∙◌, ap}
 use Rattle.std.specs.Prelude.{Option}
 use Rattle.std.specs.Str.{bytes_eq}
-use Rattle.nitro_bytes.specs.Parts.{FixedParts}
-use Rattle.channel_model.specs.Rules.{Rules}
-use Rattle.channel_calls.specs.Rows.{fixed_of, turned}
-use Rattle.channel_calls.specs.Told.{told_row}
-use Rattle.channel_calls.specs.History.{is_accepted, is_named, turning, now_of, row, reply_to, settles, settled}
-use Rattle.channel_calls.specs.declared.entry.Entry.{Entry}
-use Rattle.channel_calls.specs.declared.row.Row.{Row}
-use Rattle.channel_calls.specs.declared.view.ChannelView.{ChannelView}
-use Rattle.channel_calls.proofs.Names.{same_bytes}
-use Rattle.channel_calls.proofs.Telling.{reply_tells, row_told, refused_tells}
+use Rattle.channel_values.specs.Parts.{FixedParts}
+use Rattle.channel_values.specs.Rules.{Rules}
+use Rattle.call_history.specs.Rows.{fixed_of, turned}
+use Rattle.call_history.specs.Told.{told_row}
+use Rattle.call_history.specs.History.{is_accepted, is_named, turning, now_of, row, reply_to, settles, settled}
+use Rattle.call_history.specs.declared.entry.Entry.{Entry}
+use Rattle.call_history.specs.declared.row.Row.{Row}
+use Rattle.call_history.specs.declared.view.ChannelView.{ChannelView}
+use Rattle.call_history.proofs.Names.{same_bytes}
+use Rattle.call_history.proofs.Telling.{reply_tells, row_told, refused_tells}
 use Rattle.history_view.specs.Views.{view_of, channel_turned, views_turned}
 use Rattle.history_view.proofs.Accepting.{and_false}
 use Rattle.history_view.proofs.Viewing.{view_with}

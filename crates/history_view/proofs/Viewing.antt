@@ -3,16 +3,16 @@ use Rattle.std.proofs.Common.{◌≡◌, ℕ, ◌+◌, ◌-◌, List, [], ◌∷
 use Rattle.std.proofs.lemmas.Bool.{eqb-true, eq-eqb}
 use Rattle.std.specs.Prelude.{◌==◌, Option}
 use Rattle.std.specs.Str.{bytes_eq}
-use Rattle.nitro_bytes.specs.Parts.{FixedParts}
-use Rattle.nitro_bytes.specs.declared.value.AssetOutcome.{AssetOutcome}
-use Rattle.nitro_bytes.specs.declared.value.Dest.{Dest}
-use Rattle.nitro_bytes.specs.declared.value.Dest.TheVariants.{Person, Channel}
-use Rattle.channel_calls.specs.declared.call.Op.{Op}
-use Rattle.channel_calls.specs.declared.funds.Flow.{Flow}
-use Rattle.channel_calls.specs.declared.funds.Payment.{Payment}
-use Rattle.channel_calls.specs.declared.view.ChannelView.{ChannelView}
-use Rattle.channel_calls.proofs.Names.{same_bytes, bytes_eq_self}
-use Rattle.channel_calls.proofs.Tabled.{found_same, found_other}
+use Rattle.channel_values.specs.Parts.{FixedParts}
+use Rattle.channel_values.specs.declared.value.AssetOutcome.{AssetOutcome}
+use Rattle.channel_values.specs.declared.value.Dest.{Dest}
+use Rattle.channel_values.specs.declared.value.Dest.TheVariants.{Person, Channel}
+use Rattle.call_history.specs.declared.call.Op.{Op}
+use Rattle.call_history.specs.declared.funds.Flow.{Flow}
+use Rattle.call_history.specs.declared.funds.Payment.{Payment}
+use Rattle.call_history.specs.declared.view.ChannelView.{ChannelView}
+use Rattle.call_history.proofs.Names.{same_bytes, bytes_eq_self}
+use Rattle.call_history.proofs.Tabled.{found_same, found_other}
 use Rattle.history_view.specs.Views.{unknown, is_of, view_of, views_with, is_in, held_amount, held_with, is_paid, paid_amount, paid_with, channel_turned, views_turned, channel_gave, channel_got, views_gave, views_got, views_moved, channel_paid, views_paid}
 use Rattle.history_view.proofs.Accepting.{and_both}
 

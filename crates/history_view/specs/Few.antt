@@ -1,7 +1,7 @@
 -- A channel of few people.
 use Rattle.std.specs.Prelude.{◌≤◌, Option, Some, None}
-use Rattle.nitro_bytes.specs.Parts.{FixedParts}
-use Rattle.channel_model.specs.Rules.{people}
+use Rattle.channel_values.specs.Parts.{FixedParts}
+use Rattle.channel_values.specs.Rules.{people}
 
 -- the op is of no row, or of a channel of at most four people, as all values are
 abbrev pub OfFew : Option FixedParts → Type 0

@@ -1,19 +1,19 @@
 -- Views that have room.
 use Rattle.std.specs.Prelude.{◌≡◌, ℕ, ◌+◌, ◌<◌, ◌^◌, Bool, true, nat_le, List, [], ◌∷◌, length, Option, Some, None}
-use Rattle.nitro_bytes.specs.Parts.{FixedParts}
-use Rattle.nitro_bytes.specs.declared.chain.Chain.{Chain}
-use Rattle.nitro_bytes.specs.declared.value.Dest.{Dest}
-use Rattle.nitro_bytes.specs.declared.value.Dest.TheVariants.{Person, Channel}
-use Rattle.channel_calls.specs.Rows.{fixed_of}
-use Rattle.channel_calls.specs.Told.{told_row}
-use Rattle.channel_calls.specs.History.{flow_of}
-use Rattle.channel_calls.specs.declared.call.Call.TheVariants.{Respond}
-use Rattle.channel_calls.specs.declared.call.Op.{Op}
-use Rattle.channel_calls.specs.declared.call.Op.TheVariants as ops
-use Rattle.channel_calls.specs.declared.entry.Entry.{Entry}
-use Rattle.channel_calls.specs.declared.funds.Flow.{Flow}
-use Rattle.channel_calls.specs.declared.view.ChannelView.{ChannelView}
-use Rattle.channel_calls.specs.declared.view.WorldView.{WorldView}
+use Rattle.channel_values.specs.Parts.{FixedParts}
+use Rattle.channel_values.specs.declared.chain.Chain.{Chain}
+use Rattle.channel_values.specs.declared.value.Dest.{Dest}
+use Rattle.channel_values.specs.declared.value.Dest.TheVariants.{Person, Channel}
+use Rattle.call_history.specs.Rows.{fixed_of}
+use Rattle.call_history.specs.Told.{told_row}
+use Rattle.call_history.specs.History.{flow_of}
+use Rattle.call_history.specs.declared.call.Call.TheVariants.{Respond}
+use Rattle.call_history.specs.declared.call.Op.{Op}
+use Rattle.call_history.specs.declared.call.Op.TheVariants as ops
+use Rattle.call_history.specs.declared.entry.Entry.{Entry}
+use Rattle.call_history.specs.declared.funds.Flow.{Flow}
+use Rattle.call_history.specs.declared.view.ChannelView.{ChannelView}
+use Rattle.call_history.specs.declared.view.WorldView.{WorldView}
 use Rattle.history_view.specs.Views.{view_of, held_amount, paid_amount, views_gave}
 
 -- what a channel or a person gets, added to what it has, stays below 2^64

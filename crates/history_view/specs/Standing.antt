@@ -2,16 +2,16 @@
 -- says.
 use Rattle.std.specs.Prelude.{◌≡◌, ℕ, ◌≤◌, List, [], ◌∷◌, length, nat_lt, Option, Some, None, if◌then◌else◌}
 use Rattle.std.specs.Option.{option_map}
-use Rattle.nitro_bytes.specs.declared.chain.Chain.{Chain}
-use Rattle.deadline_clock.specs.declared.standing.Standing.TheVariants.{Challenged}
-use Rattle.channel_model.specs.Rules.{Rules, top_turn}
-use Rattle.channel_calls.specs.Marked.{Marked, marked_of}
-use Rattle.channel_calls.specs.Rows.{fixed_of}
-use Rattle.channel_calls.specs.Shown.{challenged, shown}
-use Rattle.channel_calls.specs.History.{Legal, now_of, row, mode, settled, held_of, paid_to, rest_of_channel}
-use Rattle.channel_calls.specs.declared.entry.Entry.{Entry}
-use Rattle.channel_calls.specs.declared.view.ChannelView.{ChannelView}
-use Rattle.channel_calls.specs.declared.view.WorldView.{WorldView}
+use Rattle.channel_values.specs.declared.chain.Chain.{Chain}
+use Rattle.call_history.specs.declared.standing.Standing.TheVariants.{Challenged}
+use Rattle.channel_values.specs.Rules.{Rules, top_turn}
+use Rattle.call_history.specs.Marked.{Marked, marked_of}
+use Rattle.call_history.specs.Rows.{fixed_of}
+use Rattle.call_history.specs.Shown.{challenged, shown}
+use Rattle.call_history.specs.History.{Legal, now_of, row, mode, settled, held_of, paid_to, rest_of_channel}
+use Rattle.call_history.specs.declared.entry.Entry.{Entry}
+use Rattle.call_history.specs.declared.view.ChannelView.{ChannelView}
+use Rattle.call_history.specs.declared.view.WorldView.{WorldView}
 use Rattle.history_view.specs.Views.{view_of, held_amount, paid_amount, followed, unseen}
 use Rattle.history_view.specs.Room.{CanFollow}
 use Rattle.history_view.specs.Few.{OfFew}

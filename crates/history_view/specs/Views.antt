@@ -2,26 +2,26 @@
 use Rattle.std.specs.Prelude.{ℕ, ◌+◌, ◌-◌, ◌==◌, Bool, ◌&&◌, nat_lt, List, [], ◌∷◌, Option, Some, None, if◌then◌else◌}
 use Rattle.std.specs.Option.{option_map}
 use Rattle.std.specs.Str.{bytes_eq}
-use Rattle.nitro_bytes.specs.Parts.{FixedParts}
-use Rattle.nitro_bytes.specs.declared.chain.Chain.{Chain}
-use Rattle.nitro_bytes.specs.declared.chain.Signed.{Signed}
-use Rattle.nitro_bytes.specs.declared.value.Dest.{Dest}
-use Rattle.nitro_bytes.specs.declared.value.Dest.TheVariants.{Person, Channel}
-use Rattle.channel_model.specs.Rules.{top_turn}
-use Rattle.channel_calls.specs.Marked.{marked_of, chain_of, answered}
-use Rattle.channel_calls.specs.Rest.{lower_outcome}
-use Rattle.channel_calls.specs.Rows.{fixed_of}
-use Rattle.channel_calls.specs.Tables.{found, changed}
-use Rattle.channel_calls.specs.Told.{told_row}
-use Rattle.channel_calls.specs.History.{or_before, time_set, settles, flow_of, payment_of}
-use Rattle.channel_calls.specs.declared.call.Call.TheVariants.{Challenge, Respond, Checkpoint, Conclude}
-use Rattle.channel_calls.specs.declared.call.Op.{Op}
-use Rattle.channel_calls.specs.declared.call.Op.TheVariants as ops
-use Rattle.channel_calls.specs.declared.entry.Entry.{Entry}
-use Rattle.channel_calls.specs.declared.funds.Flow.{Flow}
-use Rattle.channel_calls.specs.declared.funds.Payment.{Payment}
-use Rattle.channel_calls.specs.declared.view.ChannelView.{ChannelView}
-use Rattle.channel_calls.specs.declared.view.WorldView.{WorldView}
+use Rattle.channel_values.specs.Parts.{FixedParts}
+use Rattle.channel_values.specs.declared.chain.Chain.{Chain}
+use Rattle.channel_values.specs.declared.chain.Signed.{Signed}
+use Rattle.channel_values.specs.declared.value.Dest.{Dest}
+use Rattle.channel_values.specs.declared.value.Dest.TheVariants.{Person, Channel}
+use Rattle.channel_values.specs.Rules.{top_turn}
+use Rattle.call_history.specs.Marked.{marked_of, chain_of, answered}
+use Rattle.call_history.specs.Rest.{lower_outcome}
+use Rattle.call_history.specs.Rows.{fixed_of}
+use Rattle.call_history.specs.Tables.{found, changed}
+use Rattle.call_history.specs.Told.{told_row}
+use Rattle.call_history.specs.History.{or_before, time_set, settles, flow_of, payment_of}
+use Rattle.call_history.specs.declared.call.Call.TheVariants.{Challenge, Respond, Checkpoint, Conclude}
+use Rattle.call_history.specs.declared.call.Op.{Op}
+use Rattle.call_history.specs.declared.call.Op.TheVariants as ops
+use Rattle.call_history.specs.declared.entry.Entry.{Entry}
+use Rattle.call_history.specs.declared.funds.Flow.{Flow}
+use Rattle.call_history.specs.declared.funds.Payment.{Payment}
+use Rattle.call_history.specs.declared.view.ChannelView.{ChannelView}
+use Rattle.call_history.specs.declared.view.WorldView.{WorldView}
 
 -- ---- what is known of a channel, what it holds of an asset, and what a person was paid
 

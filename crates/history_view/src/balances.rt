@@ -5,7 +5,7 @@ ghost use Rattle.std.specs.List.{position_or_len};
 ghost use Rattle.std.specs.Str.{bytes_eq};
 ghost use Rattle.history_view.specs.Views.{is_in, held_amount, held_with, is_paid, paid_amount, paid_with};
 
-use nitro_bytes::{Listed, Name, NoMemory};
+use channel_values::{Listed, Name, NoMemory};
 
 fn is_in(balance: &(u32, u64), asset: u32) -> bool
     ensures { result ≡ is_in asset balance.now }

@@ -3,11 +3,11 @@
 ghost use Rattle.std.specs.Prelude.{◌≡◌, ◌≤◌, ◌<◌, length, slice_set, slice_index_or, IfOk};
 ghost use Rattle.std.specs.List.{position_or_len};
 ghost use Rattle.std.specs.Str.{bytes_eq};
-ghost use Rattle.channel_calls.specs.declared.view.ChannelView.{ChannelView as AView};
+ghost use Rattle.call_history.specs.declared.view.ChannelView.{ChannelView as AView};
 ghost use Rattle.history_view.specs.Views.{unknown, is_of, view_of, views_with};
 
-use channel_calls::ChannelView;
-use nitro_bytes::{Listed, Name, NoMemory};
+use call_history::ChannelView;
+use channel_values::{Listed, Name, NoMemory};
 use std::alloc::Global;
 
 fn unknown(alloc: Global, channel: &Name) -> ChannelView

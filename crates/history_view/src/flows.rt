@@ -6,8 +6,8 @@ ghost use Rattle.history_view.specs.Room.{HasRoom};
 
 use crate::balances::{lower_held, raise_held, raise_paid};
 use crate::channels::place_for;
-use channel_calls::{ChannelView, Flow};
-use nitro_bytes::{Dest, Listed, Name, NoMemory};
+use call_history::{ChannelView, Flow};
+use channel_values::{Dest, Listed, Name, NoMemory};
 
 fn lower_view(view: &mut ChannelView, asset: u32, amount: u64) -> Result<(), NoMemory>
     ensures { OnOk result (view.new ≡ channel_gave asset amount view.old) }

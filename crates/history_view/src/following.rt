@@ -1,12 +1,12 @@
 //! What one more entry makes of a view.
 
 ghost use Rattle.std.specs.Prelude.{◌≡◌, List, [], ◌∷◌, true, OnOk};
-ghost use Rattle.channel_model.specs.Rules.{Rules};
-ghost use Rattle.channel_calls.specs.History.{flow_of, payment_of, Legal};
-ghost use Rattle.channel_calls.specs.Rows.{fixed_of};
-ghost use Rattle.channel_calls.specs.Told.{told_row};
-ghost use Rattle.channel_calls.specs.declared.entry.Entry.{Entry as AnEntry};
-ghost use Rattle.channel_calls.specs.Naming.{name_of, NamesChannels};
+ghost use Rattle.channel_values.specs.Rules.{Rules};
+ghost use Rattle.call_history.specs.History.{flow_of, payment_of, Legal};
+ghost use Rattle.call_history.specs.Rows.{fixed_of};
+ghost use Rattle.call_history.specs.Told.{told_row};
+ghost use Rattle.call_history.specs.declared.entry.Entry.{Entry as AnEntry};
+ghost use Rattle.call_history.specs.Naming.{name_of, NamesChannels};
 ghost use Rattle.history_view.specs.Standing.{StandsFor};
 ghost use Rattle.history_view.specs.Few.{OfFew};
 ghost use Rattle.history_view.specs.Views.{views_turned, views_moved, views_paid, paid_moved, followed, unseen};
@@ -15,8 +15,8 @@ ghost use Rattle.history_view.specs.Room.{HaveRoom, turns_short, CanFollow};
 use crate::flows::move_funds;
 use crate::payments::{pay_item, payment_of};
 use crate::turning::turn_channel;
-use channel_calls::{ChannelView, Entry, Op, WorldView, fixed_of, flow_of, time_set};
-use nitro_bytes::{Listed, Name, NoMemory};
+use call_history::{ChannelView, Entry, Op, WorldView, fixed_of, flow_of, time_set};
+use channel_values::{Listed, Name, NoMemory};
 use std::alloc::Global;
 use std::mem;
 

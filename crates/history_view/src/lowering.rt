@@ -1,10 +1,10 @@
 //! Outcomes of which one item is lowered.
 
 ghost use Rattle.std.specs.Prelude.{◌≡◌, ◌∷◌, [], IfOk};
-ghost use Rattle.nitro_bytes.specs.Outcomes.{IsOutcome};
-ghost use Rattle.channel_calls.specs.Rest.{lower_at, lower_shape, lower_outcome};
+ghost use Rattle.channel_values.specs.Outcomes.{IsOutcome};
+ghost use Rattle.call_history.specs.Rest.{lower_at, lower_shape, lower_outcome};
 
-use nitro_bytes::{AssetOutcome, ByteFault, Item, Listed, NoMemory, Outcome, Shape};
+use channel_values::{AssetOutcome, ByteFault, Item, Listed, NoMemory, Outcome, Shape};
 use std::alloc::Global;
 
 /// The outcome of these assets, which are one's.

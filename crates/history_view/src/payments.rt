@@ -3,15 +3,15 @@
 ghost use Rattle.std.specs.Prelude.{◌≡◌, ◌≤◌, Some, OnOk};
 ghost use Rattle.std.specs.List.{AllByRecursion};
 ghost use Rattle.std.specs.Option.{option_to_list};
-ghost use Rattle.nitro_bytes.specs.Outcomes.{IsShape, IsAssetOutcome};
-ghost use Rattle.channel_calls.specs.Dues.{shape_in};
-ghost use Rattle.channel_calls.specs.History.{listed_dest, place_in, payment_of};
+ghost use Rattle.channel_values.specs.Outcomes.{IsShape, IsAssetOutcome};
+ghost use Rattle.call_history.specs.Dues.{shape_in};
+ghost use Rattle.call_history.specs.History.{listed_dest, place_in, payment_of};
 ghost use Rattle.history_view.specs.Views.{channel_paid, views_with};
 
 use crate::channels::place_for;
 use crate::lowering::lowered_outcome;
-use channel_calls::{Call, ChannelView, Op, Payment, Reply, listed_dest, place_of, shape_in};
-use nitro_bytes::{AssetOutcome, Dest, NoMemory, Outcome, Shape};
+use call_history::{Call, ChannelView, Op, Payment, Reply, listed_dest, place_of, shape_in};
+use channel_values::{AssetOutcome, Dest, NoMemory, Outcome, Shape};
 
 /// The place of a destination's item in a shape.
 fn place_within(shape: &Shape, to: &Dest) -> usize

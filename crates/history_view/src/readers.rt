@@ -7,8 +7,8 @@ ghost use Rattle.history_view.specs.Views.{unknown, is_of, view_of, held_amount,
 
 use crate::balances::{amount_held, amount_paid};
 use crate::channels::place_of;
-use channel_calls::{ChannelView, WorldView};
-use nitro_bytes::Name;
+use call_history::{ChannelView, WorldView};
+use channel_values::Name;
 
 /// What is known of the channel, if anything is.
 #[tactic(auto, using(crate::proofs::Known::find_there, crate::proofs::Known::find_past, crate::proofs::Known::view_there, crate::proofs::Known::view_past))]

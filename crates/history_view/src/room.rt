@@ -1,19 +1,18 @@
 //! Whether a view can follow an entry.
 
 ghost use Rattle.std.specs.Prelude.{◌≡◌, ◌↔◌, IsTrue};
-ghost use Rattle.channel_calls.specs.Flows.{comes_from};
+ghost use Rattle.call_history.specs.Flows.{comes_from};
 ghost use Rattle.std.specs.Option.{option_map};
-ghost use Rattle.channel_calls.specs.History.{flow_of};
-ghost use Rattle.channel_calls.specs.Naming.{name_of};
-ghost use Rattle.channel_calls.specs.Rows.{fixed_of};
-ghost use Rattle.channel_calls.specs.Told.{told_row};
+ghost use Rattle.call_history.specs.History.{flow_of};
+ghost use Rattle.call_history.specs.Naming.{name_of};
+ghost use Rattle.call_history.specs.Rows.{fixed_of};
+ghost use Rattle.call_history.specs.Told.{told_row};
 ghost use Rattle.history_view.specs.Views.{view_of, views_gave, held_amount};
 ghost use Rattle.history_view.specs.Room.{HasRoom, HaveRoom, is_short, turns_short, CanFollow};
 
 use crate::readers::{held_amount, paid_amount, view_of};
-use channel_calls::{Call, Entry, Flow, Op, WorldView, fixed_of, flow_of, told_row};
-use channel_name::channel_name;
-use nitro_bytes::{Chain, Dest, Name};
+use call_history::{Call, Entry, Flow, Op, WorldView, fixed_of, flow_of, told_row};
+use channel_values::{Chain, Dest, Name, channel_name};
 
 fn is_source(from: Option<Name>, channel: &Name) -> bool
     ensures { result ≡ comes_from channel.now from }

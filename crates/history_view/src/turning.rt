@@ -1,19 +1,18 @@
 //! What a turning call makes of what is known of its channel.
 
 ghost use Rattle.std.specs.Prelude.{◌≡◌, true, IfOk, OnOk};
-ghost use Rattle.channel_model.specs.Rules.{top_outcome};
-ghost use Rattle.channel_calls.specs.History.{settles};
-ghost use Rattle.channel_calls.specs.Rows.{fixed_of};
-ghost use Rattle.channel_calls.specs.Told.{told_row};
-ghost use Rattle.channel_calls.specs.Naming.{name_of};
+ghost use Rattle.channel_values.specs.Rules.{top_outcome};
+ghost use Rattle.call_history.specs.History.{settles};
+ghost use Rattle.call_history.specs.Rows.{fixed_of};
+ghost use Rattle.call_history.specs.Told.{told_row};
+ghost use Rattle.call_history.specs.Naming.{name_of};
 ghost use Rattle.history_view.specs.Views.{newer_shown, shown_after, channel_turned, views_turned};
 ghost use Rattle.history_view.specs.Room.{is_short, turns_short};
 
 use crate::channels::place_for;
 use crate::lowering::outcome_of;
-use channel_calls::{Call, ChannelView, Entry, Op, answered, fixed_of, newest, told_row, top_turn};
-use channel_name::channel_name;
-use nitro_bytes::{Chain, NoMemory, Outcome};
+use call_history::{Call, ChannelView, Entry, Op, answered, fixed_of, newest, told_row, top_turn};
+use channel_values::{Chain, NoMemory, Outcome, channel_name};
 use std::alloc::Global;
 
 /// The newer chain, at equal turns the later one.

@@ -4,7 +4,7 @@ use Rattle.std.specs.Prelude.{IfSome}
 use Rattle.hop_cli.specs.Hopping.{EndsAs, IsToldOf, asked, hop_text, status_of, wanted}
 use Rattle.hop_script.specs.Hop.{are_apart, hop_steps}
 use Rattle.hop_script.specs.declared.ending.Ending.{Ending}
-use Rattle.net_party.specs.Ways.{Ways}
+use Rattle.network.specs.Ways.{Ways}
 use Rattle.play_report.specs.Reported.{IsPlayed}
 use Rattle.report_text.specs.declared.report.Report.{Report}
 use Rattle.script_run.specs.declared.run.Status.{Status}

@@ -5,7 +5,7 @@ use Rattle.std.specs.Str.{bytes_eq}
 use Rattle.hop_script.specs.Hop.{are_apart, hop_steps}
 use Rattle.hop_script.specs.declared.ending.Ending.{Ending}
 use Rattle.hop_script.specs.declared.ending.Ending.TheVariants.{Close, Exit}
-use Rattle.net_party.specs.Ways.{Ways}
+use Rattle.network.specs.Ways.{Ways}
 use Rattle.play_report.specs.Reported.{IsPlayed}
 use Rattle.report_text.specs.Report.{tail_of}
 use Rattle.report_text.specs.Text.{◌&◌, ended}

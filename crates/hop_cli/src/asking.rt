@@ -3,8 +3,8 @@
 ghost use Rattle.std.specs.Prelude.{◌≡◌, ◌≤◌, IfSome};
 ghost use Rattle.hop_cli.specs.Hopping.{asked, digit_of, ending_of, number_of};
 
+use channel_values::Label;
 use hop_script::Ending;
-use nitro_bytes::Label;
 
 /// The value of a digit.
 fn digit_of(byte: u8) -> Option<u32>

@@ -2,20 +2,20 @@
 
 ghost use Rattle.std.specs.Prelude.{◌≡◌, ◌≢◌, ◌≤◌, ◌⊎◌, ℕ, List, Some, None, IfOk, IfSome, IsNone, string_bytes};
 ghost use Rattle.std.specs.Io.KnownBytes.{Keeps, Appends};
-ghost use Rattle.byte_sink.specs.Outside.{AppendsPart};
-ghost use Rattle.byte_source.specs.Outside.{Rose};
-ghost use Rattle.channel_calls.specs.Flows.{AreConserved};
-ghost use Rattle.channel_calls.specs.History.{Legal, newest_first, flows_of};
-ghost use Rattle.node_way_laws.specs.Ways.{ways};
-ghost use Rattle.support_chain.specs.Real.{real};
+ghost use Rattle.byte_streams.specs.OutsideSink.{AppendsPart};
+ghost use Rattle.byte_streams.specs.OutsideSource.{Rose};
+ghost use Rattle.call_history.specs.Flows.{AreConserved};
+ghost use Rattle.call_history.specs.History.{Legal, newest_first, flows_of};
+ghost use Rattle.node_guarantees.specs.Ways.{ways};
+ghost use Rattle.support_rules.specs.Real.{real};
 ghost use Rattle.hop_cli.specs.Hopping.{EndsAs, IsToldOf, asked, head_line, hop_text, status_of, wanted, word_of};
 ghost use Rattle.script_run.specs.declared.run.Status.{Status};
 
 use crate::asking::asked;
-use byte_sink::{Sink, put_all};
+use byte_streams::{Sink, put_all};
+use channel_values::{Label, NoMemory};
 use hop_script::{Ending, HopFault, hop_script};
-use net_node::Node;
-use nitro_bytes::{Label, NoMemory};
+use network_node::Node;
 use play_report::report_play;
 use report_text::{Report, tail_of};
 use script_run::{Records, Status};

@@ -5,9 +5,9 @@
 mod asking;
 mod hop;
 
-use byte_sink::StdSink;
+use byte_streams::StdSink;
+use channel_values::{Label, NoMemory};
 use hop::run_hop;
-use nitro_bytes::{Label, NoMemory};
 use std::process::ExitCode;
 use std::rt::Env;
 use std::{env, io};

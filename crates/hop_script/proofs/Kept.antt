@@ -5,7 +5,7 @@ use Rattle.std.specs.List.{fold}
 use Rattle.std.proofs.lemmas.Bool.{le-leb}
 use Rattle.std.proofs.lemmas.List.Elements.{filter_map-append}
 use Rattle.std.proofs.lemmas.List.Sums.{fold-append}
-use Rattle.load_script.proofs.Kept.{IsKept, checked_append}
+use Rattle.load.proofs.Kept.{IsKept, checked_append}
 use Rattle.script_reader.proofs.Bounds as bounds
 use Rattle.script_reader.proofs.Bounds.{all_fit, few_people}
 use Rattle.script_reader.specs.Bounds.{signers_of}
@@ -15,7 +15,7 @@ use Rattle.script_reader.specs.Script.{start, AreChecked}
 use Rattle.script_reader.specs.context.Context.{Context}
 use Rattle.script_reader.specs.step.Step.{Step}
 use Rattle.script_reader.specs.step.Step.TheVariants as steps
-use Rattle.sign_index.specs.Signing.{Signing}
+use Rattle.lms_signatures.specs.Signing.{Signing}
 use Rattle.hop_script.specs.Hop.{AreApart, AreFit, channels, declared, ending_steps, exchange, hop_steps, known, known_people, openings, payments, people}
 use Rattle.hop_script.specs.declared.ending.Ending.{Ending}
 use Rattle.hop_script.specs.declared.ending.Ending.TheVariants.{Close, Exit}

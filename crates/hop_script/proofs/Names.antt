@@ -2,14 +2,14 @@
 use Rattle.std.proofs.Common.{◌≡◌, ◌≤◌, ℕ, List, [], ◌∷◌, Bool, true, false, not, ap, sym, refl, ◌∙◌, arith, codes, subst}
 use Rattle.std.specs.Prelude.{◌&&◌, ◌||◌, is_ok, replicate, Result}
 use Rattle.std.specs.Str.{bytes_eq}
-use Rattle.channel_name.specs.Digests.{name_of_person}
-use Rattle.load_script.proofs.Kept.{two_keys}
-use Rattle.nitro_bytes.proofs.Format.{valid_again}
-use Rattle.nitro_bytes.proofs.Formats.{fixed_format}
-use Rattle.nitro_bytes.specs.Parts.{FixedParts, IsKey, fixed_with}
-use Rattle.nitro_bytes.specs.Reading.{fixed_of}
-use Rattle.nitro_bytes.specs.Spelling.{fixed}
-use Rattle.nitro_bytes.specs.declared.fault.ByteFault.{ByteFault}
+use Rattle.channel_values.specs.Digests.{name_of_person}
+use Rattle.load.proofs.Kept.{two_keys}
+use Rattle.channel_values.proofs.Format.{valid_again}
+use Rattle.channel_values.proofs.Formats.{fixed_format}
+use Rattle.channel_values.specs.Parts.{FixedParts, IsKey, fixed_with}
+use Rattle.channel_values.specs.Reading.{fixed_of}
+use Rattle.channel_values.specs.Spelling.{fixed}
+use Rattle.channel_values.specs.declared.fault.ByteFault.{ByteFault}
 use Rattle.script_reader.specs.Context.{repeats}
 use Rattle.script_reader.specs.Digests.{key_of}
 use Rattle.script_reader.specs.Script.{start}

@@ -3,12 +3,12 @@
 use Rattle.std.specs.Prelude.{◌≡◌, ◌&&◌, ℕ, zero, suc, List, [], ◌∷◌, ◌++◌, map, replicate, Bool, true, false, not, ⊤, Ok, codes}
 use Rattle.std.specs.List.{fold}
 use Rattle.std.specs.Str.{bytes_eq}
-use Rattle.net_party.specs.declared.command.Route.TheVariants.{Ledger, Onward}
-use Rattle.nitro_bytes.specs.Parts.{IsKey}
-use Rattle.nitro_bytes.specs.declared.value.AssetOutcome.{AssetOutcome}
-use Rattle.nitro_bytes.specs.declared.value.Dest.TheVariants.{Person as ToPerson}
-use Rattle.nitro_bytes.specs.declared.value.Item.{Item}
-use Rattle.nitro_bytes.specs.declared.value.Shape.TheVariants.{Allocation}
+use Rattle.network.specs.declared.command.Route.TheVariants.{Ledger, Onward}
+use Rattle.channel_values.specs.Parts.{IsKey}
+use Rattle.channel_values.specs.declared.value.AssetOutcome.{AssetOutcome}
+use Rattle.channel_values.specs.declared.value.Dest.TheVariants.{Person as ToPerson}
+use Rattle.channel_values.specs.declared.value.Item.{Item}
+use Rattle.channel_values.specs.declared.value.Shape.TheVariants.{Allocation}
 use Rattle.script_reader.specs.Conditions.{after, distinct, fits}
 use Rattle.script_reader.specs.Context.{repeats}
 use Rattle.script_reader.specs.Digests.{key_of}

@@ -4,7 +4,7 @@ ghost use Rattle.std.specs.Prelude.{◌≡◌, ◌++◌, IfOk, OnOk};
 ghost use Rattle.hop_script.specs.Hop.{channel, channels, declared, ledgers, onward, people, person, virtual_ledger};
 
 use crate::parts::{label, three, two};
-use nitro_bytes::{Label, Listed, NoMemory};
+use channel_values::{Label, Listed, NoMemory};
 use script_reader::Step;
 use std::alloc::Global;
 

@@ -2,7 +2,7 @@
 
 ghost use Rattle.std.specs.Prelude.{◌≡◌, ◌++◌, replicate, Err, IfOk, OnOk, true, false};
 ghost use Rattle.std.specs.List.{fold};
-ghost use Rattle.nitro_bytes.specs.Parts.{IsKey};
+ghost use Rattle.channel_values.specs.Parts.{IsKey};
 ghost use Rattle.script_reader.specs.Bounds.{signers_of};
 ghost use Rattle.script_reader.specs.Conditions.{after};
 ghost use Rattle.script_reader.specs.Digests.{fresh, key_of};
@@ -12,9 +12,9 @@ ghost use Rattle.hop_script.specs.declared.fault.HopFault.TheVariants as faults;
 
 use crate::declaring::{channels, people};
 use crate::fault::HopFault;
+use lms_signatures::Signer;
 use script_reader::{Context, Step, start};
-use script_rules::enter;
-use sign_index::Signer;
+use script_steps::enter;
 use std::alloc::Global;
 
 /// What is declared, and the signers of the people.
@@ -47,7 +47,7 @@ fn enter_all(
 }
 
 /// The key of a person is one of the format.
-#[tactic(auto, unfolding(script_rules::specs::Digests::key_of))]
+#[tactic(auto, unfolding(script_steps::specs::Digests::key_of))]
 fn has_key(signer: &Signer, letter: u8)
     requires { signer.now ≡ fresh (replicate 32 letter) 10 }
     ensures { IsKey (key_of (replicate 32 letter) 10) }

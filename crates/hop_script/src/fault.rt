@@ -3,8 +3,8 @@
 ghost use Rattle.std.specs.Prelude.{◌≡◌};
 ghost use Rattle.hop_script.specs.declared.fault.HopFault.TheVariants as faults;
 
-use nitro_bytes::NoMemory;
-use script_rules::StepFault;
+use channel_values::NoMemory;
+use script_steps::StepFault;
 use std::alloc::{AllocError, AllocFailed};
 use std::error::Error;
 use std::fmt;

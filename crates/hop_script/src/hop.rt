@@ -12,9 +12,9 @@ use crate::entering::entered;
 use crate::fault::HopFault;
 use crate::opening::push_openings;
 use crate::paying::{push_ending, push_payments};
+use lms_signatures::Signer;
 use script_reader::Script;
-use script_rules::STEP_LIMIT;
-use sign_index::Signer;
+use script_steps::STEP_LIMIT;
 use std::alloc::Global;
 
 /// The script of a hop with `count` payments, and the signers of its four people, none of which has signed. Its steps keep

@@ -5,8 +5,8 @@ ghost use Rattle.std.specs.Str.{bytes_eq};
 ghost use Rattle.hop_script.specs.Hop.{are_apart, declared_people, opened, opened_ledgers, opened_onward, opened_virtual, opened_virtuals, openings, settled, side, sides};
 
 use crate::parts::{label, push_settled, three, two};
-use net_party::Route;
-use nitro_bytes::{AssetOutcome, ByteFault, Dest, Item, Listed, Name, NoMemory, Outcome, Shape};
+use channel_values::{AssetOutcome, ByteFault, Dest, Item, Listed, Name, NoMemory, Outcome, Shape};
+use network::Route;
 use script_reader::{Person, Step};
 use std::alloc::Global;
 

@@ -3,7 +3,7 @@
 ghost use Rattle.std.specs.Prelude.{◌≡◌, ◌∷◌, ◌++◌, [], IfOk, OnOk};
 ghost use Rattle.hop_script.specs.Hop.{settled};
 
-use nitro_bytes::{Label, Listed, NoMemory};
+use channel_values::{Label, Listed, NoMemory};
 use script_reader::Step;
 use std::alloc::Global;
 

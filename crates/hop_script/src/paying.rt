@@ -6,7 +6,7 @@ ghost use Rattle.script_reader.specs.step.Step.TheVariants as steps;
 
 use crate::ending::Ending;
 use crate::parts::{label, push_settled, three, two};
-use nitro_bytes::{Label, Listed, NoMemory};
+use channel_values::{Label, Listed, NoMemory};
 use script_reader::Step;
 use std::alloc::Global;
 

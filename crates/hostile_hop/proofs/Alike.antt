@@ -4,10 +4,10 @@ use Rattle.std.specs.Prelude.{sum_by}
 use Rattle.std.specs.List.{cons_option}
 use Rattle.std.proofs.lemmas.List.Elements.{All-nil, All-cons, All-head, All-tail}
 use Rattle.std.proofs.lemmas.List.Sums.{sum_by-cons}
-use Rattle.script_rules.specs.Bounds.{Fits, persons, rounds, persons_of, rounds_of, signers_of}
-use Rattle.script_rules.specs.Conditions.{signer_of}
-use Rattle.script_rules.specs.declared.step.Step.{Step}
-use Rattle.script_rules.specs.declared.step.Step.TheVariants as steps
+use Rattle.script_steps.specs.Bounds.{Fits, persons, rounds, persons_of, rounds_of, signers_of}
+use Rattle.script_steps.specs.Conditions.{signer_of}
+use Rattle.script_steps.specs.declared.step.Step.{Step}
+use Rattle.script_steps.specs.declared.step.Step.TheVariants as steps
 use Rattle.hostile_hop.specs.Routes.{plain, plainly}
 
 -- ---- a step

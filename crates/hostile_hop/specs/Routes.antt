@@ -1,8 +1,8 @@
 -- Steps but for the routes of their virtual channels.
 use Rattle.std.specs.Prelude.{List, map}
-use Rattle.net_party.specs.declared.command.Route.TheVariants.{Plain}
-use Rattle.script_rules.specs.declared.step.Step.{Step}
-use Rattle.script_rules.specs.declared.step.Step.TheVariants as steps
+use Rattle.network.specs.declared.command.Route.TheVariants.{Plain}
+use Rattle.script_steps.specs.declared.step.Step.{Step}
+use Rattle.script_steps.specs.declared.step.Step.TheVariants as steps
 
 -- the step with the plain route
 abbrev pub plain : Step → Step

@@ -6,9 +6,8 @@
 mod playing;
 mod routes;
 
-use byte_sink::{StdSink, put_all};
-use byte_source::{Source, StdSource};
-use nitro_bytes::{Label, NoMemory};
+use byte_streams::{Source, StdSink, StdSource, put_all};
+use channel_values::{Label, NoMemory};
 use playing::{Played, play_source, unplayed};
 use routes::routes_of;
 use script_run::Status;

@@ -1,21 +1,21 @@
 //! From routes and a source to a status and a text.
 
 ghost use Rattle.std.specs.Prelude.{◌≡◌, ◌≤◌, All, IfOk, length};
-ghost use Rattle.channel_calls.specs.History.{Legal, newest_first};
-ghost use Rattle.script_rules.specs.Bounds.{Fits, persons_of, rounds_of, signers_of};
-ghost use Rattle.support_chain.specs.Real.{real};
+ghost use Rattle.call_history.specs.History.{Legal, newest_first};
+ghost use Rattle.script_steps.specs.Bounds.{Fits, persons_of, rounds_of, signers_of};
+ghost use Rattle.support_rules.specs.Real.{real};
 
 use crate::routes::take_routes;
-use byte_source::{ReadEnd, Source, read_all};
-use net_node::Node;
-use net_party::Route;
-use nitro_bytes::NoMemory;
+use byte_streams::{ReadEnd, Source, read_all};
+use channel_values::NoMemory;
+use lms_signatures::Signer;
+use network::Route;
+use network_node::Node;
 use play_report::report_play;
 use report_text::{Report, text_of};
 use script_reader::{ScriptFault, read_script_with_signers};
-use script_rules::{STEP_LIMIT, Step};
 use script_run::{Records, Status, line_of};
-use sign_index::Signer;
+use script_steps::{STEP_LIMIT, Step};
 use std::alloc::Global;
 
 /// What the program ends with, and what it prints.

@@ -3,9 +3,9 @@
 ghost use Rattle.std.specs.Prelude.{◌≡◌};
 ghost use Rattle.hostile_hop.specs.Routes.{plain, plainly};
 
-use net_party::Route;
-use nitro_bytes::{Label, NoMemory};
-use script_rules::Step;
+use channel_values::{Label, NoMemory};
+use network::Route;
+use script_steps::Step;
 use std::alloc::Global;
 
 fn route_of(word: &str) -> Option<Route> {

@@ -1,11 +1,11 @@
 //! An actor that enters a call in vain at each act.
 
 ghost use Rattle.std.specs.Prelude.{◌≡◌, false, [], IfOk};
-ghost use Rattle.round_model.specs.Acts.{IsWithinLimits};
+ghost use Rattle.network_rounds.specs.Acts.{IsWithinLimits};
 
-use channel_calls::Call;
-use nitro_bytes::{Chain, Fixed, Listed, NoMemory};
-use round_model::{Act, Actor, Notes};
+use call_history::Call;
+use channel_values::{Chain, Fixed, Listed, NoMemory};
+use network_rounds::{Act, Actor, Notes};
 use std::alloc::Global;
 
 /// It enters at each act a checkpoint with an empty chain, of a channel of two keys that nobody uses.

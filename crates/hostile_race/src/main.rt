@@ -8,18 +8,17 @@ mod vanisher;
 
 ghost use Rattle.std.specs.Prelude.{◌≡◌, []};
 
-use byte_sink::{Sink, StdSink, put_all};
-use byte_source::{Source, StdSource};
+use byte_streams::{Sink, Source, StdSink, StdSource, put_all};
+use call_bytes::write_message;
+use call_history::{Deed, Event, NodeRefusal};
 use cast_actors::{Equivocator, Replayer};
-use channel_calls::{Deed, Event, NodeRefusal, write_message};
-use channel_name::person_name;
+use channel_values::{Label, Listed, Name, NoMemory, Outcome, Signed, State, person_name};
 use flood::Flood;
-use net_actors::{Actor, Cast, Notes};
-use nitro_bytes::{Label, Listed, Name, NoMemory, Outcome, Signed, State};
+use lms_signatures::Signer;
+use network_rounds::{Actor, Cast, Notes};
 use report_text::Report;
-use script_rules::id_of;
 use script_run::{Ended, run_words};
-use sign_index::Signer;
+use script_steps::id_of;
 use std::alloc::Global;
 use std::env;
 use std::process::ExitCode;

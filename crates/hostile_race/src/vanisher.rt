@@ -1,11 +1,11 @@
 //! An actor that begins a message and vanishes.
 
 ghost use Rattle.std.specs.Prelude.{◌≡◌, false, [], Some, None};
-ghost use Rattle.round_model.specs.Acts.{IsWithinLimits};
-ghost use Rattle.round_model.specs.declared.actor.Act.TheVariants as acts;
+ghost use Rattle.network_rounds.specs.Acts.{IsWithinLimits};
+ghost use Rattle.network_rounds.specs.declared.actor.Act.TheVariants as acts;
 
-use nitro_bytes::{Listed, Name};
-use round_model::{Act, Actor, Notes};
+use channel_values::{Listed, Name};
+use network_rounds::{Act, Actor, Notes};
 
 /// It posts the first half of a message at its first act, and is done at its second.
 #[derive(Drop)]

@@ -2,13 +2,13 @@
 use Rattle.std.proofs.Common.{◌≡◌, suc, ◌≤◌, Bool, true, false, List, [], ◌∷◌, length, Option, Some, None, Result, Ok, Err, IfOk, ap, arith}
 use Rattle.std.specs.Prelude.{if◌then◌else◌}
 use Rattle.std.specs.List.{filter_map, cons_option, AllByRecursion}
-use Rattle.nitro_bytes.specs.declared.chain.Chain.{Chain}
-use Rattle.nitro_bytes.specs.declared.value.AssetOutcome.{AssetOutcome}
-use Rattle.nitro_bytes.specs.Outcomes.{IsOutcome}
-use Rattle.deadline_clock.specs.declared.standing.Standing.{Standing}
-use Rattle.deadline_clock.specs.declared.standing.Standing.TheVariants.{Open, Challenged, Final}
-use Rattle.channel_calls.specs.declared.call.Call.{Call}
-use Rattle.stage_rules.specs.Rows.{Row, called_in}
+use Rattle.channel_values.specs.declared.chain.Chain.{Chain}
+use Rattle.channel_values.specs.declared.value.AssetOutcome.{AssetOutcome}
+use Rattle.channel_values.specs.Outcomes.{IsOutcome}
+use Rattle.call_history.specs.declared.standing.Standing.{Standing}
+use Rattle.call_history.specs.declared.standing.Standing.TheVariants.{Open, Challenged, Final}
+use Rattle.call_history.specs.declared.call.Call.{Call}
+use Rattle.funding_plans.specs.Rows.{Row, called_in}
 use Rattle.ledger_channel.specs.Roots.{Direct, is_open, deposit_in, deposits, left_of, transfer_in, transfers_of, conclude, concluding, root_rows}
 
 pub outcome_is_few : (os : List AssetOutcome) → IsOutcome os → length os ≤ 4

@@ -1,11 +1,11 @@
 -- The stages of a payment channel that a ledger funds.
 use Rattle.std.specs.Prelude.{ℕ, Bool, not, ◌&&◌, ◌||◌, List, [], ◌∷◌, Option, None, if◌then◌else◌, nat_le, nat_lt}
 use Rattle.std.specs.Str.{bytes_eq}
-use Rattle.nitro_bytes.specs.declared.value.AssetOutcome.{AssetOutcome}
-use Rattle.nitro_bytes.specs.Parts.{StateParts}
-use Rattle.stage_rules.specs.Seats.{Seat, state_is, is_state_final, holds, has_signed_past, repeats, final_state, toward, settled_on, up_in, down_in, is_down, amounts_after, takes_payment, takes_vote, is_spelled}
-use Rattle.outcome_targets.specs.declared.child.Child.{Child}
-use Rattle.stage_rules.specs.Rows.{Row, ◌⊢◌, signing, waiting, stage_in}
+use Rattle.channel_values.specs.declared.value.AssetOutcome.{AssetOutcome}
+use Rattle.channel_values.specs.Parts.{StateParts}
+use Rattle.funding_plans.specs.Seats.{Seat, state_is, is_state_final, holds, has_signed_past, repeats, final_state, toward, settled_on, up_in, down_in, is_down, amounts_after, takes_payment, takes_vote, is_spelled}
+use Rattle.funding_plans.specs.declared.child.Child.{Child}
+use Rattle.funding_plans.specs.Rows.{Row, ◌⊢◌, signing, waiting, stage_in}
 
 -- the channel, its ledger, what is set aside for it, and whether Close was commanded
 pub record Funded : Type 0 where

@@ -1,23 +1,23 @@
 -- The stages of a channel that holds its own funds.
 use Rattle.std.specs.Prelude.{ℕ, ◌+◌, ◌-◌, ◌*◌, ◌==◌, Bool, true, false, not, ◌&&◌, ◌||◌, nat_le, nat_lt, List, [], ◌∷◌, length, Option, Some, None, if◌then◌else◌, filter_map}
 use Rattle.std.specs.List.{list_all, list_any}
-use Rattle.nitro_bytes.specs.declared.value.Dest.{Dest}
-use Rattle.nitro_bytes.specs.declared.value.Dest.TheVariants.{Person}
-use Rattle.nitro_bytes.specs.declared.value.Item.{Item}
-use Rattle.nitro_bytes.specs.declared.value.AssetOutcome.{AssetOutcome}
-use Rattle.nitro_bytes.specs.declared.chain.Chain.{Chain}
-use Rattle.nitro_bytes.specs.Outcomes.{is_same, total}
-use Rattle.nitro_bytes.specs.Parts.{StateParts}
-use Rattle.channel_model.specs.Amounts.{amt, aff}
-use Rattle.channel_model.specs.Items.{place_of}
-use Rattle.deadline_clock.specs.declared.standing.Standing.{Standing}
-use Rattle.deadline_clock.specs.declared.standing.Standing.TheVariants.{Open, Challenged, Final}
-use Rattle.deadline_clock.specs.Mode.{is_final}
-use Rattle.channel_calls.specs.declared.call.Call.{Call}
-use Rattle.channel_calls.specs.declared.call.Call.TheVariants.{Deposit, Conclude, Transfer}
-use Rattle.funding_value.specs.Shapes.{items_in}
-use Rattle.stage_rules.specs.Seats.{Seat, holds, is_set_up, repeats, final_state, is_spelled, takes_payment, takes_vote}
-use Rattle.stage_rules.specs.Rows.{Row, ◌⊢◌, signing, calling, waiting}
+use Rattle.channel_values.specs.declared.value.Dest.{Dest}
+use Rattle.channel_values.specs.declared.value.Dest.TheVariants.{Person}
+use Rattle.channel_values.specs.declared.value.Item.{Item}
+use Rattle.channel_values.specs.declared.value.AssetOutcome.{AssetOutcome}
+use Rattle.channel_values.specs.declared.chain.Chain.{Chain}
+use Rattle.channel_values.specs.Outcomes.{is_same, total}
+use Rattle.channel_values.specs.Parts.{StateParts}
+use Rattle.channel_values.specs.Amounts.{amt, aff}
+use Rattle.channel_values.specs.Places.{place_of}
+use Rattle.call_history.specs.declared.standing.Standing.{Standing}
+use Rattle.call_history.specs.declared.standing.Standing.TheVariants.{Open, Challenged, Final}
+use Rattle.call_history.specs.Mode.{is_final}
+use Rattle.call_history.specs.declared.call.Call.{Call}
+use Rattle.call_history.specs.declared.call.Call.TheVariants.{Deposit, Conclude, Transfer}
+use Rattle.funding_plans.specs.Shapes.{items_in}
+use Rattle.funding_plans.specs.Seats.{Seat, holds, is_set_up, repeats, final_state, is_spelled, takes_payment, takes_vote}
+use Rattle.funding_plans.specs.Rows.{Row, ◌⊢◌, signing, calling, waiting}
 
 -- the channel, its participant's name, whether Close was commanded and it is a payment channel, how it stands in the view,
 -- what it holds by asset, what it settled on and what is left of that, and the held chain

@@ -2,23 +2,23 @@
 -- and calls, and what is taken from others.
 use Rattle.std.specs.Prelude.{ℕ, ◌==◌, Bool, false, ◌&&◌, List, [], ◌∷◌, Option, Some, None}
 use Rattle.std.specs.Str.{bytes_eq}
-use Rattle.nitro_bytes.specs.declared.chain.Chain.{Chain}
-use Rattle.nitro_bytes.specs.declared.value.AssetOutcome.{AssetOutcome}
-use Rattle.nitro_bytes.specs.Parts.{StateParts}
-use Rattle.deadline_clock.specs.declared.standing.Standing.{Standing}
-use Rattle.deadline_clock.specs.declared.standing.Standing.TheVariants.{Open}
-use Rattle.deadline_clock.specs.Mode.{mode_at}
-use Rattle.channel_calls.specs.declared.call.Call.{Call}
-use Rattle.channel_calls.specs.declared.held_chain.HeldChain.{HeldChain}
-use Rattle.channel_calls.specs.declared.view.ChannelView.{ChannelView}
-use Rattle.funding_value.specs.Known.{FactsOf}
-use Rattle.funding_value.specs.declared.plan.Goal.{Goal}
-use Rattle.funding_value.specs.declared.plan.Part.{Part}
-use Rattle.funding_value.specs.declared.plan.Part.TheVariants.{Root, OnLedger}
-use Rattle.stage_rules.specs.Seats.{Seat}
-use Rattle.stage_rules.specs.Rows.{stage_in, wanted_in, called_in}
-use Rattle.stage_rules.specs.Gathered.{chain_in, view_in, goal_in, seat_in, child_for}
-use Rattle.outcome_targets.specs.declared.child.Child.{Child}
+use Rattle.channel_values.specs.declared.chain.Chain.{Chain}
+use Rattle.channel_values.specs.declared.value.AssetOutcome.{AssetOutcome}
+use Rattle.channel_values.specs.Parts.{StateParts}
+use Rattle.call_history.specs.declared.standing.Standing.{Standing}
+use Rattle.call_history.specs.declared.standing.Standing.TheVariants.{Open}
+use Rattle.call_history.specs.Mode.{mode_at}
+use Rattle.call_history.specs.declared.call.Call.{Call}
+use Rattle.call_history.specs.declared.held_chain.HeldChain.{HeldChain}
+use Rattle.call_history.specs.declared.view.ChannelView.{ChannelView}
+use Rattle.funding_plans.specs.Known.{FactsOf}
+use Rattle.funding_plans.specs.declared.plan.Goal.{Goal}
+use Rattle.funding_plans.specs.declared.plan.Part.{Part}
+use Rattle.funding_plans.specs.declared.plan.Part.TheVariants.{Root, OnLedger}
+use Rattle.funding_plans.specs.Seats.{Seat}
+use Rattle.funding_plans.specs.Rows.{stage_in, wanted_in, called_in}
+use Rattle.funding_plans.specs.Gathered.{chain_in, view_in, goal_in, seat_in, child_for}
+use Rattle.funding_plans.specs.declared.child.Child.{Child}
 use Rattle.ledger_channel.specs.Roots.{Direct, root_rows, root_takes}
 use Rattle.ledger_channel.specs.OnLedgers.{Funded, on_ledger_rows, on_ledger_takes}
 

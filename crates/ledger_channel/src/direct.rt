@@ -3,18 +3,16 @@
 ghost use Rattle.std.specs.Prelude.{◌≡◌, ◌≤◌, ◌<◌, ◌-◌, ◌*◌, ◌^◌, ◌&&◌, not, IfOk, None, length};
 ghost use Rattle.std.specs.List.{filter_map, list_any};
 ghost use Rattle.std.specs.Str.{bytes_eq};
-ghost use Rattle.deadline_clock.specs.Mode.{is_final};
-ghost use Rattle.nitro_bytes.specs.Outcomes.{total};
-ghost use Rattle.stage_rules.specs.Rows as rows;
-ghost use Rattle.stage_rules.specs.Seats as seats;
+ghost use Rattle.call_history.specs.Mode.{is_final};
+ghost use Rattle.channel_values.specs.Outcomes.{total};
+ghost use Rattle.funding_plans.specs.Rows as rows;
+ghost use Rattle.funding_plans.specs.Seats as seats;
 ghost use Rattle.ledger_channel.specs.Roots as roots;
 
 use crate::money::{afforded, ahead_of, held_of, total};
-use channel_calls::{Call, place_of};
-use deadline_clock::Standing;
-use nitro_bytes::{AssetOutcome, Chain, Dest, Item, Name, NoMemory, Outcome, State};
-use outcome_targets::{amt, items_in};
-use stage_rules::SeatView;
+use call_history::{Call, Standing, place_of};
+use channel_values::{AssetOutcome, Chain, Dest, Item, Name, NoMemory, Outcome, State};
+use funding_plans::{SeatView, amt, items_in};
 use std::alloc::Global;
 use std::marker::Model;
 

@@ -2,17 +2,17 @@
 
 ghost use Rattle.std.specs.Prelude.{◌≡◌, Some};
 ghost use Rattle.std.specs.Option.{option_copied};
-ghost use Rattle.stage_rules.specs.Gathered.{seat_with};
+ghost use Rattle.funding_plans.specs.Gathered.{seat_with};
 ghost use Rattle.ledger_channel.specs.Stages as told;
 
 use crate::direct::DirectView;
 use crate::funded::FundedView;
-use channel_calls::{ChannelView, HeldChain};
-use deadline_clock::{Standing, mode};
-use funding_value::{Facts, Goal};
-use nitro_bytes::{AssetOutcome, Chain, Name, Outcome};
-use outcome_targets::{Aim, AimKind, Child};
-use stage_rules::{SeatView, chain_in, child_for, goal_in, seat_in, seat_with, view_in};
+use call_history::{ChannelView, HeldChain, Standing, mode};
+use channel_values::{AssetOutcome, Chain, Name, Outcome};
+use funding_plans::{
+    Aim, AimKind, Child, Facts, Goal, SeatView, chain_in, child_for, goal_in, seat_in, seat_with,
+    view_in,
+};
 
 fn standing_in(now: u64, view: Option<&ChannelView>) -> Standing
     ensures { result ≡ told.standing_in now (option_copied view.entry) }

@@ -1,11 +1,11 @@
 //! The deposits and transfers of a channel that holds its own funds.
 
 ghost use Rattle.std.specs.Prelude.{◌≡◌, ◌≤◌, ◌<◌, ◌^◌};
-ghost use Rattle.channel_model.specs.Amounts.{aff};
-ghost use Rattle.nitro_bytes.specs.Outcomes.{total};
+ghost use Rattle.channel_values.specs.Amounts.{aff};
+ghost use Rattle.channel_values.specs.Outcomes.{total};
 ghost use Rattle.ledger_channel.specs.Roots as roots;
 
-use nitro_bytes::{Dest, Item};
+use channel_values::{Dest, Item};
 
 /// What is held of an asset.
 pub(crate) fn held_of(held: &[(u32, u64)], asset: u32) -> u64

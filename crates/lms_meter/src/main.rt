@@ -5,9 +5,8 @@
 #![tactic(auto)]
 
 use anyhow::{Context, Result, anyhow, bail};
-use lms_verify::ots::chain_step;
-use lms_verify::verifies;
-use sign_index::Signer;
+use lms_signatures::ots::chain_step;
+use lms_signatures::{Signer, verifies};
 use std::env;
 use std::time::Instant;
 

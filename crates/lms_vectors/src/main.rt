@@ -8,9 +8,8 @@
 #![tactic(auto)]
 
 use anyhow::{Context, Result, anyhow};
-use lms_verify::verifies;
+use lms_signatures::{Signer, verifies};
 use sha2::{Digest, Sha256};
-use sign_index::Signer;
 use std::{env, fs};
 
 /// A key, a message and what is said to be its signature.

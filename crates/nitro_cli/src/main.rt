@@ -5,13 +5,11 @@
 
 ghost use Rattle.std.specs.Prelude.{◌≡◌, []};
 
-use byte_sink::{Sink, StdSink};
-use byte_source::{Source, StdSource};
+use byte_streams::{Sink, Source, StdSink, StdSource};
 use cast_actors::{Equivocator, Idle, Replayer};
-use net_actors::{Actor, Cast, Notes};
-use nitro_bytes::{Label, NoMemory};
-use script_record::run_record;
-use script_run::run_words;
+use channel_values::{Label, NoMemory};
+use network_rounds::{Actor, Cast, Notes};
+use script_run::{run_record, run_words};
 use std::alloc::Global;
 use std::process::ExitCode;
 use std::rt::Env;

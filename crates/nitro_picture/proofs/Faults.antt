@@ -1,10 +1,10 @@
 -- What was found of bytes says whether they are drawn.
 use Rattle.std.proofs.Common.{◌≡◌, ℕ, List, Bool, true, false, Result, Err, IsOk, refl}
-use Rattle.nitro_bytes.specs.declared.fault.ByteFault.{ByteFault}
-use Rattle.nitro_bytes.specs.declared.fault.ByteFault.TheVariants as faults
-use Rattle.nitro_bytes.specs.Reading.{Fails}
-use Rattle.record_bytes.specs.Reading.{record_of}
-use Rattle.record_bytes.specs.declared.run_record.Record.{Record}
+use Rattle.channel_values.specs.declared.fault.ByteFault.{ByteFault}
+use Rattle.channel_values.specs.declared.fault.ByteFault.TheVariants as faults
+use Rattle.channel_values.specs.Reading.{Fails}
+use Rattle.run_record.specs.Reading.{record_of}
+use Rattle.run_record.specs.declared.run_record.Record.{Record}
 use Rattle.nitro_picture.specs.Drawing.{is_record, AreDrawn, HasFault}
 use Rattle.nitro_picture.specs.declared.drawing.Undrawn.TheVariants as undrawn
 

@@ -1,11 +1,11 @@
 -- What a drawing comes to.
 use Rattle.std.specs.Prelude.{◌≡◌, ◌≤◌, ◌<◌, ◌==◌, ℕ, List, [], ◌∷◌, length, Bool, true, false, Option, IsOk, Err, codes, ⊤}
 use Rattle.std.specs.Str.{bytes_eq}
-use Rattle.byte_source.specs.Outside.{Rose}
+use Rattle.byte_streams.specs.OutsideSource.{Rose}
 use Rattle.std.specs.Io.KnownBytes.{Consumes, IsAtEnd}
 use Rattle.run_text.specs.Lines.{line_feeds, IsInLines}
 use Rattle.run_text.specs.Unread.TheVariants.{Line}
-use Rattle.record_bytes.specs.Reading.{record_of}
+use Rattle.run_record.specs.Reading.{record_of}
 use Rattle.nitro_picture.specs.declared.drawing.Undrawn.{Undrawn}
 use Rattle.nitro_picture.specs.declared.drawing.Undrawn.TheVariants as undrawn
 use Rattle.nitro_picture.specs.declared.drawing.Status.{Status}

@@ -4,12 +4,12 @@ ghost use Rattle.std.specs.Prelude.{◌≡◌, ℕ, List, true, IfOk, IfErr, IsO
 ghost use Rattle.std.specs.Io.KnownBytes.{Keeps, Appends};
 ghost use Rattle.nitro_picture.specs.declared.drawing.Status.{Status};
 ghost use Rattle.run_text.specs.Lines.{line_feeds, IsInLines};
-ghost use Rattle.nitro_bytes.specs.Reading.{Fails};
-ghost use Rattle.record_bytes.specs.Reading.{record_of};
+ghost use Rattle.channel_values.specs.Reading.{Fails};
+ghost use Rattle.run_record.specs.Reading.{record_of};
 ghost use Rattle.nitro_picture.specs.Drawing.{told, asks, is_record, code_of, AreDrawn, HasFault, EndsAs, puts_nothing};
 
-use byte_source::{ReadEnd, Source, read_all};
-use nitro_bytes::{ByteFault, Label};
+use byte_streams::{ReadEnd, Source, read_all};
+use channel_values::{ByteFault, Label};
 use record_reader::read_record;
 use record_run::{run_of, told_of};
 use run_picture::picture_of;

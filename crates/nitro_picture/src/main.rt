@@ -3,13 +3,13 @@
 
 mod drawing;
 
-use byte_source::StdSource;
+use byte_streams::StdSource;
+use channel_values::{Label, NoMemory};
 use drawing::{Status, draw};
-use nitro_bytes::{Label, NoMemory};
+use record_checker::fault_line;
 use std::process::ExitCode;
 use std::rt::Env;
 use std::{env, io};
-use verdict_lines::fault_line;
 
 /// The words after the program's name. Words that aren't text count as none.
 fn words<R: Env + AllocGlobal>(rt: &R) -> Result<Vec<Label>, NoMemory> {

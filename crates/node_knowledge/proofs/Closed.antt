@@ -3,8 +3,8 @@ use Rattle.std.proofs.Common.{◌≡◌, ◌≢◌, ℕ, ◌+◌, ◌<◌, Bool,
 use Rattle.std.specs.Prelude.{◌==◌}
 use Rattle.std.proofs.lemmas.Bool.Decides.{nat_tests}
 use Rattle.std.proofs.lemmas.List.Edits.{map_over_more}
-use Rattle.funding_value.specs.declared.plan.Goal.{Goal}
-use Rattle.node_model.specs.Minds.{close_if}
+use Rattle.funding_plans.specs.declared.plan.Goal.{Goal}
+use Rattle.channel_node.specs.Minds.{close_if}
 
 abbrev closed_at : ℕ → Goal → Goal
 closed_at place g = close_if (g.part == place) g

@@ -2,9 +2,9 @@
 use Rattle.std.proofs.Common.{◌≡◌, ℕ, ◌+◌, ◌≤◌, List, [], ◌∷◌, length, length-append, ap, ◌∙◌, arith}
 use Rattle.std.specs.List.{flat_map}
 use Rattle.std.proofs.lemmas.List.Concat.{flat_map-cons}
-use Rattle.funding_value.specs.declared.plan.Part.{Part}
-use Rattle.funding_value.specs.declared.plan.Part.TheVariants.{Root, OnLedger, End, Middle}
-use Rattle.node_model.specs.Giving.{of_root, of_other, in_order}
+use Rattle.funding_plans.specs.declared.plan.Part.{Part}
+use Rattle.funding_plans.specs.declared.plan.Part.TheVariants.{Root, OnLedger, End, Middle}
+use Rattle.channel_node.specs.Giving.{of_root, of_other, in_order}
 
 few-of : (part : Part) → length (of_root part) + length (of_other part) ≤ 3
 few-of (Root channel) = omega arith

@@ -4,16 +4,16 @@ use Rattle.std.specs.Prelude.{Option, Some, None, Result, Ok, Err, OnOk, OnErr, 
 use Rattle.std.proofs.lemmas.Bool.Decides.{nat_tests}
 use Rattle.std.specs.List.{position_or_len, slice_get}
 use Rattle.std.specs.Str.{bytes_eq}
-use Rattle.nitro_bytes.specs.Parts.{FixedParts}
-use Rattle.nitro_bytes.specs.declared.chain.Chain.{Chain}
-use Rattle.nitro_bytes.specs.declared.chain.Signed.{Signed}
-use Rattle.channel_calls.proofs.Names.{same_bytes}
-use Rattle.channel_calls.specs.Marked.{marked_of}
+use Rattle.channel_values.specs.Parts.{FixedParts}
+use Rattle.channel_values.specs.declared.chain.Chain.{Chain}
+use Rattle.channel_values.specs.declared.chain.Signed.{Signed}
+use Rattle.call_history.proofs.Names.{same_bytes}
+use Rattle.call_history.specs.Marked.{marked_of}
 use Rattle.channel_store.specs.Keeping.{noting, adopting}
 use Rattle.channel_store.specs.Storing.{place_of, kept_of, kept_at, kept_with}
 use Rattle.channel_store.specs.declared.kept.Kept.{Kept}
-use Rattle.node_model.specs.Openings.{place_among, takes_part, opened}
-use Rattle.support_chain.specs.Real.{real}
+use Rattle.channel_node.specs.Openings.{place_among, takes_part, opened}
+use Rattle.support_rules.specs.Real.{real}
 use Rattle.node_knowledge.specs.Owned.{IsOwned, AreOwned}
 use Rattle.node_knowledge.specs.Shown.{kept_shown}
 use Rattle.node_knowledge.specs.Taking.{joined}

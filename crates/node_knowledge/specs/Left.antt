@@ -1,11 +1,11 @@
 -- With what is challenged in a channel, by what the rules read.
 use Rattle.std.specs.Prelude.{ℕ, ◌&&◌, List, Option, Some, None, if◌then◌else◌}
-use Rattle.channel_model.specs.Rules.{newest}
+use Rattle.channel_values.specs.Rules.{newest}
 use Rattle.channel_store.specs.Keeping.{is_held}
 use Rattle.channel_store.specs.declared.kept.Kept.{Kept}
-use Rattle.funding_value.specs.Known.{FactsOf}
-use Rattle.node_model.specs.Leaving.{OwnChallenge, challenge_with}
-use Rattle.node_model.specs.Refusing.{is_open, stands_in}
+use Rattle.funding_plans.specs.Known.{FactsOf}
+use Rattle.channel_node.specs.Leaving.{OwnChallenge, challenge_with}
+use Rattle.channel_node.specs.Refusing.{is_open, stands_in}
 
 abbrev pub challenge_on : FactsOf → List ℕ → Option Kept → Option OwnChallenge
 challenge_on f channel None = None

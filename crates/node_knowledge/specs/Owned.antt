@@ -1,7 +1,7 @@
 -- What is kept of a participant's own channels.
 use Rattle.std.specs.Prelude.{◌≡◌, ℕ, List, Some}
 use Rattle.std.specs.List.{AllByRecursion, slice_get}
-use Rattle.channel_calls.specs.Naming.{name_of}
+use Rattle.call_history.specs.Naming.{name_of}
 use Rattle.channel_store.specs.declared.kept.Kept.{Kept}
 
 -- a channel is kept by its name, with this key at the participant's position

@@ -1,23 +1,23 @@
 -- What an entry shows, and what is kept with it.
 use Rattle.std.specs.Prelude.{◌≡◌, ℕ, ◌≤◌, true, List, length, Option, Some, None}
-use Rattle.nitro_bytes.specs.Parts.{FixedParts}
-use Rattle.nitro_bytes.specs.declared.chain.Chain.{Chain}
-use Rattle.nitro_bytes.specs.declared.chain.Signed.{Signed}
-use Rattle.channel_calls.specs.History.{is_accepted}
-use Rattle.channel_calls.specs.Marked.{Marked, nothing, marked_of, answered}
-use Rattle.channel_calls.specs.Naming.{name_of}
-use Rattle.channel_calls.specs.Rows.{fixed_of}
-use Rattle.channel_calls.specs.declared.call.Call.TheVariants.{Respond}
-use Rattle.channel_calls.specs.declared.call.Op.{Op}
-use Rattle.channel_calls.specs.declared.call.Op.TheVariants as ops
-use Rattle.channel_calls.specs.declared.entry.Entry.{Entry}
-use Rattle.channel_calls.specs.declared.view.WorldView.{WorldView}
+use Rattle.channel_values.specs.Parts.{FixedParts}
+use Rattle.channel_values.specs.declared.chain.Chain.{Chain}
+use Rattle.channel_values.specs.declared.chain.Signed.{Signed}
+use Rattle.call_history.specs.History.{is_accepted}
+use Rattle.call_history.specs.Marked.{Marked, nothing, marked_of, answered}
+use Rattle.call_history.specs.Naming.{name_of}
+use Rattle.call_history.specs.Rows.{fixed_of}
+use Rattle.call_history.specs.declared.call.Call.TheVariants.{Respond}
+use Rattle.call_history.specs.declared.call.Op.{Op}
+use Rattle.call_history.specs.declared.call.Op.TheVariants as ops
+use Rattle.call_history.specs.declared.entry.Entry.{Entry}
+use Rattle.call_history.specs.declared.view.WorldView.{WorldView}
 use Rattle.channel_store.specs.Keeping.{adopting}
 use Rattle.channel_store.specs.Storing.{kept_with}
 use Rattle.channel_store.specs.declared.kept.Kept.{Kept}
 use Rattle.history_view.specs.Views.{view_of}
 use Rattle.history_view.specs.Room.{CanFollow}
-use Rattle.support_chain.specs.Real.{real}
+use Rattle.support_rules.specs.Real.{real}
 
 abbrev pub answered_or : FixedParts → Signed → Option Chain → Marked
 answered_or f next None = nothing

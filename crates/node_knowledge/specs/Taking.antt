@@ -1,18 +1,18 @@
 -- What an accepted command promises of the channels and the part that it opens.
 use Rattle.std.specs.Prelude.{◌≡◌, ℕ, ◌+◌, ◌^◌, ◌<◌, true, false, List, [], ◌∷◌, ◌++◌, length, map, filter, slice_index_or, None}
 use Rattle.std.specs.Str.{bytes_eq}
-use Rattle.nitro_bytes.specs.Parts.{FixedParts}
-use Rattle.channel_calls.specs.Naming.{name_of}
+use Rattle.channel_values.specs.Parts.{FixedParts}
+use Rattle.call_history.specs.Naming.{name_of}
 use Rattle.channel_store.specs.Storing.{kept_of}
 use Rattle.channel_store.specs.declared.kept.Kept.{Kept}
-use Rattle.funding_value.specs.declared.plan.Goal.{Goal}
-use Rattle.funding_value.specs.declared.plan.Part.{Part}
-use Rattle.net_party.specs.declared.command.Command.{Command}
-use Rattle.net_party.specs.declared.command.Command.TheVariants.{Open, OpenOn, OpenVirtual}
-use Rattle.node_model.specs.Minds.{Mind}
-use Rattle.node_model.specs.Openings.{takes_part, opened}
-use Rattle.support_chain.specs.Real.{real}
-use Rattle.support_chain.specs.Steps.{persons}
+use Rattle.funding_plans.specs.declared.plan.Goal.{Goal}
+use Rattle.funding_plans.specs.declared.plan.Part.{Part}
+use Rattle.network.specs.declared.command.Command.{Command}
+use Rattle.network.specs.declared.command.Command.TheVariants.{Open, OpenOn, OpenVirtual}
+use Rattle.channel_node.specs.Minds.{Mind}
+use Rattle.channel_node.specs.Openings.{takes_part, opened}
+use Rattle.support_rules.specs.Real.{real}
+use Rattle.support_rules.specs.Steps.{persons}
 
 -- what is kept of those of these channels in which the participant with this key is one
 abbrev pub joined : List ℕ → List FixedParts → List Kept

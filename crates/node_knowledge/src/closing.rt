@@ -1,10 +1,10 @@
 //! What is commanded of a part that is to close.
 
 ghost use Rattle.std.specs.Prelude.{◌≡◌, ◌==◌, map};
-ghost use Rattle.node_model.specs.Minds.{place_with, close_if};
+ghost use Rattle.channel_node.specs.Minds.{place_with, close_if};
 
-use funding_value::{Goal, Part};
-use nitro_bytes::Name;
+use channel_values::Name;
+use funding_plans::{Goal, Part};
 
 /// The place of the part that has a channel, or how many parts there are.
 pub fn place_with(channel: &Name, parts: &[Part]) -> usize

@@ -3,16 +3,16 @@
 ghost use Rattle.std.specs.Prelude.{◌≡◌, ◌++◌, ◌+◌, map, take, drop, OnOk, IfOk};
 ghost use Rattle.std.specs.List.{flat_map};
 ghost use Rattle.std.specs.Option.{option_map};
-ghost use Rattle.channel_calls.specs.Spelling.{message};
-ghost use Rattle.funding_value.specs.Parts.{joined_of};
-ghost use Rattle.nitro_bytes.specs.Spelling.{sized};
-ghost use Rattle.node_model.specs.Giving as giving;
+ghost use Rattle.call_history.specs.Spelling.{message};
+ghost use Rattle.funding_plans.specs.Parts.{joined_of};
+ghost use Rattle.channel_values.specs.Spelling.{sized};
+ghost use Rattle.channel_node.specs.Giving as giving;
 
 use channel_store::Kept;
-use funding_value::Part;
-use nitro_bytes::{Listed, Name, NoMemory, State};
+use channel_values::{Listed, Name, NoMemory, State};
+use funding_plans::Part;
 use std::alloc::Global;
-use support_chain::people_of;
+use support_rules::people_of;
 
 fn is_root(part: &Part) -> bool
     ensures { result ≡ giving.is_root part.now }
@@ -98,7 +98,7 @@ fn put_sized(out: &mut Vec<u8>, bytes: &[u8]) -> Result<(), NoMemory>
 }
 
 /// The message with a signed state, whatever the length of the signature.
-#[tactic(auto, unfolding(channel_calls::specs::Spelling::message, nitro_bytes::specs::Spelling::signed))]
+#[tactic(auto, unfolding(call_history::specs::Spelling::message, channel_values::specs::Spelling::signed))]
 fn message_of(
     alloc: Global,
     channel: &Name,

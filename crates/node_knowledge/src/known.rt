@@ -2,39 +2,40 @@
 
 ghost use Rattle.std.specs.Prelude.{◌≡◌, ◌<◌, ◌≤◌, ◌∷◌, ℕ, [], List, length, cond, true, None, OnOk, OnErr, IfOk};
 ghost use Rattle.std.specs.Option.{option_map};
-ghost use Rattle.nitro_bytes.specs.Spelling.{fixed as spelled};
-ghost use Rattle.channel_name.specs.Digests.{name_of_channel};
-ghost use Rattle.channel_calls.specs.History.{is_accepted};
-ghost use Rattle.channel_calls.specs.Marked.{marked_of};
-ghost use Rattle.channel_calls.specs.Rows.{fixed_of};
+ghost use Rattle.channel_values.specs.Spelling.{fixed as spelled};
+ghost use Rattle.channel_values.specs.Digests.{name_of_channel};
+ghost use Rattle.call_history.specs.History.{is_accepted};
+ghost use Rattle.call_history.specs.Marked.{marked_of};
+ghost use Rattle.call_history.specs.Rows.{fixed_of};
 ghost use Rattle.channel_store.specs.Keeping.{noting};
 ghost use Rattle.channel_store.specs.Noting.{refusal_of};
 ghost use Rattle.channel_store.specs.Storing.{kept_with};
 ghost use Rattle.channel_store.specs.declared.kept.Kept.{Kept as AKept};
 ghost use Rattle.history_view.specs.Views.{view_of};
-ghost use Rattle.net_party.specs.declared.command.Command.TheVariants as commands;
-ghost use Rattle.net_party.specs.declared.command.Route.TheVariants.{Plain};
-ghost use Rattle.node_model.specs.Giving.{in_order, sends_of};
-ghost use Rattle.node_model.specs.Leaving.{challenge_in, is_over};
-ghost use Rattle.node_model.specs.Minds.{fresh, facts_of, shown_by, kept_seeing, saw, noted, with_opened, commanded};
-ghost use Rattle.node_model.specs.Openings.{goal_with};
+ghost use Rattle.network.specs.declared.command.Command.TheVariants as commands;
+ghost use Rattle.network.specs.declared.command.Route.TheVariants.{Plain};
+ghost use Rattle.channel_node.specs.Giving.{in_order, sends_of};
+ghost use Rattle.channel_node.specs.Leaving.{challenge_in, is_over};
+ghost use Rattle.channel_node.specs.Minds.{fresh, facts_of, shown_by, kept_seeing, saw, noted, with_opened, commanded};
+ghost use Rattle.channel_node.specs.Openings.{goal_with};
 ghost use Rattle.node_knowledge.specs.Owned.{AreOwned};
 ghost use Rattle.node_knowledge.specs.Shown.{kept_shown, FewUnder, FewIn, CanSee};
 ghost use Rattle.node_knowledge.specs.Taking.{with_part, CanOpen, CanShare, CanTake};
-ghost use Rattle.support_chain.specs.Real.{real};
+ghost use Rattle.support_rules.specs.Real.{real};
 
 use crate::closing::{close, place_with};
 use crate::giving::{in_order, sends_to};
 use crate::leaving::{Challenger, challenge_of, is_over};
 use crate::opening::{join, join_virtual, name_of, part_of_virtual, shared};
 use crate::showing::{is_accepted, shown_by};
-use channel_calls::{Entry, Op, WorldView, fixed_of};
-use channel_name::{channel_name, person_name};
+use call_history::{Entry, Op, WorldView, fixed_of};
 use channel_store::Store;
-use funding_value::{Facts, Goal, Part, Plan};
+use channel_values::{
+    Chain, Fixed, Key, Listed, Name, NoMemory, Outcome, Signed, State, channel_name, person_name,
+};
+use funding_plans::{Facts, Goal, Part, Plan};
 use history_view::{follow, unseen, view_of};
-use net_party::Command;
-use nitro_bytes::{Chain, Fixed, Key, Listed, Name, NoMemory, Outcome, Signed, State};
+use network::Command;
 use std::alloc::Global;
 use std::marker::Model;
 
@@ -51,9 +52,9 @@ pub struct Known {
 
 impl Model for Known {
     ghost use Rattle.std.specs.Prelude.{◌≡◌, ◌≤◌, length};
-    ghost use Rattle.channel_name.specs.Digests.{name_of_person};
+    ghost use Rattle.channel_values.specs.Digests.{name_of_person};
     ghost use Rattle.node_knowledge.specs.Owned.{AreOwned};
-    ghost use Rattle.node_model.specs.Minds.{Mind};
+    ghost use Rattle.channel_node.specs.Minds.{Mind};
 
     ghost Value = { Mind };
 

@@ -2,19 +2,19 @@
 
 ghost use Rattle.std.specs.Prelude.{◌≡◌, ◌&&◌, None, if◌then◌else◌};
 ghost use Rattle.std.specs.Option.{option_map};
-ghost use Rattle.channel_model.specs.Rules.{newest};
+ghost use Rattle.channel_values.specs.Rules.{newest};
 ghost use Rattle.channel_store.specs.Keeping.{is_held};
-ghost use Rattle.deadline_clock.specs.Mode.{is_final};
+ghost use Rattle.call_history.specs.Mode.{is_final};
 ghost use Rattle.node_knowledge.specs.Left.{challenge_on};
-ghost use Rattle.node_model.specs.Leaving.{challenge_with};
-ghost use Rattle.node_model.specs.Leaving as leaving;
-ghost use Rattle.node_model.specs.Refusing as refusing;
+ghost use Rattle.channel_node.specs.Leaving.{challenge_with};
+ghost use Rattle.channel_node.specs.Leaving as leaving;
+ghost use Rattle.channel_node.specs.Refusing as refusing;
 
+use call_history::{Standing, mode};
 use channel_store::Kept;
-use deadline_clock::{Standing, mode};
-use funding_value::Facts;
+use channel_values::{Chain, Name, State};
+use funding_plans::Facts;
 use history_view::view_of;
-use nitro_bytes::{Chain, Name, State};
 use std::marker::Model;
 
 /// A chain to challenge with, its newest state, and the challenger's position.
@@ -26,7 +26,7 @@ pub struct Challenger<'a> {
 }
 
 impl<'a> Model for Challenger<'a> {
-    ghost use Rattle.node_model.specs.Leaving.{OwnChallenge};
+    ghost use Rattle.channel_node.specs.Leaving.{OwnChallenge};
 
     ghost Value = { OwnChallenge };
 

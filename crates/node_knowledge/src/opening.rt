@@ -2,24 +2,24 @@
 
 ghost use Rattle.std.specs.Prelude.{◌≡◌, ◌==◌, ◌&&◌, ◌<◌, ◌^◌, ◌+◌, ◌++◌, ◌∷◌, [], true, None, OnOk, OnErr, IfOk, slice_index_or};
 ghost use Rattle.std.specs.Str.{bytes_eq};
-ghost use Rattle.nitro_bytes.specs.Outcomes.{IsItem, IsOutcome};
-ghost use Rattle.nitro_bytes.specs.declared.value.Dest.TheVariants.{Person};
-ghost use Rattle.channel_calls.specs.Naming.{name_of};
+ghost use Rattle.channel_values.specs.Outcomes.{IsItem, IsOutcome};
+ghost use Rattle.channel_values.specs.declared.value.Dest.TheVariants.{Person};
+ghost use Rattle.call_history.specs.Naming.{name_of};
 ghost use Rattle.channel_store.specs.Storing.{kept_of};
-ghost use Rattle.net_party.specs.declared.command.Command.TheVariants.{OpenVirtual};
-ghost use Rattle.net_party.specs.declared.command.Route.TheVariants.{Plain};
-ghost use Rattle.node_model.specs.Openings as openings;
+ghost use Rattle.network.specs.declared.command.Command.TheVariants.{OpenVirtual};
+ghost use Rattle.network.specs.declared.command.Route.TheVariants.{Plain};
+ghost use Rattle.channel_node.specs.Openings as openings;
 ghost use Rattle.node_knowledge.specs.Owned.{AreOwned};
 ghost use Rattle.node_knowledge.specs.Taking.{joined, CanJoin, CanShare};
-ghost use Rattle.support_chain.specs.Real.{real};
-ghost use Rattle.support_chain.specs.Steps.{persons};
+ghost use Rattle.support_rules.specs.Real.{real};
+ghost use Rattle.support_rules.specs.Steps.{persons};
 
-use channel_name::{channel_name, person_name};
 use channel_store::Store;
-use funding_value::{Part, Virtual};
-use nitro_bytes::{
+use channel_values::{
     AssetOutcome, ByteFault, Dest, Fixed, Item, Key, Listed, Name, NoMemory, Outcome, Shape,
+    channel_name, person_name,
 };
+use funding_plans::{Part, Virtual};
 use std::alloc::Global;
 
 fn same_key(a: &Key, b: &Key) -> bool

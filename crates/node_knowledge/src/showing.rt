@@ -2,13 +2,13 @@
 
 ghost use Rattle.std.specs.Prelude.{◌≡◌, IfOk};
 ghost use Rattle.std.specs.Option.{option_map};
-ghost use Rattle.channel_calls.specs.History.{is_accepted};
-ghost use Rattle.channel_calls.specs.Marked.{nothing, marked_of};
-ghost use Rattle.node_model.specs.Minds.{shown_by};
+ghost use Rattle.call_history.specs.History.{is_accepted};
+ghost use Rattle.call_history.specs.Marked.{nothing, marked_of};
+ghost use Rattle.channel_node.specs.Minds.{shown_by};
 ghost use Rattle.node_knowledge.specs.Shown.{answered_or, HasFew, FewUnder};
 
-use channel_calls::{Call, Op, Reply, answered};
-use nitro_bytes::{Chain, Fixed, Listed, NoMemory, Signed};
+use call_history::{Call, Op, Reply, answered};
+use channel_values::{Chain, Fixed, Listed, NoMemory, Signed};
 use std::alloc::Global;
 
 pub(crate) fn is_accepted(reply: &Reply) -> bool

@@ -4,13 +4,12 @@
 use crate::messages::{
     Brought, People, amounts, channel_of, fixed_of, key_of, message_of, open, state_of,
 };
-use channel_calls::{Call, Entry, NodeRefusal, Op, Reply, read_message};
-use channel_name::person_name;
-use deadline_clock::Standing;
-use net_node::Node;
-use net_party::{Command, NodeFault, Outs, Party};
-use nitro_bytes::{Chain, Key, Listed, Name, State};
-use sign_index::Signer;
+use call_bytes::read_message;
+use call_history::{Call, Entry, NodeRefusal, Op, Reply, Standing};
+use channel_values::{Chain, Key, Listed, Name, State, person_name};
+use lms_signatures::Signer;
+use network::{Command, NodeFault, Outs, Party};
+use network_node::Node;
 use std::alloc::Global;
 use std::test::Fail;
 

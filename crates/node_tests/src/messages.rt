@@ -1,12 +1,12 @@
 //! Commands, outcomes and states of a payment channel of two people, and messages that a person signs.
 
-use channel_calls::write_message;
-use channel_name::{channel_name, person_name, state_digest, state_message};
-use net_party::Command;
-use nitro_bytes::{
+use call_bytes::write_message;
+use channel_values::{
     AssetOutcome, ByteFault, Dest, Fixed, Item, Key, Listed, Name, Outcome, Shape, Signed, State,
+    channel_name, person_name, state_digest, state_message,
 };
-use sign_index::Signer;
+use lms_signatures::Signer;
+use network::Command;
 use std::alloc::Global;
 use std::test::Fail;
 

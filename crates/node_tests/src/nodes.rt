@@ -2,10 +2,9 @@
 
 use crate::desk::{Desk, Said, Step, node_of};
 use crate::messages::Brought;
-use channel_calls::NodeRefusal;
-use deadline_clock::Standing;
-use net_node::Node;
-use net_party::{NodeFault, Party};
+use call_history::{NodeRefusal, Standing};
+use network::{NodeFault, Party};
+use network_node::Node;
 use std::alloc::Global;
 use std::test::Fail;
 

@@ -1,11 +1,10 @@
 //! A payment's outcome that was worked out by hand, and what a node that knows nothing says.
 
 use crate::messages::{amounts, key_of, state_of};
-use channel_calls::NodeRefusal;
-use channel_name::person_name;
-use nitro_bytes::{ByteFault, Dest, NoMemory};
+use call_history::NodeRefusal;
+use channel_values::{ByteFault, Dest, NoMemory, person_name};
+use node_decisions::{Payment, handle, pay_refusal, signable, state_of as paid_state};
 use node_knowledge::Known;
-use node_signing::{Payment, handle, pay_refusal, signable, state_of as paid_state};
 use std::alloc::Global;
 use std::test::Fail;
 

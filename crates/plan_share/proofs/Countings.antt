@@ -1,7 +1,7 @@
 -- The channels that count, one by one.
 use Rattle.std.proofs.Common.{◌≡◌, ℕ, List, [], ◌∷◌, Option, Some, None, refl}
-use Rattle.nitro_bytes.specs.declared.value.AssetOutcome.{AssetOutcome}
-use Rattle.share_model.specs.Places.{listed, counting_of}
+use Rattle.channel_values.specs.declared.value.AssetOutcome.{AssetOutcome}
+use Rattle.share_laws.specs.Places.{listed, counting_of}
 
 -- one outcome, and a proposal if there is one
 pub counting_of_both : (channel : List ℕ) (o : List AssetOutcome) (p : Option (List AssetOutcome)) →

@@ -4,22 +4,22 @@ use Rattle.std.specs.Cmp.Lexicographic.{pointwise}
 use Rattle.std.specs.Prelude.{◌==◌}
 use Rattle.std.specs.Str.{bytes_eq}
 use Rattle.std.proofs.lemmas.Bool.{false≢true, true≢false, eqb-true}
-use Rattle.nitro_bytes.specs.Outcomes.{is_same}
-use Rattle.nitro_bytes.specs.declared.value.AssetOutcome.{AssetOutcome}
-use Rattle.nitro_bytes.specs.declared.value.Dest.{Dest}
-use Rattle.nitro_bytes.specs.declared.value.Item.{Item}
-use Rattle.channel_calls.specs.Flows.{is_among}
-use Rattle.channel_calls.proofs.Names.{same_bytes, bytes_eq_self}
-use Rattle.channel_calls.proofs.Payouts.{same_dest}
-use Rattle.funding_value.specs.Shapes.{items_in, list_in}
-use Rattle.share_model.specs.Books.{Books, Counting, one_of, outcome_in, counts_in, varying, books_under}
-use Rattle.share_model.specs.Share.{least_over, worth_under}
-use Rattle.share_model.specs.Funded.{are_funded, at_each, is_funded}
-use Rattle.share_model.specs.Worth.{worth, no_reach}
-use Rattle.share_model.proofs.Choices.{choose, choose-takes, chosen-is}
-use Rattle.share_model.proofs.Least.{Takes, ends, skips, takes, least_over-le, least_over-some, at_each-at}
-use Rattle.channel_calls.specs.declared.view.WorldView.{WorldView}
-use Rattle.funding_value.specs.declared.plan.Plan.{Plan}
+use Rattle.channel_values.specs.Outcomes.{is_same}
+use Rattle.channel_values.specs.declared.value.AssetOutcome.{AssetOutcome}
+use Rattle.channel_values.specs.declared.value.Dest.{Dest}
+use Rattle.channel_values.specs.declared.value.Item.{Item}
+use Rattle.call_history.specs.Flows.{is_among}
+use Rattle.call_history.proofs.Names.{same_bytes, bytes_eq_self}
+use Rattle.call_history.proofs.Payouts.{same_dest}
+use Rattle.funding_plans.specs.Shapes.{items_in, list_in}
+use Rattle.share_laws.specs.Books.{Books, Counting, one_of, outcome_in, counts_in, varying, books_under}
+use Rattle.share_laws.specs.Share.{least_over, worth_under}
+use Rattle.share_laws.specs.Funded.{are_funded, at_each, is_funded}
+use Rattle.share_laws.specs.Worth.{worth, no_reach}
+use Rattle.share_laws.proofs.Choices.{choose, choose-takes, chosen-is}
+use Rattle.share_laws.proofs.Least.{Takes, ends, skips, takes, least_over-le, least_over-some, at_each-at}
+use Rattle.call_history.specs.declared.view.WorldView.{WorldView}
+use Rattle.funding_plans.specs.declared.plan.Plan.{Plan}
 use Rattle.plan_share.specs.Pages.{is_same_item, is_same_in, differs, differing, least_among, funded_among}
 use Rattle.plan_share.specs.Seen.{held_seen}
 use mathlib.Core.Path.{fun_ext}

@@ -5,18 +5,18 @@ use Rattle.std.specs.List.{list_all}
 use Rattle.std.specs.Str.{bytes_eq}
 use Rattle.std.proofs.lemmas.Bool.{false≢true, eqb-true}
 use Rattle.std.proofs.lemmas.Bool.Decides.{nat_tests}
-use Rattle.nitro_bytes.specs.declared.value.AssetOutcome.{AssetOutcome}
-use Rattle.nitro_bytes.specs.declared.value.Item.{Item}
-use Rattle.channel_calls.specs.Flows.{is_among}
-use Rattle.channel_calls.specs.declared.view.WorldView.{WorldView}
-use Rattle.funding_value.specs.Shapes.{items_in}
-use Rattle.funding_value.specs.declared.plan.Part.{Part}
-use Rattle.funding_value.specs.declared.plan.Part.TheVariants.{Root, OnLedger, End, Middle}
-use Rattle.funding_value.specs.declared.plan.Plan.{Plan}
-use Rattle.funding_value.specs.Parts.{own_ledger}
-use Rattle.share_model.specs.Books.{Books, Counting, one_of, outcome_in, varying, books_under}
-use Rattle.share_model.specs.Funded.{if_so, is_part_funded, are_funded, at_each}
-use Rattle.share_model.specs.Worth.{Table, no_reach, reach_after}
+use Rattle.channel_values.specs.declared.value.AssetOutcome.{AssetOutcome}
+use Rattle.channel_values.specs.declared.value.Item.{Item}
+use Rattle.call_history.specs.Flows.{is_among}
+use Rattle.call_history.specs.declared.view.WorldView.{WorldView}
+use Rattle.funding_plans.specs.Shapes.{items_in}
+use Rattle.funding_plans.specs.declared.plan.Part.{Part}
+use Rattle.funding_plans.specs.declared.plan.Part.TheVariants.{Root, OnLedger, End, Middle}
+use Rattle.funding_plans.specs.declared.plan.Plan.{Plan}
+use Rattle.funding_plans.specs.Parts.{own_ledger}
+use Rattle.share_laws.specs.Books.{Books, Counting, one_of, outcome_in, varying, books_under}
+use Rattle.share_laws.specs.Funded.{if_so, is_part_funded, are_funded, at_each}
+use Rattle.share_laws.specs.Worth.{Table, no_reach, reach_after}
 use Rattle.plan_share.specs.Pages.{or_empty}
 use Rattle.plan_share.specs.Seen.{held_seen}
 use Rattle.plan_share.specs.Whole.{funded_in, passes_each, passes_both}

@@ -1,11 +1,11 @@
 -- Whether a participant can still be paid anything.
 use Rattle.std.specs.Prelude.{ℕ, ◌==◌, nat_lt, Bool, List, [], ◌∷◌, ◌++◌, if◌then◌else◌}
 use Rattle.std.specs.List.{list_any}
-use Rattle.channel_calls.specs.declared.held_chain.Known.{Known}
-use Rattle.channel_calls.specs.declared.view.ChannelView.{ChannelView}
-use Rattle.channel_calls.specs.declared.view.WorldView.{WorldView}
+use Rattle.call_history.specs.declared.held_chain.Known.{Known}
+use Rattle.call_history.specs.declared.view.ChannelView.{ChannelView}
+use Rattle.call_history.specs.declared.view.WorldView.{WorldView}
 use Rattle.history_view.specs.Views.{paid_amount}
-use Rattle.funding_value.specs.declared.plan.Plan.{Plan}
+use Rattle.funding_plans.specs.declared.plan.Plan.{Plan}
 use Rattle.plan_share.specs.Seen.{share_seen}
 
 abbrev pub with_asset : ℕ → List ℕ → List ℕ

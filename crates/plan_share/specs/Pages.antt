@@ -1,19 +1,19 @@
 -- What the books of an asset are read from, the reaches that are kept of a plan's channels, and the choices that are tried.
 use Rattle.std.specs.Prelude.{ℕ, ◌==◌, Bool, true, false, not, ◌&&◌, List, [], ◌∷◌, Option, Some, None, if◌then◌else◌}
 use Rattle.std.specs.Cmp.Lexicographic.{pointwise}
-use Rattle.nitro_bytes.specs.Outcomes.{is_same}
-use Rattle.nitro_bytes.specs.declared.value.AssetOutcome.{AssetOutcome}
-use Rattle.nitro_bytes.specs.declared.value.Dest.TheVariants.{Channel}
-use Rattle.nitro_bytes.specs.declared.value.Item.{Item}
-use Rattle.channel_model.specs.Amounts.{amt}
-use Rattle.channel_calls.specs.declared.view.WorldView.{WorldView}
-use Rattle.funding_value.specs.Shapes.{items_in, list_in}
-use Rattle.funding_value.specs.declared.plan.Plan.{Plan}
-use Rattle.funding_value.specs.declared.plan.Virtual.{Virtual}
-use Rattle.share_model.specs.Books.{Books, Counting, books_under}
-use Rattle.share_model.specs.Funded.{are_funded, at_each}
-use Rattle.share_model.specs.Share.{least_over, worth_under}
-use Rattle.share_model.specs.Worth.{Table, no_reach, with_reach, guarantor, second_amt, left_between}
+use Rattle.channel_values.specs.Outcomes.{is_same}
+use Rattle.channel_values.specs.declared.value.AssetOutcome.{AssetOutcome}
+use Rattle.channel_values.specs.declared.value.Dest.TheVariants.{Channel}
+use Rattle.channel_values.specs.declared.value.Item.{Item}
+use Rattle.channel_values.specs.Amounts.{amt}
+use Rattle.call_history.specs.declared.view.WorldView.{WorldView}
+use Rattle.funding_plans.specs.Shapes.{items_in, list_in}
+use Rattle.funding_plans.specs.declared.plan.Plan.{Plan}
+use Rattle.funding_plans.specs.declared.plan.Virtual.{Virtual}
+use Rattle.share_laws.specs.Books.{Books, Counting, books_under}
+use Rattle.share_laws.specs.Funded.{are_funded, at_each}
+use Rattle.share_laws.specs.Share.{least_over, worth_under}
+use Rattle.share_laws.specs.Worth.{Table, no_reach, with_reach, guarantor, second_amt, left_between}
 use Rattle.plan_share.specs.Seen.{held_seen}
 
 -- of an asset, by this view, where these channels count and the proposals of these are taken

@@ -1,17 +1,17 @@
 -- What a participant can get and whether its plan is funded, by its view, its plan and the states that it signed last.
 use Rattle.std.specs.Prelude.{ℕ, Bool, List, [], ◌∷◌, ◌++◌}
-use Rattle.nitro_bytes.specs.Parts.{StateParts}
-use Rattle.nitro_bytes.specs.declared.value.AssetOutcome.{AssetOutcome}
-use Rattle.deadline_clock.specs.Mode.{mode_at, is_final}
-use Rattle.channel_calls.specs.declared.held_chain.Known.{Known}
-use Rattle.channel_calls.specs.declared.view.ChannelView.{ChannelView}
-use Rattle.channel_calls.specs.declared.view.WorldView.{WorldView}
+use Rattle.channel_values.specs.Parts.{StateParts}
+use Rattle.channel_values.specs.declared.value.AssetOutcome.{AssetOutcome}
+use Rattle.call_history.specs.Mode.{mode_at, is_final}
+use Rattle.call_history.specs.declared.held_chain.Known.{Known}
+use Rattle.call_history.specs.declared.view.ChannelView.{ChannelView}
+use Rattle.call_history.specs.declared.view.WorldView.{WorldView}
 use Rattle.history_view.specs.Views.{view_of, held_amount, paid_amount}
-use Rattle.funding_value.specs.declared.plan.Plan.{Plan}
-use Rattle.share_model.specs.Books.{Counting}
-use Rattle.share_model.specs.Share.{share_of}
-use Rattle.share_model.specs.Funded.{is_funded}
-use Rattle.share_model.specs.Places.{possible_if, counting_of}
+use Rattle.funding_plans.specs.declared.plan.Plan.{Plan}
+use Rattle.share_laws.specs.Books.{Counting}
+use Rattle.share_laws.specs.Share.{share_of}
+use Rattle.share_laws.specs.Funded.{is_funded}
+use Rattle.share_laws.specs.Places.{possible_if, counting_of}
 
 -- what a channel holds of an asset
 abbrev pub held_seen : WorldView → (asset : ℕ) → List ℕ → ℕ

@@ -1,12 +1,12 @@
 -- Whether a plan is funded, in every asset.
 use Rattle.std.specs.Prelude.{◌≡◌, ℕ, Bool, true, ◌&&◌, List}
 use Rattle.std.specs.List.{list_all}
-use Rattle.nitro_bytes.specs.declared.value.AssetOutcome.{AssetOutcome}
-use Rattle.channel_calls.specs.declared.held_chain.Known.{Known}
-use Rattle.channel_calls.specs.declared.view.WorldView.{WorldView}
-use Rattle.funding_value.specs.declared.plan.Plan.{Plan}
-use Rattle.share_model.specs.Books.{Counting}
-use Rattle.share_model.specs.Funded.{is_funded}
+use Rattle.channel_values.specs.declared.value.AssetOutcome.{AssetOutcome}
+use Rattle.call_history.specs.declared.held_chain.Known.{Known}
+use Rattle.call_history.specs.declared.view.WorldView.{WorldView}
+use Rattle.funding_plans.specs.declared.plan.Plan.{Plan}
+use Rattle.share_laws.specs.Books.{Counting}
+use Rattle.share_laws.specs.Funded.{is_funded}
 use Rattle.plan_share.specs.Pages.{or_empty}
 use Rattle.plan_share.specs.Seen.{held_seen, is_funded_seen}
 

@@ -2,14 +2,14 @@
 
 ghost use Rattle.std.specs.Prelude.{◌≡◌, ◌≤◌, ◌<◌, ◌^◌};
 ghost use Rattle.std.specs.Cmp.Lexicographic.{pointwise};
-ghost use Rattle.channel_model.specs.Amounts.{aff};
-ghost use Rattle.nitro_bytes.specs.Outcomes.{total, is_same};
-ghost use Rattle.share_model.specs.Funded.{up_to};
-ghost use Rattle.share_model.specs.Worth.{second_amt};
+ghost use Rattle.channel_values.specs.Amounts.{aff};
+ghost use Rattle.channel_values.specs.Outcomes.{total, is_same};
+ghost use Rattle.share_laws.specs.Funded.{up_to};
+ghost use Rattle.share_laws.specs.Worth.{second_amt};
 ghost use Rattle.plan_share.specs.Pages.{is_same_item};
 
-use nitro_bytes::{Dest, Item};
-use outcome_targets::amt;
+use channel_values::{Dest, Item};
+use funding_plans::amt;
 
 /// What a reach affords a destination.
 pub(crate) fn afforded(items: &[Item], reach: u128, to: &Dest) -> u64

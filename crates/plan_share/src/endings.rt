@@ -4,21 +4,20 @@ ghost use Rattle.std.specs.Prelude.{◌≡◌, ◌++◌, ◌∷◌, [], IfOk, On
 ghost use Rattle.std.specs.Option.{option_copied};
 ghost use Rattle.std.specs.Result.{result_ok};
 ghost use Rattle.std.specs.Str.{bytes_eq};
-ghost use Rattle.nitro_bytes.specs.Reading.{outcome_of};
-ghost use Rattle.deadline_clock.specs.Mode.{mode_at, is_final};
-ghost use Rattle.channel_calls.specs.Flows.{is_among};
+ghost use Rattle.channel_values.specs.Reading.{outcome_of};
+ghost use Rattle.call_history.specs.Mode.{mode_at, is_final};
+ghost use Rattle.call_history.specs.Flows.{is_among};
 ghost use Rattle.history_view.specs.Views.{view_of};
-ghost use Rattle.share_model.specs.Books.{one_of, outcome_in, counts_in};
-ghost use Rattle.share_model.specs.Places.{proposed, listed, outcomes_of, counting_of};
+ghost use Rattle.share_laws.specs.Books.{one_of, outcome_in, counts_in};
+ghost use Rattle.share_laws.specs.Places.{proposed, listed, outcomes_of, counting_of};
 ghost use Rattle.plan_share.specs.Pages.{or_empty, is_same_in, differs};
 ghost use Rattle.plan_share.specs.Seen.{possible_seen, counting_seen};
 
 use crate::amounts::{are_same_dests, are_same_items};
-use channel_calls::{Known, WorldView};
-use deadline_clock::{Standing, mode};
+use call_history::{Known, Standing, WorldView, mode};
+use channel_values::{AssetOutcome, ByteFault, Name, NoMemory, Outcome, read_outcome};
+use funding_plans::{items_in, list_in};
 use history_view::view_of;
-use nitro_bytes::{AssetOutcome, ByteFault, Name, NoMemory, Outcome, read_outcome};
-use outcome_targets::{items_in, list_in};
 use std::alloc::Global;
 use std::marker::Model;
 
@@ -31,7 +30,7 @@ pub(crate) struct Ending<'a> {
 }
 
 impl<'a> Model for Ending<'a> {
-    ghost use Rattle.share_model.specs.Books.{Counting};
+    ghost use Rattle.share_laws.specs.Books.{Counting};
 
     ghost Value = { Counting };
 

@@ -2,11 +2,11 @@
 
 ghost use Rattle.std.specs.Prelude.{◌≡◌, ◌+◌, ◌&&◌, ◌↔◌, nat_le, IfOk, IsTrue};
 ghost use Rattle.std.specs.List.{list_all};
-ghost use Rattle.channel_model.specs.Amounts.{amt, has};
-ghost use Rattle.nitro_bytes.specs.declared.value.Dest.TheVariants.{Person, Channel};
-ghost use Rattle.funding_value.specs.Parts.{own_ledger, own_guarantor};
-ghost use Rattle.funding_value.specs.declared.plan.Part.TheVariants as parts;
-ghost use Rattle.share_model.specs.Funded as funded;
+ghost use Rattle.channel_values.specs.Amounts.{amt, has};
+ghost use Rattle.channel_values.specs.declared.value.Dest.TheVariants.{Person, Channel};
+ghost use Rattle.funding_plans.specs.Parts.{own_ledger, own_guarantor};
+ghost use Rattle.funding_plans.specs.declared.plan.Part.TheVariants as parts;
+ghost use Rattle.share_laws.specs.Funded as funded;
 ghost use Rattle.plan_share.specs.Pages.{books_of, reaches, left_of, funded_among};
 ghost use Rattle.plan_share.specs.Whole.{AreFunded, funded_in, passes_each, passes_both};
 
@@ -15,10 +15,9 @@ use crate::endings::{Ending, read_endings};
 use crate::page::Page;
 use crate::reach::reach_in;
 use crate::worth::with_taken;
-use channel_calls::{Known, WorldView};
-use funding_value::{Part, Plan, Virtual};
-use nitro_bytes::{AssetOutcome, Dest, Name, NoMemory};
-use outcome_targets::has;
+use call_history::{Known, WorldView};
+use channel_values::{AssetOutcome, Dest, Name, NoMemory};
+use funding_plans::{Part, Plan, Virtual, has};
 use std::alloc::Global;
 
 impl<'a> Page<'a> {

@@ -5,10 +5,10 @@ ghost use Rattle.std.specs.List.{list_any};
 ghost use Rattle.plan_share.specs.Owed as owing;
 
 use crate::worth::share;
-use channel_calls::{ChannelView, Known, WorldView};
-use funding_value::Plan;
+use call_history::{ChannelView, Known, WorldView};
+use channel_values::NoMemory;
+use funding_plans::Plan;
 use history_view::paid_amount;
-use nitro_bytes::NoMemory;
 use std::alloc::Global;
 
 fn is_in(assets: &[u32], asset: u32) -> bool

@@ -1,17 +1,17 @@
 //! The books of an asset under a choice.
 
 ghost use Rattle.std.specs.Prelude.{◌≡◌, ◌<◌, ◌^◌};
-ghost use Rattle.channel_model.specs.Amounts.{amt};
-ghost use Rattle.nitro_bytes.specs.Outcomes.{total};
-ghost use Rattle.share_model.specs.Worth as worth;
+ghost use Rattle.channel_values.specs.Amounts.{amt};
+ghost use Rattle.channel_values.specs.Outcomes.{total};
+ghost use Rattle.share_laws.specs.Worth as worth;
 ghost use Rattle.plan_share.specs.Pages.{taking, books_of};
 
 use crate::amounts::afforded;
 use crate::endings::{Ending, counts_in, outcome_in};
-use channel_calls::WorldView;
+use call_history::WorldView;
+use channel_values::{Dest, Item, Name};
+use funding_plans::{amt, items_in, list_in};
 use history_view::held_amount;
-use nitro_bytes::{Dest, Item, Name};
-use outcome_targets::{amt, items_in, list_in};
 use std::marker::Model;
 
 /// The books of an asset: what the view says is held, and what the channels that count end with where the proposals of

@@ -1,15 +1,14 @@
 //! What each channel of a plan can reach.
 
 ghost use Rattle.std.specs.Prelude.{◌≡◌, ◌<◌, ◌^◌, true, OnOk};
-ghost use Rattle.funding_value.specs.Parts.{own_guarantor};
-ghost use Rattle.share_model.specs.Worth as worth;
+ghost use Rattle.funding_plans.specs.Parts.{own_guarantor};
+ghost use Rattle.share_laws.specs.Worth as worth;
 ghost use Rattle.plan_share.specs.Pages.{books_of, reaches, left_of};
 
 use crate::amounts::second_amount;
 use crate::page::Page;
-use funding_value::{Part, Virtual};
-use nitro_bytes::{Dest, Name, NoMemory};
-use outcome_targets::has;
+use channel_values::{Dest, Name, NoMemory};
+use funding_plans::{Part, Virtual, has};
 
 /// The reach of a channel by these rows, of which the newest comes first.
 pub(crate) fn reach_in(rows: &[(Name, u128)], channel: &Name) -> u128

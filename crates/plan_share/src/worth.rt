@@ -1,17 +1,17 @@
 //! What a participant can get of an asset.
 
 ghost use Rattle.std.specs.Prelude.{◌≡◌, ◌≤◌, ◌<◌, ◌*◌, ◌^◌, ◌∷◌, length, IfOk};
-ghost use Rattle.funding_value.specs.declared.plan.Part.TheVariants as parts;
-ghost use Rattle.share_model.specs.Worth as worth;
+ghost use Rattle.funding_plans.specs.declared.plan.Part.TheVariants as parts;
+ghost use Rattle.share_laws.specs.Worth as worth;
 ghost use Rattle.plan_share.specs.Pages.{books_of, reaches, least_among};
 ghost use Rattle.plan_share.specs.Seen.{share_seen};
 
 use crate::endings::{Ending, read_endings};
 use crate::page::Page;
-use channel_calls::{Known, WorldView};
-use funding_value::{Part, Plan, Virtual};
+use call_history::{Known, WorldView};
+use channel_values::{Dest, Name, NoMemory};
+use funding_plans::{Part, Plan, Virtual};
 use history_view::paid_amount;
-use nitro_bytes::{Dest, Name, NoMemory};
 use std::alloc::Global;
 
 impl<'a> Page<'a> {

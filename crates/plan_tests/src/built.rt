@@ -1,10 +1,10 @@
 //! Outcomes, plans and views that are built from rows of plain values.
 
-use channel_calls::{ChannelView, HeldChain, WorldView};
-use funding_value::{Part, Plan, Virtual};
-use nitro_bytes::{
+use call_history::{ChannelView, HeldChain, WorldView};
+use channel_values::{
     AssetOutcome, ByteFault, Chain, Dest, Fixed, Item, Listed, Name, Outcome, Shape, State,
 };
+use funding_plans::{Part, Plan, Virtual};
 use std::alloc::Global;
 
 pub(super) const A: Name = [1; 32];

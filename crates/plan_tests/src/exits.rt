@@ -1,10 +1,10 @@
 //! The exit of one person from one channel.
 
 use crate::built::{A, Body, CHANNEL, TO_A, TO_B, held_with, outcome_of, plan_of, view_of};
-use channel_calls::{Call, ChannelView, WorldView};
-use exit_script::{ExitFault, exit_calls};
-use funding_value::Part;
-use nitro_bytes::{ByteFault, Listed, Name};
+use call_history::{Call, ChannelView, WorldView};
+use channel_exits::{ExitFault, exit_calls};
+use channel_values::{ByteFault, Listed, Name};
+use funding_plans::Part;
 use std::alloc::Global;
 
 /// The place of the only item that is transferred, if any, or the channel that isn't final.

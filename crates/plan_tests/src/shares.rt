@@ -4,9 +4,9 @@ use crate::built::{
     A, B, Body, CHANNEL, GUARANTOR_A, GUARANTOR_B, I, JOINT, LEDGER_A, LEDGER_B, TO_A, TO_B, TO_I,
     VIRTUAL, outcome_of, plan_of, state_of, view_of,
 };
-use channel_calls::{ChannelView, Known, WorldView};
-use funding_value::{Part, Plan, Virtual};
-use nitro_bytes::{ByteFault, Dest, Listed, Name, NoMemory, State};
+use call_history::{ChannelView, Known, WorldView};
+use channel_values::{ByteFault, Dest, Listed, Name, NoMemory, State};
+use funding_plans::{Part, Plan, Virtual};
 use plan_share::{is_funded, is_owed, share};
 use std::alloc::Global;
 

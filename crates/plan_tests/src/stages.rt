@@ -4,11 +4,9 @@ use crate::built::{
     A, B, Body, CHANNEL, GUARANTOR_A, GUARANTOR_B, I, JOINT, LEDGER_A, LEDGER_B, OPENING, TO_A,
     TO_B, VIRTUAL, held_with, outcome_of, plan_of, state_of, view_of,
 };
-use channel_calls::{Call, HeldChain, Place, WorldView};
-use funding_value::{Facts, Goal, Part, Plan};
-use nitro_bytes::{ByteFault, Listed, Name, NoMemory, Outcome, State};
-use outcome_targets::{Aim, AimKind};
-use stage_rules::seat_with;
+use call_history::{Call, HeldChain, Place, WorldView};
+use channel_values::{ByteFault, Listed, Name, NoMemory, Outcome, State};
+use funding_plans::{Aim, AimKind, Facts, Goal, Part, Plan, seat_with};
 use std::alloc::Global;
 
 /// A channel, its people, the person's position among them, and the turn that comes next.
@@ -262,7 +260,7 @@ fn signed_in(
     channel: &Name,
 ) -> Result<Answer, ByteFault> {
     match (asked, facts.plan.parts.as_slice()) {
-        (Asked::Plan, _) => told(plan_stages::wanted(alloc, facts, channel)),
+        (Asked::Plan, _) => told(stage_tables::wanted(alloc, facts, channel)),
         (Asked::Ledger, [.., part]) => told(ledger_channel::wanted(alloc, part, facts, channel)),
         (Asked::Virtual, [.., part]) => told(virtual_channel::wanted(alloc, part, facts, channel)),
         _ => ruled(alloc, facts, asked),

@@ -1,8 +1,8 @@
 //! Outcomes that are aimed at.
 
 use crate::built::{A, B, Body, CHANNEL, I, JOINT, TO_A, TO_B, outcome_of};
-use nitro_bytes::{ByteFault, NoMemory, Outcome, Shape};
-use outcome_targets::{Aim, AimKind, Changed, Child, Terms};
+use channel_values::{ByteFault, NoMemory, Outcome, Shape};
+use funding_plans::{Aim, AimKind, Changed, Child, Terms};
 use std::alloc::Global;
 
 const CHILD: Child = Child {

@@ -2,11 +2,11 @@
 use Rattle.std.proofs.Common.{◌≡◌, ℕ, suc, Bool, true, false, cond, List, [], ◌∷◌, length, refl, sym, ◌∙◌, ap, subst, arith}
 use Rattle.std.specs.Prelude.{◌==◌, ◌<◌}
 use Rattle.std.specs.List.{AllByRecursion}
-use Rattle.nitro_bytes.specs.Parts.{FixedParts, IsFixed}
-use Rattle.channel_calls.specs.declared.event.Event.{Event}
-use Rattle.net_model.specs.Journals.{Line, lines}
-use Rattle.net_laws.specs.Valid.{AddsFixed}
-use Rattle.reported_node.specs.Telling.{AreTold, HaveFixed}
+use Rattle.channel_values.specs.Parts.{FixedParts, IsFixed}
+use Rattle.call_history.specs.declared.event.Event.{Event}
+use Rattle.channel_safety.specs.Journals.{Line, lines}
+use Rattle.network.specs.Valid.{AddsFixed}
+use Rattle.node_guarantees.specs.Telling.{AreTold, HaveFixed}
 
 -- what the line adds that has so many before it
 pub adds_in : List Line → ℕ → List FixedParts

@@ -2,23 +2,23 @@
 use Rattle.std.proofs.Common.{◌≡◌, Bool, true, false, List, [], ◌∷◌, ℕ, sym, ◌∙◌, ap, subst, refl}
 use Rattle.std.specs.Prelude.{IsTrue, ◌↔◌, Option, reverse, map, flat_map}
 use Rattle.std.proofs.lemmas.List.{reverse-reverse}
-use Rattle.channel_calls.specs.History.{flows_of, newest_first}
-use Rattle.channel_calls.specs.declared.entry.Entry.{Entry}
-use Rattle.flow_balances.specs.Receipts.{assets_of}
-use Rattle.record_rules.specs.Sums.{sums_of}
-use Rattle.nitro_bytes.specs.Parts.{FixedParts}
+use Rattle.call_history.specs.History.{flows_of, newest_first}
+use Rattle.call_history.specs.declared.entry.Entry.{Entry}
+use Rattle.asset_holder.specs.Receipts.{assets_of}
+use Rattle.run_record.specs.Sums.{sums_of}
+use Rattle.channel_values.specs.Parts.{FixedParts}
 use Rattle.premises.specs.declared.journal.Journal.{Journal}
-use Rattle.record_bytes.specs.declared.run_record.Ending.{Ending}
-use Rattle.reported_node.specs.Endings.{ending_of}
+use Rattle.run_record.specs.declared.run_record.Ending.{Ending}
+use Rattle.node_guarantees.specs.Endings.{ending_of}
 use Rattle.report_text.specs.declared.report.Judged.{Judged}
 use Rattle.report_text.specs.declared.report.Load.{Load}
 use Rattle.report_text.specs.declared.report.Report.{Report}
-use Rattle.node_model.specs.Exiting.{until_exit}
+use Rattle.channel_node.specs.Exiting.{until_exit}
 use Rattle.report_text.specs.declared.report.Share.{Share}
 use Rattle.script_play.specs.Play.{SceneOf}
-use Rattle.net_party.specs.Ways.{Ways}
-use Rattle.net_party.specs.declared.command.Command.{Command}
-use Rattle.reported_node.specs.Promised.{Pairwise, share_at_end, share_after}
+use Rattle.network.specs.Ways.{Ways}
+use Rattle.network.specs.declared.command.Command.{Command}
+use Rattle.node_guarantees.specs.Promised.{Pairwise, share_at_end, share_after}
 use Rattle.play_report.specs.Reported.{IsJudged, AreJudged, shares_of, exits_after, events, Tells}
 
 same-word : (a b : Bool) (Q : Type 0) → IsTrue a ↔ Q → IsTrue b ↔ Q → a ≡ b

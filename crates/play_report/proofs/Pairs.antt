@@ -3,8 +3,8 @@ use Rattle.std.proofs.Common.{◌≡◌, ◌+◌, ◌<◌, ℕ, List, [], ◌∷
 use Rattle.std.specs.Prelude.{reverse}
 use Rattle.std.specs.List.{AllByRecursion}
 use Rattle.std.proofs.lemmas.List.{take_more, reverse-append}
-use Rattle.net_model.specs.Journals.{In}
-use Rattle.reported_node.specs.Promised.{Pairwise}
+use Rattle.channel_safety.specs.Journals.{In}
+use Rattle.node_guarantees.specs.Promised.{Pairwise}
 
 pairwise-push : {A B : Type 0} (R : A → B → Type 0) (xs : List A) (ys : List B) (x : A) (y : B) → Pairwise R xs ys → R x y → Pairwise R (xs ++ x ∷ []) (ys ++ y ∷ [])
 pairwise-push R [] [] x y all r = (r, tt)

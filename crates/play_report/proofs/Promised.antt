@@ -3,51 +3,51 @@ use Rattle.std.proofs.Common.{◌≡◌, ℕ, Bool, true, false, cond, List, [],
 use Rattle.std.specs.Prelude.{All, Option, Some, None}
 use Rattle.std.specs.List.{AllByRecursion}
 use Rattle.std.proofs.lemmas.List.{length-reverse}
-use Rattle.nitro_bytes.specs.Parts.{FixedParts}
-use Rattle.channel_name.specs.Collisions.{NoneCollide}
-use Rattle.channel_name.specs.Digests.{name_of_person, person_string}
-use Rattle.channel_calls.specs.History.{Legal, flows_of, newest_first}
-use Rattle.channel_calls.specs.declared.entry.Entry.{Entry}
-use Rattle.flow_balances.specs.Receipts.{assets_of}
-use Rattle.funding_value.specs.Known.{FactsOf}
-use Rattle.net_model.proofs.Members.{In-map, In-flat_map, joined}
-use Rattle.net_model.specs.Hashed.{of_fixed, hashed}
-use Rattle.net_model.specs.Honest.{Honest}
-use Rattle.net_model.specs.Journals.{In, Line, lines, opened, is_followed}
-use Rattle.net_model.specs.Premises.{Unforged, InTime}
-use Rattle.net_model.specs.Occurring.{AreValid}
-use Rattle.net_model.specs.Valid.{IsValidEntry, IsValidEvent}
-use Rattle.net_party.specs.Ways.{Ways}
-use Rattle.net_party.specs.declared.command.Command.{Command}
-use Rattle.net_world.specs.Members.{MemberOf}
-use Rattle.net_laws.proofs.Real.{network-safe, network-cleared}
-use Rattle.net_laws.proofs.Valid.{events-valid}
-use Rattle.node_model.specs.Named.{named_by, named_in}
-use Rattle.node_laws.proofs.Bridging.{In-lines}
-use Rattle.node_model.specs.Openings.{adds, opened_by, takes_part}
-use Rattle.node_model.specs.Places.{Told, told_by, line_of, lines_of}
-use Rattle.node_model.specs.Exiting.{until_exit}
-use Rattle.play_laws.proofs.Played.{plays_are_kept, plays_follow_commands}
+use Rattle.channel_values.specs.Parts.{FixedParts}
+use Rattle.channel_values.specs.Collisions.{NoneCollide}
+use Rattle.channel_values.specs.Digests.{name_of_person, person_string}
+use Rattle.call_history.specs.History.{Legal, flows_of, newest_first}
+use Rattle.call_history.specs.declared.entry.Entry.{Entry}
+use Rattle.asset_holder.specs.Receipts.{assets_of}
+use Rattle.funding_plans.specs.Known.{FactsOf}
+use Rattle.channel_safety.proofs.Members.{In-map, In-flat_map, joined}
+use Rattle.channel_safety.specs.Hashed.{of_fixed, hashed}
+use Rattle.channel_safety.specs.Honest.{Honest}
+use Rattle.channel_safety.specs.Journals.{In, Line, lines, opened, is_followed}
+use Rattle.channel_safety.specs.Premises.{Unforged, InTime}
+use Rattle.channel_safety.specs.Occurring.{AreValid}
+use Rattle.channel_safety.specs.Valid.{IsValidEntry, IsValidEvent}
+use Rattle.network.specs.Ways.{Ways}
+use Rattle.network.specs.declared.command.Command.{Command}
+use Rattle.network.specs.Members.{MemberOf}
+use Rattle.network.proofs.Real.{network-safe, network-cleared}
+use Rattle.network.proofs.Valid.{events-valid}
+use Rattle.channel_node.specs.Named.{named_by, named_in}
+use Rattle.channel_node.proofs.Bridging.{In-lines}
+use Rattle.channel_node.specs.Openings.{adds, opened_by, takes_part}
+use Rattle.channel_node.specs.Places.{Told, told_by, line_of, lines_of}
+use Rattle.channel_node.specs.Exiting.{until_exit}
+use Rattle.script_play.proofs.Played.{plays_are_kept, plays_follow_commands}
 use Rattle.premises.proofs.Distincts.{suffices}
 use Rattle.premises.specs.Collision.{DistinctWith}
 use Rattle.premises.specs.Telling.{strings_opened}
 use Rattle.premises.specs.declared.journal.Journal.{Journal}
-use Rattle.record_bytes.specs.declared.run_record.Ending.{Ending}
-use Rattle.reported_node.specs.Challenges.{CallsOwnChallenges}
-use Rattle.reported_node.specs.Endings.{facts_at_end, ending_of, EndsWell}
+use Rattle.run_record.specs.declared.run_record.Ending.{Ending}
+use Rattle.node_guarantees.specs.Challenges.{CallsOwnChallenges}
+use Rattle.node_guarantees.specs.Endings.{facts_at_end, ending_of, EndsWell}
 use Rattle.report_text.specs.declared.report.Judged.{Judged}
 use Rattle.report_text.specs.declared.report.Load.{Load}
 use Rattle.report_text.specs.declared.report.Report.{Report}
 use Rattle.report_text.specs.declared.report.Share.{Share}
-use Rattle.script_names.specs.Commands.{command_of}
+use Rattle.step_meanings.specs.Commands.{command_of}
 use Rattle.script_play.specs.Play.{SceneOf, play}
-use Rattle.script_rules.specs.Bounds.{Fits}
-use Rattle.script_rules.specs.declared.step.Step.{Step}
-use Rattle.support_chain.specs.Real.{real}
-use Rattle.reported_node.specs.Promised.{Pairwise, share_at_end, share_after, IsHonest, StaysSafe, FewChallengesAreCleared, SignsFairly, KeepsShare, IsPaidOnExit}
-use Rattle.reported_node.proofs.Once.{is_honest}
-use Rattle.reported_node.specs.Telling.{AreTold, HaveFixed, LinesAreTold, IsToldBy, TellsCommands, amount_then, AreThose, SharesAreReal, ExitsAreReal, FactsAreReal, OwnersGoOn, OwnersCallTheirOwn, JournalsAreByRules, KeepsIf, KeepsShares}
-use Rattle.world_laws.specs.Standing.{AreKept, IsWorld}
+use Rattle.script_steps.specs.Bounds.{Fits}
+use Rattle.script_steps.specs.declared.step.Step.{Step}
+use Rattle.support_rules.specs.Real.{real}
+use Rattle.node_guarantees.specs.Promised.{Pairwise, share_at_end, share_after, IsHonest, StaysSafe, FewChallengesAreCleared, SignsFairly, KeepsShare, IsPaidOnExit}
+use Rattle.node_guarantees.proofs.Once.{is_honest}
+use Rattle.node_guarantees.specs.Telling.{AreTold, HaveFixed, LinesAreTold, IsToldBy, TellsCommands, amount_then, AreThose, SharesAreReal, ExitsAreReal, FactsAreReal, OwnersGoOn, OwnersCallTheirOwn, JournalsAreByRules, KeepsIf, KeepsShares}
+use Rattle.network.specs.Standing.{AreKept, IsWorld}
 use Rattle.play_report.proofs.Lines.{adds_in, lines_told, adds_fixed}
 use Rattle.play_report.proofs.Pairs.{all_reverse, in_all}
 use Rattle.play_report.specs.Members.{IsMade}

@@ -1,21 +1,21 @@
 -- The report of a scene, by what its nodes tell.
 use Rattle.std.specs.Prelude.{◌≡◌, ℕ, Bool, List, map, flat_map, length, Option}
 use Rattle.std.specs.List.{AllByRecursion}
-use Rattle.channel_calls.specs.History.{flows_of, newest_first}
-use Rattle.channel_calls.specs.declared.entry.Entry.{Entry}
-use Rattle.flow_balances.specs.Receipts.{assets_of}
-use Rattle.funding_value.specs.Known.{FactsOf}
-use Rattle.record_rules.specs.Sums.{sums_of}
-use Rattle.net_model.specs.Valid.{IsValidEntry, IsValidEvent}
-use Rattle.net_party.specs.Ways.{Ways}
-use Rattle.net_world.specs.Members.{MemberOf}
+use Rattle.call_history.specs.History.{flows_of, newest_first}
+use Rattle.call_history.specs.declared.entry.Entry.{Entry}
+use Rattle.asset_holder.specs.Receipts.{assets_of}
+use Rattle.funding_plans.specs.Known.{FactsOf}
+use Rattle.run_record.specs.Sums.{sums_of}
+use Rattle.channel_safety.specs.Valid.{IsValidEntry, IsValidEvent}
+use Rattle.network.specs.Ways.{Ways}
+use Rattle.network.specs.Members.{MemberOf}
 use Rattle.play_report.specs.Reported.{AreJudged, journal_of}
 use Rattle.play_report.specs.Shares.{HasFollowed, known_shares, known_exits, known_ending}
 use Rattle.report_text.specs.declared.report.Load.{Load}
 use Rattle.report_text.specs.declared.report.Report.{Report}
-use Rattle.script_names.specs.declared.names.Names.{Names}
+use Rattle.step_meanings.specs.declared.names.Names.{Names}
 use Rattle.script_play.specs.Play.{SceneOf}
-use Rattle.reported_node.specs.Telling.{HaveFixed}
+use Rattle.node_guarantees.specs.Telling.{HaveFixed}
 
 -- what the commands of the nodes add to their plans are fixed parts
 abbrev pub AllFixed : {P : Type 0} → Ways P → List (MemberOf P) → Type 0

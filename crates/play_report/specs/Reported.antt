@@ -1,19 +1,19 @@
 -- What a report tells of a play, and what it promises of each person with a node.
 use Rattle.std.specs.Prelude.{◌≡◌, ℕ, true, List, [], map, flat_map, Option, Some, None, IsTrue, ◌↔◌}
-use Rattle.nitro_bytes.specs.Parts.{FixedParts}
-use Rattle.channel_name.specs.Digests.{name_of_person}
-use Rattle.channel_calls.specs.History.{flows_of, newest_first}
-use Rattle.channel_calls.specs.declared.entry.Entry.{Entry}
-use Rattle.flow_balances.specs.Receipts.{assets_of}
-use Rattle.record_rules.specs.Sums.{sums_of}
-use Rattle.net_model.specs.Hashed.{of_fixed}
-use Rattle.net_model.specs.Journals.{In}
-use Rattle.net_party.specs.Ways.{Ways}
-use Rattle.net_party.specs.declared.command.Command.{Command}
-use Rattle.net_world.specs.Members.{MemberOf}
-use Rattle.node_model.specs.Named.{named_in}
-use Rattle.node_model.specs.Places.{Told, told_by, lines_of}
-use Rattle.node_model.specs.Exiting.{until_exit}
+use Rattle.channel_values.specs.Parts.{FixedParts}
+use Rattle.channel_values.specs.Digests.{name_of_person}
+use Rattle.call_history.specs.History.{flows_of, newest_first}
+use Rattle.call_history.specs.declared.entry.Entry.{Entry}
+use Rattle.asset_holder.specs.Receipts.{assets_of}
+use Rattle.run_record.specs.Sums.{sums_of}
+use Rattle.channel_safety.specs.Hashed.{of_fixed}
+use Rattle.channel_safety.specs.Journals.{In}
+use Rattle.network.specs.Ways.{Ways}
+use Rattle.network.specs.declared.command.Command.{Command}
+use Rattle.network.specs.Members.{MemberOf}
+use Rattle.channel_node.specs.Named.{named_in}
+use Rattle.channel_node.specs.Places.{Told, told_by, lines_of}
+use Rattle.channel_node.specs.Exiting.{until_exit}
 use Rattle.premises.specs.Collision.{Distinct, DistinctWith}
 use Rattle.premises.specs.Telling.{strings_opened}
 use Rattle.premises.specs.Persons.{IsUnforged, IsInTime}
@@ -22,12 +22,12 @@ use Rattle.report_text.specs.declared.report.Judged.{Judged}
 use Rattle.report_text.specs.declared.report.Load.{Load}
 use Rattle.report_text.specs.declared.report.Report.{Report}
 use Rattle.report_text.specs.declared.report.Share.{Share}
-use Rattle.script_names.specs.Commands.{command_of}
+use Rattle.step_meanings.specs.Commands.{command_of}
 use Rattle.script_play.specs.Play.{SceneOf, play}
-use Rattle.script_rules.specs.declared.step.Step.{Step}
-use Rattle.reported_node.specs.Challenges.{CallsOwnChallenges}
-use Rattle.reported_node.specs.Endings.{ending_of, EndsWell}
-use Rattle.reported_node.specs.Promised.{Pairwise, share_at_end, share_after, IsHonest, StaysSafe, FewChallengesAreCleared, SignsFairly, KeepsShare, IsPaidOnExit}
+use Rattle.script_steps.specs.declared.step.Step.{Step}
+use Rattle.node_guarantees.specs.Challenges.{CallsOwnChallenges}
+use Rattle.node_guarantees.specs.Endings.{ending_of, EndsWell}
+use Rattle.node_guarantees.specs.Promised.{Pairwise, share_at_end, share_after, IsHonest, StaysSafe, FewChallengesAreCleared, SignsFairly, KeepsShare, IsPaidOnExit}
 
 -- ---- premises
 

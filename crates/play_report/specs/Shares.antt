@@ -1,12 +1,12 @@
 -- What a report takes from nodes of the shares of their people, and of how these ended.
 use Rattle.std.specs.Prelude.{◌≡◌, ℕ, Bool, false, List, [], map, Option, Some, None}
-use Rattle.channel_name.specs.Digests.{name_of_person}
-use Rattle.funding_value.specs.Known.{FactsOf}
-use Rattle.net_party.specs.Ways.{Ways}
+use Rattle.channel_values.specs.Digests.{name_of_person}
+use Rattle.funding_plans.specs.Known.{FactsOf}
+use Rattle.network.specs.Ways.{Ways}
 use Rattle.play_report.specs.Reported.{shares_of}
-use Rattle.record_bytes.specs.declared.run_record.Ending.{Ending}
+use Rattle.run_record.specs.declared.run_record.Ending.{Ending}
 use Rattle.report_text.specs.declared.report.Share.{Share}
-use Rattle.reported_node.specs.Telling.{amount_then}
+use Rattle.node_guarantees.specs.Telling.{amount_then}
 
 -- the amount of each of these assets, 0 where there is none
 abbrev pub exits_for : (person : List ℕ) → (assets : List ℕ) → List (ℕ × ℕ) → List Share

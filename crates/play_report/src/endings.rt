@@ -3,14 +3,12 @@
 ghost use Rattle.std.specs.Prelude.{◌≡◌, map, IfOk};
 ghost use Rattle.play_report.specs.Shares.{known_amounts, known_ending};
 
-use channel_calls::{HeldChain, Known};
-use channel_name::person_name;
-use funding_value::Plan;
-use net_party::Party;
-use net_world::Member;
-use nitro_bytes::{Listed, NoMemory};
-use record_bytes::Ending;
-use reported_node::ReportedNode;
+use call_history::{HeldChain, Known};
+use channel_values::{Listed, NoMemory, person_name};
+use funding_plans::Plan;
+use network::{Member, Party};
+use node_guarantees::ReportedNode;
+use run_record::Ending;
 use std::alloc::Global;
 
 fn copied_plan(plan: &Plan) -> Result<Plan, NoMemory>

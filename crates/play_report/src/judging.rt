@@ -5,9 +5,8 @@ ghost use Rattle.premises.specs.declared.journal.Journal.{Journal as AJournal};
 ghost use Rattle.premises.specs.Collision.{Distinct};
 ghost use Rattle.play_report.specs.Reported.{IsJudged, AreJudged};
 
-use channel_calls::Entry;
-use channel_name::person_name;
-use nitro_bytes::NoMemory;
+use call_history::Entry;
+use channel_values::{NoMemory, person_name};
 use premises::{Journal, distinct, is_in_time, is_unforged};
 use report_text::Judged;
 use std::alloc::Global;

@@ -2,13 +2,13 @@
 
 ghost use Rattle.std.specs.Prelude.{◌≡◌, ◌≤◌, All, IfOk, OnOk, length, map, flat_map};
 ghost use Rattle.std.specs.List.{AllByRecursion};
-ghost use Rattle.channel_calls.specs.History.{Legal, flows_of, newest_first};
-ghost use Rattle.flow_balances.specs.Receipts.{assets_of};
-ghost use Rattle.record_rules.specs.Sums.{sums_of};
-ghost use Rattle.net_model.specs.Valid.{IsValidEvent};
-ghost use Rattle.support_chain.specs.Real.{real};
+ghost use Rattle.call_history.specs.History.{Legal, flows_of, newest_first};
+ghost use Rattle.asset_holder.specs.Receipts.{assets_of};
+ghost use Rattle.run_record.specs.Sums.{sums_of};
+ghost use Rattle.channel_safety.specs.Valid.{IsValidEvent};
+ghost use Rattle.support_rules.specs.Real.{real};
 ghost use Rattle.script_play.specs.Play.{SceneOf};
-ghost use Rattle.script_rules.specs.Bounds.{Fits, persons_of, rounds_of, signers_of};
+ghost use Rattle.script_steps.specs.Bounds.{Fits, persons_of, rounds_of, signers_of};
 ghost use Rattle.play_report.specs.Members.{AllFixed, AllFollowed, ArePartsOf, IsMade};
 ghost use Rattle.play_report.specs.Reported.{journal_of, IsPlayed};
 ghost use Rattle.play_report.specs.Shares.{known_shares, known_exits, known_ending};
@@ -17,20 +17,19 @@ use crate::endings::endings_of;
 use crate::judging::judge_all;
 use crate::sharing::{exits_of, have_followed, shares_of};
 use crate::walking::{journals_are_valid, journals_of, openings_are_fixed};
-use channel_calls::Entry;
-use net_model::entries_are_valid;
-use net_world::{Docket, Member};
-use nitro_bytes::{Dest, Label, Listed, NoMemory};
+use call_history::Entry;
+use channel_safety::entries_are_valid;
+use channel_values::{Dest, Label, Listed, NoMemory};
+use lms_signatures::Signer;
+use network::{Docket, Member};
+use node_guarantees::ReportedNode;
 use premises::Journal;
-use record_bytes::{Ending, Sum};
-use record_rules::sums_of;
 use report_text::{Load, Report, Share, assets_of, balances_of};
-use reported_node::ReportedNode;
-use script_names::Names;
+use run_record::{Ending, Sum, sums_of};
 use script_play::{Scene, play};
-use script_rules::{STEP_LIMIT, Step};
-use sign_index::Signer;
+use script_steps::{STEP_LIMIT, Step};
 use std::alloc::Global;
+use step_meanings::Names;
 
 /// What is told of the people with nodes, in their order: their journals, what each can get of each asset, what it could
 /// when it was commanded to exit, and how it ended.

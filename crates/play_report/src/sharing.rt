@@ -3,14 +3,12 @@
 ghost use Rattle.std.specs.Prelude.{◌≡◌, ◌++◌, flat_map, IfOk, OnOk, IsTrue};
 ghost use Rattle.play_report.specs.Members.{AllFollowed};
 ghost use Rattle.play_report.specs.Shares.{HasFollowed, known_shares, exits_for, known_exits};
-ghost use Rattle.reported_node.specs.Telling.{amount_then};
+ghost use Rattle.node_guarantees.specs.Telling.{amount_then};
 
-use channel_name::person_name;
-use net_party::Party;
-use net_world::Member;
-use nitro_bytes::{Name, NoMemory};
+use channel_values::{Name, NoMemory, person_name};
+use network::{Member, Party};
+use node_guarantees::ReportedNode;
 use report_text::Share;
-use reported_node::ReportedNode;
 use std::alloc::Global;
 
 fn has_followed<P: ReportedNode>(node: &P, count: usize) -> bool

@@ -2,17 +2,16 @@
 
 ghost use Rattle.std.specs.Prelude.{◌≡◌, map, IfOk};
 ghost use Rattle.std.specs.List.{AllByRecursion};
-ghost use Rattle.net_model.specs.Valid.{IsValidEvent};
+ghost use Rattle.channel_safety.specs.Valid.{IsValidEvent};
 ghost use Rattle.play_report.specs.Members.{AllFixed};
 ghost use Rattle.play_report.specs.Reported.{journal_of};
 
-use channel_calls::{Event, copy_event};
-use net_model::events_are_valid;
-use net_party::Party;
-use net_world::Member;
-use nitro_bytes::{Listed, NoMemory};
+use call_history::{Event, copy_event};
+use channel_safety::events_are_valid;
+use channel_values::{Listed, NoMemory};
+use network::{Member, Party};
+use node_guarantees::ReportedNode;
 use premises::Journal;
-use reported_node::ReportedNode;
 use std::alloc::Global;
 
 fn copy_events(alloc: Global, events: &[Event]) -> Result<Vec<Event>, NoMemory>

@@ -3,20 +3,20 @@ use Rattle.std.proofs.Common.{◌≡◌, ℕ, true, List, [], ◌∷◌, ◌++�
 use Rattle.std.specs.List.{list_all}
 use Rattle.std.specs.Str.{bytes_eq}
 use Rattle.sha2.specs.Sha256.{sha256}
-use Rattle.channel_calls.proofs.Names.{same_bytes, bytes_eq_self}
-use Rattle.nitro_bytes.specs.Parts.{FixedParts}
-use Rattle.channel_name.specs.Collisions.{NoneCollide}
-use Rattle.channel_name.specs.Digests.{person_string}
-use Rattle.channel_calls.specs.declared.entry.Entry.{Entry}
-use Rattle.channel_calls.specs.declared.event.Deed.{Deed}
-use Rattle.channel_calls.specs.declared.event.Event.{Event}
-use Rattle.net_model.specs.Journals.{In, Line, opened, lines}
-use Rattle.net_model.specs.Hashed.{of_fixed, of_entry, of_deed, of_line, hashed}
+use Rattle.call_history.proofs.Names.{same_bytes, bytes_eq_self}
+use Rattle.channel_values.specs.Parts.{FixedParts}
+use Rattle.channel_values.specs.Collisions.{NoneCollide}
+use Rattle.channel_values.specs.Digests.{person_string}
+use Rattle.call_history.specs.declared.entry.Entry.{Entry}
+use Rattle.call_history.specs.declared.event.Deed.{Deed}
+use Rattle.call_history.specs.declared.event.Event.{Event}
+use Rattle.channel_safety.specs.Journals.{In, Line, opened, lines}
+use Rattle.channel_safety.specs.Hashed.{of_fixed, of_entry, of_deed, of_line, hashed}
 use Rattle.premises.specs.declared.journal.Journal.{Journal}
 use Rattle.premises.specs.Collision.{of_event, of_journal, distinct_strings}
 use Rattle.premises.specs.Telling.{strings_opened, are_apart, none_collide, CollisionIsTold, DistinctSuffices}
-use Rattle.net_model.proofs.Members.{In-append_right, In-append_left, In-append_cases, In-reverse, In-flat_map, joined, contains, contained}
-use Rattle.chain_laws.proofs.Tests.{and-left, and-right, and-both}
+use Rattle.channel_safety.proofs.Members.{In-append_right, In-append_left, In-append_cases, In-reverse, In-flat_map, joined, contains, contained}
+use Rattle.channel_safety.proofs.Tests.{and-left, and-right, and-both}
 use Rattle.premises.proofs.ListTests.{all-pass, pass-all, own-if, if-own}
 
 -- ---- lines

@@ -1,30 +1,30 @@
 -- The test that nothing is forged tells it.
 use Rattle.std.proofs.Common.{◌≡◌, ℕ, Bool, true, ◌&&◌, List, [], ◌∷◌, ◌++◌, ◌⊎◌, inl, inr, length, refl, sym, ◌∙◌, ap, subst, nat_le, Option, Some, None, Result, Ok, Err}
 use Rattle.std.specs.List.{list_all}
-use Rattle.nitro_bytes.specs.Parts.{FixedParts}
-use Rattle.nitro_bytes.specs.declared.chain.Chain.{Chain}
-use Rattle.nitro_bytes.specs.declared.chain.Signed.{Signed}
-use Rattle.nitro_bytes.specs.declared.fault.ByteFault.{ByteFault}
-use Rattle.channel_name.specs.Messages.{message_of_challenge}
-use Rattle.channel_model.specs.Rules.{Rules, top_digest}
-use Rattle.channel_calls.proofs.Names.{same_bytes, bytes_eq_self}
-use Rattle.channel_calls.specs.Rows.{fixed_of}
-use Rattle.channel_calls.specs.Spelling.{Message}
-use Rattle.channel_calls.specs.Reading.{message_of}
-use Rattle.channel_calls.specs.declared.call.Call.TheVariants.{Challenge}
-use Rattle.channel_calls.specs.declared.call.Op.{Op}
-use Rattle.channel_calls.specs.declared.call.Op.TheVariants as ops
-use Rattle.channel_calls.specs.declared.entry.Entry.{Entry}
-use Rattle.channel_calls.specs.declared.event.Deed.{Deed}
-use Rattle.channel_calls.specs.declared.event.Deed.TheVariants as deeds
-use Rattle.channel_calls.specs.declared.event.NodeRefusal.{NodeRefusal}
-use Rattle.net_model.specs.Journals.{In, Line}
-use Rattle.net_model.specs.Strings.{signed_in, string_of, WasSigned, WasSignedBy}
-use Rattle.net_model.specs.Premises.{Unforged}
+use Rattle.channel_values.specs.Parts.{FixedParts}
+use Rattle.channel_values.specs.declared.chain.Chain.{Chain}
+use Rattle.channel_values.specs.declared.chain.Signed.{Signed}
+use Rattle.channel_values.specs.declared.fault.ByteFault.{ByteFault}
+use Rattle.channel_values.specs.Messages.{message_of_challenge}
+use Rattle.channel_values.specs.Rules.{Rules, top_digest}
+use Rattle.call_history.proofs.Names.{same_bytes, bytes_eq_self}
+use Rattle.call_history.specs.Rows.{fixed_of}
+use Rattle.call_history.specs.Spelling.{Message}
+use Rattle.call_history.specs.Reading.{message_of}
+use Rattle.call_history.specs.declared.call.Call.TheVariants.{Challenge}
+use Rattle.call_history.specs.declared.call.Op.{Op}
+use Rattle.call_history.specs.declared.call.Op.TheVariants as ops
+use Rattle.call_history.specs.declared.entry.Entry.{Entry}
+use Rattle.call_history.specs.declared.event.Deed.{Deed}
+use Rattle.call_history.specs.declared.event.Deed.TheVariants as deeds
+use Rattle.call_history.specs.declared.event.NodeRefusal.{NodeRefusal}
+use Rattle.channel_safety.specs.Journals.{In, Line}
+use Rattle.channel_safety.specs.Strings.{signed_in, string_of, WasSigned, WasSignedBy}
+use Rattle.channel_safety.specs.Premises.{Unforged}
 use Rattle.premises.specs.Own.{Inscription, on_state, on_states, on_challenge, in_op, in_message, in_deed, is_string, signs, is_signed, is_signed_by}
 use Rattle.premises.specs.Forgery.{is_own, entries_are_own, messages_are_own, is_unforged, ForgeryIsTold}
-use Rattle.net_model.proofs.Members.{In-append_right, In-append_cases, In-map, mapped}
-use Rattle.chain_laws.proofs.Tests.{and-left, and-right, and-both, le-true, true-le}
+use Rattle.channel_safety.proofs.Members.{In-append_right, In-append_cases, In-map, mapped}
+use Rattle.channel_safety.proofs.Tests.{and-left, and-right, and-both, le-true, true-le}
 use Rattle.premises.proofs.ListTests.{never, found, any-in, all-pass, pass-all, own-if, if-own}
 
 -- ---- which line signed a string

@@ -1,8 +1,8 @@
 -- Tests of the members of lists.
 use Rattle.std.proofs.Common.{◌≡◌, Bool, true, false, not, ◌||◌, List, [], ◌∷◌, inl, inr, refl, sym, ◌∙◌, ap, true≢false}
 use Rattle.std.specs.List.{list_any, list_all}
-use Rattle.net_model.specs.Journals.{In}
-use Rattle.chain_laws.proofs.Tests.{and-left, and-right, and-both}
+use Rattle.channel_safety.specs.Journals.{In}
+use Rattle.channel_safety.proofs.Tests.{and-left, and-right, and-both}
 
 pub never : {A : Type 0} → false ≡ true → A
 never h = absurd (true≢false (sym h))

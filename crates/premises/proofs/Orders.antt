@@ -3,27 +3,27 @@ use Rattle.std.proofs.Common.{◌≡◌, ℕ, suc, ◌+◌, nat_le, Bool, true, 
 use Rattle.std.specs.List.{list_any, list_all, AllByRecursion}
 use Rattle.std.specs.Str.{bytes_eq}
 use Rattle.std.proofs.lemmas.List.{reverse-append, append_assoc}
-use Rattle.nitro_bytes.specs.Parts.{FixedParts}
-use Rattle.nitro_bytes.specs.declared.chain.Signed.{Signed}
-use Rattle.nitro_bytes.specs.declared.fault.ByteFault.{ByteFault}
-use Rattle.channel_model.specs.Rules.{Rules}
-use Rattle.channel_calls.specs.Spelling.{Message}
-use Rattle.channel_calls.specs.Reading.{message_of}
-use Rattle.channel_calls.specs.History.{now_of, is_accepted}
-use Rattle.channel_calls.specs.declared.call.Call.TheVariants.{Challenge}
-use Rattle.channel_calls.specs.declared.call.Op.{Op}
-use Rattle.channel_calls.specs.declared.call.Op.TheVariants as ops
-use Rattle.channel_calls.specs.declared.entry.Entry.{Entry}
-use Rattle.channel_calls.specs.declared.event.Deed.{Deed}
-use Rattle.channel_calls.specs.declared.event.Deed.TheVariants as deeds
-use Rattle.channel_calls.specs.declared.event.Event.{Event}
-use Rattle.net_model.specs.Journals.{Line, lines, some_if, told_in, noted_in}
-use Rattle.net_model.specs.Strings.{string_of}
-use Rattle.net_model.specs.Premises.{Unforged, InTime}
+use Rattle.channel_values.specs.Parts.{FixedParts}
+use Rattle.channel_values.specs.declared.chain.Signed.{Signed}
+use Rattle.channel_values.specs.declared.fault.ByteFault.{ByteFault}
+use Rattle.channel_values.specs.Rules.{Rules}
+use Rattle.call_history.specs.Spelling.{Message}
+use Rattle.call_history.specs.Reading.{message_of}
+use Rattle.call_history.specs.History.{now_of, is_accepted}
+use Rattle.call_history.specs.declared.call.Call.TheVariants.{Challenge}
+use Rattle.call_history.specs.declared.call.Op.{Op}
+use Rattle.call_history.specs.declared.call.Op.TheVariants as ops
+use Rattle.call_history.specs.declared.entry.Entry.{Entry}
+use Rattle.call_history.specs.declared.event.Deed.{Deed}
+use Rattle.call_history.specs.declared.event.Deed.TheVariants as deeds
+use Rattle.call_history.specs.declared.event.Event.{Event}
+use Rattle.channel_safety.specs.Journals.{Line, lines, some_if, told_in, noted_in}
+use Rattle.channel_safety.specs.Strings.{string_of}
+use Rattle.channel_safety.specs.Premises.{Unforged, InTime}
 use Rattle.premises.specs.Own.{in_op, in_deed, is_string, is_signed, is_signed_by}
 use Rattle.premises.specs.Forgery.{is_own, entries_are_own, messages_are_own, is_unforged}
 use Rattle.premises.specs.Timing.{until_end, notes_by, looks_well, is_looked, end_is_watched, op_is_watched, entry_is_watched, are_watched, is_in_time, IsValidLine}
-use Rattle.net_model.specs.Valid.{IsValidEntry, IsValidEvent}
+use Rattle.channel_safety.specs.Valid.{IsValidEntry, IsValidEvent}
 use Rattle.premises.specs.Looks.{told_channel, noted_channel, next_look, end_is_answered, op_is_answered, entry_is_answered, are_answered}
 use Rattle.premises.specs.Strings.{own_of, told, told_by, op_passes, message_passes, entries_pass, messages_pass}
 use Rattle.premises.specs.declared.forgery.Own.{Own}

@@ -1,23 +1,23 @@
 -- The tests in the order of time, a step at a time.
 use Rattle.std.proofs.Common.{◌≡◌, ℕ, suc, ◌+◌, ◌<◌, Bool, true, false, ◌&&◌, List, [], ◌∷◌, ◌++◌, map, length, take, drop, get_or, refl, sym, ◌∙◌, ap, Option, Some, None, cond, add-one, drop-cons, take-suc, zero, arith}
 use Rattle.std.specs.List.{slice_get}
-use Rattle.nitro_bytes.specs.Parts.{StateParts}
-use Rattle.nitro_bytes.specs.declared.chain.Mark.{Mark}
-use Rattle.nitro_bytes.specs.declared.chain.Signed.{Signed}
-use Rattle.channel_model.specs.Rules.{Rules}
-use Rattle.channel_calls.specs.declared.entry.Entry.{Entry}
-use Rattle.channel_calls.specs.declared.event.Event.{Event}
-use Rattle.net_model.specs.Strings.{with_mark, signed_marks}
+use Rattle.channel_values.specs.Parts.{StateParts}
+use Rattle.channel_values.specs.declared.chain.Mark.{Mark}
+use Rattle.channel_values.specs.declared.chain.Signed.{Signed}
+use Rattle.channel_values.specs.Rules.{Rules}
+use Rattle.call_history.specs.declared.entry.Entry.{Entry}
+use Rattle.call_history.specs.declared.event.Event.{Event}
+use Rattle.channel_safety.specs.Strings.{with_mark, signed_marks}
 use Rattle.premises.specs.Own.{on_state, in_op, in_deed}
 use Rattle.premises.specs.Forgery.{is_own}
 use Rattle.premises.specs.Strings.{told_by, op_passes, message_passes, entries_pass, messages_pass}
 use Rattle.premises.specs.declared.forgery.Own.{Own}
-use Rattle.channel_calls.specs.History.{turning, time_set, or_before}
+use Rattle.call_history.specs.History.{turning, time_set, or_before}
 use Rattle.premises.specs.Timing.{reaches, until_end}
 use Rattle.premises.specs.Looks.{channel_noted, entry_is_answered, are_answered}
 use Rattle.std.specs.Option.{option_map}
 use Rattle.std.proofs.lemmas.List.{append-nil, append_assoc}
-use Rattle.chain_laws.proofs.Tests.{cond-true, cond-false}
+use Rattle.channel_safety.proofs.Tests.{cond-true, cond-false}
 
 -- ---- marks
 

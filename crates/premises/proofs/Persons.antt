@@ -1,7 +1,7 @@
 -- What holds of the journal that is found holds of its person.
 use Rattle.std.proofs.Common.{◌≡◌, ℕ, Bool, List, Some, Result, Ok, Err, find, IfOk, IsTrue, ◌↔◌, sym, ◌∙◌, subst}
-use Rattle.nitro_bytes.specs.Parts.{FixedParts}
-use Rattle.chain_laws.proofs.Tests.{some-eq}
+use Rattle.channel_values.specs.Parts.{FixedParts}
+use Rattle.channel_safety.proofs.Tests.{some-eq}
 use Rattle.premises.specs.Persons.{OfPerson}
 use Rattle.premises.specs.Whose.{is_of}
 use Rattle.premises.specs.declared.journal.Journal.{Journal}

@@ -2,18 +2,17 @@
 use Rattle.std.proofs.Common.{◌≡◌, ℕ, zero, suc, ◌+◌, ◌<◌, ◌≤◌, Bool, true, false, cond, List, [], ◌∷◌, ◌⊎◌, inl, inr, length, get_or, Contains, Option, Some, None, refl, sym, ◌∙◌, ap, subst, arith}
 use Rattle.std.specs.BTreeMap.{BTreeMap, get, Updates}
 use Rattle.std.specs.Cmp.Lexicographic.{slice_cmp}
-use Rattle.std.specs.Ordering.{nat_cmp}
+use Rattle.std.specs.Ordering.{nat_cmp, is_eq}
 use Rattle.std.specs.List.{slice_get}
 use Rattle.std.specs.declared.cmp.Ordering.{Ordering}
 use Rattle.std.specs.declared.cmp.Ordering.TheVariants.{Less, Equal, Greater}
-use Rattle.std.specs.Ordering.{is_eq}
 use Rattle.std.specs.Str.{bytes_eq}
 use Rattle.std.proofs.lemmas.Map.Lookups.{exact_bytes}
-use Rattle.channel_calls.proofs.Names.{same_bytes, bytes_eq_self}
+use Rattle.call_history.proofs.Names.{same_bytes, bytes_eq_self}
 use Rattle.premises.specs.Own.{is_string}
 use Rattle.premises.proofs.ListTests.{never}
 use Rattle.sha2.specs.Sha256.{sha256}
-use Rattle.channel_name.specs.Collisions.{NoneCollide}
+use Rattle.channel_values.specs.Collisions.{NoneCollide}
 
 -- the string before this place with this digest is the same
 pub record PlaceOf (places : BTreeMap (List ℕ) ℕ) (strings : List (List ℕ)) (s : List ℕ) : Type 0 where

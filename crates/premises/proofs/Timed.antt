@@ -3,30 +3,30 @@ use Rattle.std.proofs.Common.{◌≡◌, ℕ, suc, ◌+◌, ◌-◌, ◌<◌, �
 use Rattle.std.specs.List.{list_any, list_all, AllByRecursion}
 use Rattle.std.specs.Option.{option_map}
 use Rattle.std.proofs.lemmas.List.{append_assoc, length-append, length-take-le, take-append-drop}
-use Rattle.nitro_bytes.specs.declared.chain.Chain.{Chain}
-use Rattle.nitro_bytes.specs.declared.chain.Signed.{Signed}
-use Rattle.channel_model.specs.Rules.{Rules}
-use Rattle.channel_calls.proofs.Names.{same_bytes, bytes_eq_self}
-use Rattle.channel_calls.specs.Rows.{fixed_of}
-use Rattle.channel_calls.specs.History.{is_accepted, is_named, turning, time_set, now_of}
-use Rattle.channel_calls.specs.declared.call.Call.{Call}
-use Rattle.channel_calls.specs.declared.call.Call.TheVariants.{Challenge}
-use Rattle.channel_calls.specs.declared.call.Op.{Op}
-use Rattle.channel_calls.specs.declared.call.Op.TheVariants as ops
-use Rattle.channel_calls.specs.declared.entry.Entry.{Entry}
-use Rattle.channel_calls.specs.declared.event.Deed.{Deed}
-use Rattle.channel_calls.specs.declared.event.Deed.TheVariants as deeds
-use Rattle.channel_calls.specs.declared.refusal.Reply.{Reply}
-use Rattle.net_model.specs.Journals.{In, Line, noted_in}
-use Rattle.net_model.specs.Premises.{RunsOut, Looked, InTime}
-use Rattle.channel_calls.specs.Same.{is_op, HasValidParts}
+use Rattle.channel_values.specs.declared.chain.Chain.{Chain}
+use Rattle.channel_values.specs.declared.chain.Signed.{Signed}
+use Rattle.channel_values.specs.Rules.{Rules}
+use Rattle.call_history.proofs.Names.{same_bytes, bytes_eq_self}
+use Rattle.call_history.specs.Rows.{fixed_of}
+use Rattle.call_history.specs.History.{is_accepted, is_named, turning, time_set, now_of}
+use Rattle.call_history.specs.declared.call.Call.{Call}
+use Rattle.call_history.specs.declared.call.Call.TheVariants.{Challenge}
+use Rattle.call_history.specs.declared.call.Op.{Op}
+use Rattle.call_history.specs.declared.call.Op.TheVariants as ops
+use Rattle.call_history.specs.declared.entry.Entry.{Entry}
+use Rattle.call_history.specs.declared.event.Deed.{Deed}
+use Rattle.call_history.specs.declared.event.Deed.TheVariants as deeds
+use Rattle.call_history.specs.declared.refusal.Reply.{Reply}
+use Rattle.channel_safety.specs.Journals.{In, Line, noted_in}
+use Rattle.channel_safety.specs.Premises.{RunsOut, Looked, InTime}
+use Rattle.call_history.specs.Same.{is_op, HasValidParts}
 use Rattle.premises.specs.Timing.{reaches, until_end, notes_by, is_entered, looks_well, is_looked, end_is_watched, op_is_watched, entry_is_watched, are_watched, is_in_time, IsValidLine, TimingIsTold}
-use Rattle.net_model.specs.Valid.{IsValidOp, IsValidEntry, IsValidDeed}
-use Rattle.net_model.proofs.Members.{In-append_right, In-append_left, all-in}
-use Rattle.chain_laws.proofs.Tests.{and-left, and-right, and-both, cond-true, cond-false, le-true, true-le, le-false, false-le}
+use Rattle.channel_safety.specs.Valid.{IsValidOp, IsValidEntry, IsValidDeed}
+use Rattle.channel_safety.proofs.Members.{In-append_right, In-append_left, all-in}
+use Rattle.channel_safety.proofs.Tests.{and-left, and-right, and-both, cond-true, cond-false, le-true, true-le, le-false, false-le}
 use Rattle.premises.proofs.ListTests.{never, found, any-in, all-pass, pass-all, or-first, or-second, own-if, if-own}
 use Rattle.premises.proofs.Onto.{onto, onto-append, onto-split, onto-twice, length-onto, In-onto_left, In-turned, drop-past}
-use Rattle.channel_calls.proofs.Sames.{op-same, call-self}
+use Rattle.call_history.proofs.Sames.{op-same, call-self}
 
 -- ---- places of a history
 

@@ -1,10 +1,10 @@
 -- The strings that are hashed for what a history and all journals name, and that no two of them collide.
 use Rattle.std.specs.Prelude.{ℕ, List, ◌∷◌, ◌++◌, flat_map}
-use Rattle.channel_name.specs.Collisions.{NoneCollide}
-use Rattle.channel_name.specs.Digests.{person_string}
-use Rattle.channel_calls.specs.declared.entry.Entry.{Entry}
-use Rattle.channel_calls.specs.declared.event.Event.{Event}
-use Rattle.net_model.specs.Hashed.{of_entry, of_deed}
+use Rattle.channel_values.specs.Collisions.{NoneCollide}
+use Rattle.channel_values.specs.Digests.{person_string}
+use Rattle.call_history.specs.declared.entry.Entry.{Entry}
+use Rattle.call_history.specs.declared.event.Event.{Event}
+use Rattle.channel_safety.specs.Hashed.{of_entry, of_deed}
 use Rattle.premises.specs.declared.journal.Journal.{Journal}
 
 -- of an event: of the message that it took, the state that it signed, the calls that it gave

@@ -1,10 +1,10 @@
 -- That nothing is forged, as a test.
 use Rattle.std.specs.Prelude.{ℕ, Bool, true, not, ◌&&◌, ◌||◌, List, [], ◌∷◌, length, ◌↔◌, IsTrue}
 use Rattle.std.specs.List.{list_all}
-use Rattle.channel_model.specs.Rules.{Rules}
-use Rattle.channel_calls.specs.declared.entry.Entry.{Entry}
-use Rattle.net_model.specs.Journals.{Line}
-use Rattle.net_model.specs.Premises.{Unforged}
+use Rattle.channel_values.specs.Rules.{Rules}
+use Rattle.call_history.specs.declared.entry.Entry.{Entry}
+use Rattle.channel_safety.specs.Journals.{Line}
+use Rattle.channel_safety.specs.Premises.{Unforged}
 use Rattle.premises.specs.Own.{Inscription, in_op, in_deed, is_signed, is_signed_by}
 
 -- the signature isn't one of the key, or this holds of the string

@@ -1,17 +1,17 @@
 -- The test of watchers in the order of time, with what each event noted read once.
 use Rattle.std.specs.Prelude.{ℕ, suc, ◌+◌, Bool, true, false, not, ◌&&◌, ◌||◌, nat_le, List, [], ◌∷◌, length, fold, Option, Some, None, Result, Ok, Err, if◌then◌else◌}
-use Rattle.nitro_bytes.specs.declared.fault.ByteFault.{ByteFault}
-use Rattle.channel_model.specs.Rules.{Rules}
-use Rattle.channel_calls.specs.Spelling.{Message}
-use Rattle.channel_calls.specs.Reading.{message_of}
-use Rattle.channel_calls.specs.History.{is_accepted, time_set, or_before}
-use Rattle.channel_calls.specs.declared.call.Call.TheVariants.{Challenge}
-use Rattle.channel_calls.specs.declared.call.Op.{Op}
-use Rattle.channel_calls.specs.declared.call.Op.TheVariants as ops
-use Rattle.channel_calls.specs.declared.entry.Entry.{Entry}
-use Rattle.channel_calls.specs.declared.event.Deed.{Deed}
-use Rattle.channel_calls.specs.declared.event.Deed.TheVariants as deeds
-use Rattle.channel_calls.specs.declared.event.Event.{Event}
+use Rattle.channel_values.specs.declared.fault.ByteFault.{ByteFault}
+use Rattle.channel_values.specs.Rules.{Rules}
+use Rattle.call_history.specs.Spelling.{Message}
+use Rattle.call_history.specs.Reading.{message_of}
+use Rattle.call_history.specs.History.{is_accepted, time_set, or_before}
+use Rattle.call_history.specs.declared.call.Call.TheVariants.{Challenge}
+use Rattle.call_history.specs.declared.call.Op.{Op}
+use Rattle.call_history.specs.declared.call.Op.TheVariants as ops
+use Rattle.call_history.specs.declared.entry.Entry.{Entry}
+use Rattle.call_history.specs.declared.event.Deed.{Deed}
+use Rattle.call_history.specs.declared.event.Deed.TheVariants as deeds
+use Rattle.call_history.specs.declared.event.Event.{Event}
 use Rattle.premises.specs.Own.{is_string}
 use Rattle.premises.specs.Timing.{until_end, looks_well}
 

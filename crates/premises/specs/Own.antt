@@ -2,21 +2,21 @@
 use Rattle.std.specs.Prelude.{ℕ, Bool, false, ◌&&◌, nat_le, List, [], ◌∷◌, ◌++◌, map, Option, Some, None, Result, Ok, Err}
 use Rattle.std.specs.List.{list_any}
 use Rattle.std.specs.Str.{bytes_eq}
-use Rattle.nitro_bytes.specs.Parts.{FixedParts}
-use Rattle.nitro_bytes.specs.declared.chain.Signed.{Signed}
-use Rattle.nitro_bytes.specs.declared.fault.ByteFault.{ByteFault}
-use Rattle.channel_name.specs.Messages.{message_of_state, message_of_challenge}
-use Rattle.channel_model.specs.Rules.{Rules, top_digest}
-use Rattle.channel_calls.specs.Rows.{fixed_of}
-use Rattle.channel_calls.specs.Spelling.{Message}
-use Rattle.channel_calls.specs.Reading.{message_of}
-use Rattle.channel_calls.specs.declared.call.Call.TheVariants.{Challenge}
-use Rattle.channel_calls.specs.declared.call.Op.{Op}
-use Rattle.channel_calls.specs.declared.call.Op.TheVariants as ops
-use Rattle.channel_calls.specs.declared.event.Deed.{Deed}
-use Rattle.channel_calls.specs.declared.event.Deed.TheVariants as deeds
-use Rattle.net_model.specs.Journals.{Line}
-use Rattle.net_model.specs.Strings.{signed_in, string_of}
+use Rattle.channel_values.specs.Parts.{FixedParts}
+use Rattle.channel_values.specs.declared.chain.Signed.{Signed}
+use Rattle.channel_values.specs.declared.fault.ByteFault.{ByteFault}
+use Rattle.channel_values.specs.Messages.{message_of_state, message_of_challenge}
+use Rattle.channel_values.specs.Rules.{Rules, top_digest}
+use Rattle.call_history.specs.Rows.{fixed_of}
+use Rattle.call_history.specs.Spelling.{Message}
+use Rattle.call_history.specs.Reading.{message_of}
+use Rattle.call_history.specs.declared.call.Call.TheVariants.{Challenge}
+use Rattle.call_history.specs.declared.call.Op.{Op}
+use Rattle.call_history.specs.declared.call.Op.TheVariants as ops
+use Rattle.call_history.specs.declared.event.Deed.{Deed}
+use Rattle.call_history.specs.declared.event.Deed.TheVariants as deeds
+use Rattle.channel_safety.specs.Journals.{Line}
+use Rattle.channel_safety.specs.Strings.{signed_in, string_of}
 
 -- a string that is signed, and the signature on it
 pub record Inscription : Type 0 where

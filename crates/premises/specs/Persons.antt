@@ -1,12 +1,12 @@
 -- The premises on the journal of a person.
 use Rattle.std.specs.Prelude.{◌≡◌, ℕ, List, Some, reverse}
 use Rattle.std.specs.List.{find}
-use Rattle.nitro_bytes.specs.Parts.{FixedParts}
-use Rattle.channel_calls.specs.History.{newest_first}
-use Rattle.channel_calls.specs.declared.entry.Entry.{Entry}
-use Rattle.net_model.specs.Journals.{lines}
-use Rattle.net_model.specs.Premises.{Unforged, InTime}
-use Rattle.support_chain.specs.Real.{real}
+use Rattle.channel_values.specs.Parts.{FixedParts}
+use Rattle.call_history.specs.History.{newest_first}
+use Rattle.call_history.specs.declared.entry.Entry.{Entry}
+use Rattle.channel_safety.specs.Journals.{lines}
+use Rattle.channel_safety.specs.Premises.{Unforged, InTime}
+use Rattle.support_rules.specs.Real.{real}
 use Rattle.premises.specs.Whose.{is_of}
 use Rattle.premises.specs.declared.journal.Journal.{Journal}
 

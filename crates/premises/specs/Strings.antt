@@ -1,10 +1,10 @@
 -- What a participant signed, event by event, and the tests of forgery in the order of time.
 use Rattle.std.specs.Prelude.{ℕ, suc, Bool, true, ◌&&◌, nat_le, List, [], ◌∷◌, take}
 use Rattle.std.specs.List.{list_any, list_all}
-use Rattle.channel_model.specs.Rules.{Rules}
-use Rattle.channel_calls.specs.declared.entry.Entry.{Entry}
-use Rattle.channel_calls.specs.declared.event.Event.{Event}
-use Rattle.net_model.specs.Strings.{string_of}
+use Rattle.channel_values.specs.Rules.{Rules}
+use Rattle.call_history.specs.declared.entry.Entry.{Entry}
+use Rattle.call_history.specs.declared.event.Event.{Event}
+use Rattle.channel_safety.specs.Strings.{string_of}
 use Rattle.premises.specs.Own.{Inscription, in_op, in_deed, is_string}
 use Rattle.premises.specs.Forgery.{is_own}
 use Rattle.premises.specs.declared.forgery.Own.{Own}

@@ -3,12 +3,12 @@ use Rattle.std.specs.Prelude.{ℕ, Bool, true, not, ◌&&◌, ◌||◌, List, []
 use Rattle.std.specs.List.{list_all}
 use Rattle.std.specs.Str.{bytes_eq}
 use Rattle.sha2.specs.Sha256.{sha256}
-use Rattle.nitro_bytes.specs.Parts.{FixedParts}
-use Rattle.channel_name.specs.Collisions.{NoneCollide}
-use Rattle.channel_name.specs.Digests.{person_string}
-use Rattle.channel_calls.specs.declared.entry.Entry.{Entry}
-use Rattle.net_model.specs.Journals.{In, Line, opened, lines}
-use Rattle.net_model.specs.Hashed.{of_fixed, hashed}
+use Rattle.channel_values.specs.Parts.{FixedParts}
+use Rattle.channel_values.specs.Collisions.{NoneCollide}
+use Rattle.channel_values.specs.Digests.{person_string}
+use Rattle.call_history.specs.declared.entry.Entry.{Entry}
+use Rattle.channel_safety.specs.Journals.{In, Line, opened, lines}
+use Rattle.channel_safety.specs.Hashed.{of_fixed, hashed}
 use Rattle.premises.specs.declared.journal.Journal.{Journal}
 use Rattle.premises.specs.Collision.{distinct_strings, Distinct, DistinctWith}
 

@@ -2,20 +2,20 @@
 use Rattle.std.specs.Prelude.{ℕ, suc, ◌+◌, ◌-◌, Bool, true, false, not, ◌&&◌, ◌||◌, nat_le, List, [], ◌∷◌, length, drop, Option, Some, None, is_some, if◌then◌else◌, ◌↔◌, IsTrue}
 use Rattle.std.specs.List.{list_any, list_all, AllByRecursion}
 use Rattle.std.specs.Option.{option_map}
-use Rattle.channel_model.specs.Rules.{Rules}
-use Rattle.channel_calls.specs.Rows.{fixed_of}
-use Rattle.channel_calls.specs.Same.{is_op}
-use Rattle.channel_calls.specs.History.{is_accepted, is_named, turning, time_set, now_of}
-use Rattle.channel_calls.specs.declared.call.Call.{Call}
-use Rattle.channel_calls.specs.declared.call.Call.TheVariants.{Challenge}
-use Rattle.channel_calls.specs.declared.call.Op.{Op}
-use Rattle.channel_calls.specs.declared.call.Op.TheVariants as ops
-use Rattle.channel_calls.specs.declared.entry.Entry.{Entry}
-use Rattle.channel_calls.specs.declared.event.Deed.{Deed}
-use Rattle.channel_calls.specs.declared.event.Deed.TheVariants as deeds
-use Rattle.net_model.specs.Journals.{Line, noted_in}
-use Rattle.net_model.specs.Premises.{InTime}
-use Rattle.net_model.specs.Valid.{IsValidEntry, IsValidDeed}
+use Rattle.channel_values.specs.Rules.{Rules}
+use Rattle.call_history.specs.Rows.{fixed_of}
+use Rattle.call_history.specs.Same.{is_op}
+use Rattle.call_history.specs.History.{is_accepted, is_named, turning, time_set, now_of}
+use Rattle.call_history.specs.declared.call.Call.{Call}
+use Rattle.call_history.specs.declared.call.Call.TheVariants.{Challenge}
+use Rattle.call_history.specs.declared.call.Op.{Op}
+use Rattle.call_history.specs.declared.call.Op.TheVariants as ops
+use Rattle.call_history.specs.declared.entry.Entry.{Entry}
+use Rattle.call_history.specs.declared.event.Deed.{Deed}
+use Rattle.call_history.specs.declared.event.Deed.TheVariants as deeds
+use Rattle.channel_safety.specs.Journals.{Line, noted_in}
+use Rattle.channel_safety.specs.Premises.{InTime}
+use Rattle.channel_safety.specs.Valid.{IsValidEntry, IsValidDeed}
 
 -- ---- where a challenge runs out
 

@@ -1,11 +1,11 @@
 //! The answers.
 
 ghost use Rattle.std.specs.Prelude.{ℕ, IfOk, IsTrue, ◌↔◌, List, reverse};
-ghost use Rattle.nitro_bytes.specs.Parts.{FixedParts};
-ghost use Rattle.channel_calls.specs.History.{newest_first};
-ghost use Rattle.net_model.specs.Journals.{lines};
-ghost use Rattle.net_model.specs.Premises.{Unforged, InTime};
-ghost use Rattle.support_chain.specs.Real.{real};
+ghost use Rattle.channel_values.specs.Parts.{FixedParts};
+ghost use Rattle.call_history.specs.History.{newest_first};
+ghost use Rattle.channel_safety.specs.Journals.{lines};
+ghost use Rattle.channel_safety.specs.Premises.{Unforged, InTime};
+ghost use Rattle.support_rules.specs.Real.{real};
 ghost use Rattle.premises.specs.Collision.{Distinct};
 ghost use Rattle.premises.specs.Persons.{IsUnforged, IsInTime, OfPerson};
 
@@ -14,9 +14,9 @@ use crate::forgery::{entries_are_own, messages_are_own, own_strings};
 use crate::hashed::hashed_strings;
 use crate::journal::{Journal, journal_of};
 use crate::timing::{are_answered, noted_channels};
-use channel_calls::{Entry, Event};
-use net_model::{entries_are_valid, events_are_valid};
-use nitro_bytes::{Key, Name, NoMemory};
+use call_history::{Entry, Event};
+use channel_safety::{entries_are_valid, events_are_valid};
+use channel_values::{Key, Name, NoMemory};
 use std::alloc::Global;
 
 fn signs_its_own(

@@ -2,18 +2,21 @@
 
 ghost use Rattle.std.specs.Prelude.{◌≡◌, ℕ, ◌<◌, ◌≤◌, ◌^◌, IfOk, List, [], ◌∷◌, map, length};
 ghost use Rattle.std.specs.List.{slice_get, list_all};
-ghost use Rattle.channel_model.specs.Rules.{top_digest};
-ghost use Rattle.channel_name.specs.Messages.{message_of_challenge};
-ghost use Rattle.net_model.specs.Strings.{string_of, with_mark, signed_marks};
-ghost use Rattle.support_chain.specs.Real.{real};
+ghost use Rattle.channel_values.specs.Rules.{top_digest};
+ghost use Rattle.channel_values.specs.Messages.{message_of_challenge};
+ghost use Rattle.channel_safety.specs.Strings.{string_of, with_mark, signed_marks};
+ghost use Rattle.support_rules.specs.Real.{real};
 ghost use Rattle.premises.specs.Own as strings;
 ghost use Rattle.premises.specs.Forgery.{is_own};
 ghost use Rattle.premises.specs.Strings.{own_of, told, told_by, op_passes, message_passes, entries_pass, messages_pass};
 
-use channel_calls::{Call, Deed, Entry, Event, Op, newest, read_message};
-use channel_name::{challenge_message, channel_name, state_digest, state_message};
-use lms_verify::verifies;
-use nitro_bytes::{ByteFault, Chain, Fixed, Key, Listed, Mark, Name, NoMemory, Signed, State};
+use call_bytes::read_message;
+use call_history::{Call, Deed, Entry, Event, Op, newest};
+use channel_values::{
+    ByteFault, Chain, Fixed, Key, Listed, Mark, Name, NoMemory, Signed, State, challenge_message,
+    channel_name, state_digest, state_message,
+};
+use lms_signatures::verifies;
 use std::alloc::Global;
 
 /// The string that an event signed, if it did, and how many entries it had seen.
@@ -184,7 +187,7 @@ fn signed_is_own(key: &Key, own: &[Own], seen: usize, fixed: &Fixed, next: &Sign
 }
 
 /// The challenger's own signature, on the last of the states; where there is none, on no digest.
-#[tactic(auto, unfolding(channel_name::specs::Messages::message_of_challenge))]
+#[tactic(auto, unfolding(channel_values::specs::Messages::message_of_challenge))]
 fn challenge_is_own(
     key: &Key,
     own: &[Own],

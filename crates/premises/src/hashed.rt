@@ -1,16 +1,17 @@
 //! The strings that are hashed for what a history and journals name.
 
-ghost use Rattle.std.specs.Prelude.{◌≡◌, ◌++◌, ◌∷◌, [], map, flat_map, IfOk, OnOk};
-ghost use Rattle.channel_name.specs.Digests.{state_string};
-ghost use Rattle.channel_calls.specs.Reading.{message_of};
-ghost use Rattle.net_model.specs.Hashed.{of_fixed, of_outcome, of_state, of_states, of_call, of_message, of_entry};
+ghost use Rattle.std.specs.Prelude.{◌≡◌, ◌++◌, ◌∷◌, [], map, flat_map, IfOk, OnOk, Some};
+ghost use Rattle.channel_values.specs.Digests.{state_string};
+ghost use Rattle.call_history.specs.Reading.{message_of};
+ghost use Rattle.channel_safety.specs.Hashed.{of_fixed, of_outcome, of_state, of_states, of_call, of_message, of_entry};
 ghost use Rattle.premises.specs.Collision.{of_event, of_journal, distinct_strings};
-ghost use Rattle.std.specs.Prelude.{Some};
 
 use crate::journal::Journal;
-use channel_calls::{Call, Deed, Entry, Event, Op, read_message};
-use channel_name::channel_name;
-use nitro_bytes::{ByteFault, Chain, Fixed, Listed, Name, NoMemory, Outcome, State};
+use call_bytes::read_message;
+use call_history::{Call, Deed, Entry, Event, Op};
+use channel_values::{
+    ByteFault, Chain, Fixed, Listed, Name, NoMemory, Outcome, State, channel_name,
+};
 use std::alloc::Global;
 
 /// The byte of a kind, and the bytes.
@@ -79,7 +80,7 @@ fn add_states(
     Ok(())
 }
 
-#[tactic(auto, using(std::proofs::lemmas::List::append_assoc), unfolding(channel_name::specs::Digests::name_of_channel))]
+#[tactic(auto, using(std::proofs::lemmas::List::append_assoc), unfolding(channel_values::specs::Digests::name_of_channel))]
 fn add_chain(strings: &mut Vec<Listed<u8>>, chain: &Chain) -> Result<(), NoMemory>
     ensures { OnOk result (strings.new.items ≡ strings.old.items ++ of_states (Some chain.now.fixed) chain.now.states) }
 {

@@ -3,20 +3,18 @@
 ghost use Rattle.std.specs.Prelude.{◌≡◌, ℕ, suc, ◌+◌, ◌<◌, ◌≤◌, ◌^◌, IfSome, IfOk, List, map, fold, length, true};
 ghost use Rattle.std.specs.List.{list_any};
 ghost use Rattle.std.specs.Option.{option_map};
-ghost use Rattle.channel_calls.specs.Same as same;
-ghost use Rattle.channel_calls.specs.Rows.{fixed_of};
-ghost use Rattle.channel_calls.specs.History.{is_accepted, is_named, turning};
-ghost use Rattle.channel_calls.specs.declared.call.Op.TheVariants as ops;
-ghost use Rattle.support_chain.specs.Real.{real};
+ghost use Rattle.call_history.specs.Same as same;
+ghost use Rattle.call_history.specs.Rows.{fixed_of};
+ghost use Rattle.call_history.specs.History.{is_accepted, is_named, turning};
+ghost use Rattle.call_history.specs.declared.call.Op.TheVariants as ops;
+ghost use Rattle.support_rules.specs.Real.{real};
 ghost use Rattle.premises.specs.Own.{is_string};
 ghost use Rattle.premises.specs.Timing as timing;
 ghost use Rattle.premises.specs.Looks.{noted_channel, channel_noted, next_look, end_is_answered, op_is_answered, entry_is_answered, are_answered};
 
-use channel_calls::{
-    Call, Deed, Entry, Event, Op, Reply, fixed_of, is_op, read_message, time_after, time_set,
-};
-use channel_name::channel_name;
-use nitro_bytes::{ByteFault, Fixed, Listed, Name, NoMemory};
+use call_bytes::{is_op, read_message};
+use call_history::{Call, Deed, Entry, Event, Op, Reply, fixed_of, time_after, time_set};
+use channel_values::{ByteFault, Fixed, Listed, Name, NoMemory, channel_name};
 use std::alloc::Global;
 
 // ---- the channel of an entry and of an event

@@ -1,19 +1,19 @@
 //! Endings from their canonical bytes.
 
 ghost use Rattle.std.specs.Prelude.{◌≡◌, [], IfOk};
-ghost use Rattle.nitro_bytes.specs.Reading.{Gives, Tells, many_at, flag_at};
-ghost use Rattle.record_bytes.specs.Reading as reads;
+ghost use Rattle.channel_values.specs.Reading.{Gives, Tells, many_at, flag_at};
+ghost use Rattle.run_record.specs.Reading as reads;
 
-use channel_calls::{HeldChain, Known};
-use funding_value::{Part, Plan, Virtual};
-use nitro_bytes::{
+use call_history::{HeldChain, Known};
+use channel_values::{
     ByteFault, Listed, Name, place_of, take_byte, take_chain, take_count, take_name, take_state,
     take_u32, take_u64,
 };
-use record_bytes::{Ending, MOST_CHAINS, MOST_ENDS, MOST_KNOWN, MOST_PARTS};
+use funding_plans::{Part, Plan, Virtual};
+use run_record::{Ending, MOST_CHAINS, MOST_ENDS, MOST_KNOWN, MOST_PARTS};
 use std::alloc::Global;
 
-#[tactic(auto, unfolding(nitro_bytes::specs::Reading::flag_at))]
+#[tactic(auto, unfolding(channel_values::specs::Reading::flag_at))]
 fn take_flag(whole: usize, bytes: &[u8]) -> Result<(bool, &[u8]), ByteFault>
     ensures { Tells (λ x. (x.0, x.1.now)) result (flag_at whole bytes.now) }
 {
@@ -26,7 +26,7 @@ fn take_flag(whole: usize, bytes: &[u8]) -> Result<(bool, &[u8]), ByteFault>
     }
 }
 
-#[tactic(auto, unfolding(record_bytes::specs::Reading::pair_at))]
+#[tactic(auto, unfolding(run_record::specs::Reading::pair_at))]
 fn take_pair(whole: usize, bytes: &[u8]) -> Result<((Name, Name), &[u8]), ByteFault>
     ensures { Tells (λ x. (x.0, x.1.now)) result (reads.pair_at whole bytes.now) }
 {
@@ -35,7 +35,7 @@ fn take_pair(whole: usize, bytes: &[u8]) -> Result<((Name, Name), &[u8]), ByteFa
     Ok(((first, second), rest))
 }
 
-#[tactic(auto, unfolding(record_bytes::specs::Reading::virtual_at))]
+#[tactic(auto, unfolding(run_record::specs::Reading::virtual_at))]
 fn take_virtual(whole: usize, bytes: &[u8]) -> Result<(Virtual, &[u8]), ByteFault>
     ensures { Tells (λ x. (x.0, x.1.now)) result (reads.virtual_at whole bytes.now) }
 {
@@ -65,7 +65,7 @@ fn take_virtual(whole: usize, bytes: &[u8]) -> Result<(Virtual, &[u8]), ByteFaul
     Ok((v, rest))
 }
 
-#[tactic(auto, unfolding(record_bytes::specs::Reading::root_at))]
+#[tactic(auto, unfolding(run_record::specs::Reading::root_at))]
 fn take_root(whole: usize, bytes: &[u8]) -> Result<(Part, &[u8]), ByteFault>
     ensures { Tells (λ x. (x.0, x.1.now)) result (reads.root_at whole bytes.now) }
 {
@@ -73,7 +73,7 @@ fn take_root(whole: usize, bytes: &[u8]) -> Result<(Part, &[u8]), ByteFault>
     Ok((Part::Root(channel), rest))
 }
 
-#[tactic(auto, unfolding(record_bytes::specs::Reading::on_ledger_at))]
+#[tactic(auto, unfolding(run_record::specs::Reading::on_ledger_at))]
 fn take_on_ledger(whole: usize, bytes: &[u8]) -> Result<(Part, &[u8]), ByteFault>
     ensures { Tells (λ x. (x.0, x.1.now)) result (reads.on_ledger_at whole bytes.now) }
 {
@@ -82,7 +82,7 @@ fn take_on_ledger(whole: usize, bytes: &[u8]) -> Result<(Part, &[u8]), ByteFault
     Ok((Part::OnLedger(ledger, channel), rest))
 }
 
-#[tactic(auto, unfolding(record_bytes::specs::Reading::end_at))]
+#[tactic(auto, unfolding(run_record::specs::Reading::end_at))]
 fn take_end(whole: usize, bytes: &[u8]) -> Result<(Part, &[u8]), ByteFault>
     ensures { Tells (λ x. (x.0, x.1.now)) result (reads.end_at whole bytes.now) }
 {
@@ -90,7 +90,7 @@ fn take_end(whole: usize, bytes: &[u8]) -> Result<(Part, &[u8]), ByteFault>
     Ok((Part::End(v), rest))
 }
 
-#[tactic(auto, unfolding(record_bytes::specs::Reading::middle_at))]
+#[tactic(auto, unfolding(run_record::specs::Reading::middle_at))]
 fn take_middle(whole: usize, bytes: &[u8]) -> Result<(Part, &[u8]), ByteFault>
     ensures { Tells (λ x. (x.0, x.1.now)) result (reads.middle_at whole bytes.now) }
 {
@@ -98,7 +98,7 @@ fn take_middle(whole: usize, bytes: &[u8]) -> Result<(Part, &[u8]), ByteFault>
     Ok((Part::Middle(v), rest))
 }
 
-#[tactic(auto, unfolding(record_bytes::specs::Reading::part_at))]
+#[tactic(auto, unfolding(run_record::specs::Reading::part_at))]
 fn take_part(whole: usize, bytes: &[u8]) -> Result<(Part, &[u8]), ByteFault>
     ensures { Tells (λ x. (x.0, x.1.now)) result (reads.part_at whole bytes.now) }
 {
@@ -113,7 +113,7 @@ fn take_part(whole: usize, bytes: &[u8]) -> Result<(Part, &[u8]), ByteFault>
     }
 }
 
-#[tactic(auto, unfolding(record_bytes::specs::Reading::known_at))]
+#[tactic(auto, unfolding(run_record::specs::Reading::known_at))]
 fn take_known(alloc: Global, whole: usize, bytes: &[u8]) -> Result<(Known, &[u8]), ByteFault>
     ensures { Gives (λ x. (x.0, x.1.now)) result (reads.known_at whole bytes.now) }
 {
@@ -122,7 +122,7 @@ fn take_known(alloc: Global, whole: usize, bytes: &[u8]) -> Result<(Known, &[u8]
     Ok((Known { channel, last }, rest))
 }
 
-#[tactic(auto, unfolding(record_bytes::specs::Reading::held_chain_at))]
+#[tactic(auto, unfolding(run_record::specs::Reading::held_chain_at))]
 fn take_held_chain(
     alloc: Global,
     whole: usize,
@@ -136,7 +136,7 @@ fn take_held_chain(
 }
 
 /// A number of 16 bytes: its upper half, and its lower.
-#[tactic(auto, unfolding(record_bytes::specs::Reading::wide_at))]
+#[tactic(auto, unfolding(run_record::specs::Reading::wide_at))]
 fn take_wide(whole: usize, bytes: &[u8]) -> Result<(u128, &[u8]), ByteFault>
     ensures { Tells (λ x. (x.0, x.1.now)) result (reads.wide_at whole bytes.now) }
 {
@@ -148,7 +148,7 @@ fn take_wide(whole: usize, bytes: &[u8]) -> Result<(u128, &[u8]), ByteFault>
     ))
 }
 
-#[tactic(auto, unfolding(record_bytes::specs::Reading::share_at))]
+#[tactic(auto, unfolding(run_record::specs::Reading::share_at))]
 fn take_share(whole: usize, bytes: &[u8]) -> Result<((u32, u128), &[u8]), ByteFault>
     ensures { Tells (λ x. (x.0, x.1.now)) result (reads.share_at whole bytes.now) }
 {
@@ -229,7 +229,7 @@ fn take_many_shares(
     Ok((shares, rest))
 }
 
-#[tactic(auto, unfolding(record_bytes::specs::Reading::few_at))]
+#[tactic(auto, unfolding(run_record::specs::Reading::few_at))]
 fn take_parts(alloc: Global, whole: usize, bytes: &[u8]) -> Result<(Listed<Part>, &[u8]), ByteFault>
     ensures { Gives (λ x. (x.0, x.1.now)) result (reads.few_at 64 reads.part_at whole bytes.now) }
 {
@@ -238,7 +238,7 @@ fn take_parts(alloc: Global, whole: usize, bytes: &[u8]) -> Result<(Listed<Part>
     Ok((Listed::make(parts), rest))
 }
 
-#[tactic(auto, unfolding(record_bytes::specs::Reading::few_at))]
+#[tactic(auto, unfolding(run_record::specs::Reading::few_at))]
 fn take_all_known(
     alloc: Global,
     whole: usize,
@@ -251,7 +251,7 @@ fn take_all_known(
     Ok((Listed::make(known), rest))
 }
 
-#[tactic(auto, unfolding(record_bytes::specs::Reading::few_at))]
+#[tactic(auto, unfolding(run_record::specs::Reading::few_at))]
 fn take_chains(
     alloc: Global,
     whole: usize,
@@ -264,7 +264,7 @@ fn take_chains(
     Ok((Listed::make(chains), rest))
 }
 
-#[tactic(auto, unfolding(record_bytes::specs::Reading::list_at))]
+#[tactic(auto, unfolding(run_record::specs::Reading::list_at))]
 fn take_shares(
     alloc: Global,
     whole: usize,
@@ -277,7 +277,7 @@ fn take_shares(
     Ok((Listed::make(shares), rest))
 }
 
-#[tactic(auto, unfolding(record_bytes::specs::Reading::ending_at))]
+#[tactic(auto, unfolding(run_record::specs::Reading::ending_at))]
 fn take_ending(alloc: Global, whole: usize, bytes: &[u8]) -> Result<(Ending, &[u8]), ByteFault>
     ensures { Gives (λ x. (x.0, x.1.now)) result (reads.ending_at whole bytes.now) }
 {
@@ -315,7 +315,7 @@ fn take_many_endings(
 }
 
 /// The endings behind their count.
-#[tactic(auto, unfolding(record_bytes::specs::Reading::few_at))]
+#[tactic(auto, unfolding(run_record::specs::Reading::few_at))]
 pub(crate) fn take_endings(
     alloc: Global,
     whole: usize,

@@ -1,17 +1,18 @@
 //! Entries and sums from their canonical bytes.
 
 ghost use Rattle.std.specs.Prelude.{◌≡◌, []};
-ghost use Rattle.nitro_bytes.specs.Reading.{Gives, Tells, many_at};
-ghost use Rattle.record_bytes.specs.Reading as reads;
+ghost use Rattle.channel_values.specs.Reading.{Gives, Tells, many_at};
+ghost use Rattle.run_record.specs.Reading as reads;
 
 use crate::numbers::sum_of;
 use crate::replies::{or_bad, take_reply};
-use channel_calls::{Entry, Op, take_call};
-use nitro_bytes::{ByteFault, Listed, place_of, take_byte, take_name, take_u32, take_u64};
-use record_bytes::Sum;
+use call_bytes::take_call;
+use call_history::{Entry, Op};
+use channel_values::{ByteFault, Listed, place_of, take_byte, take_name, take_u32, take_u64};
+use run_record::Sum;
 use std::alloc::Global;
 
-#[tactic(auto, unfolding(record_bytes::specs::Reading::called_at))]
+#[tactic(auto, unfolding(run_record::specs::Reading::called_at))]
 fn take_called(alloc: Global, whole: usize, bytes: &[u8]) -> Result<(Op, &[u8]), ByteFault>
     ensures { Gives (λ x. (x.0, x.1.now)) result (reads.called_at whole bytes.now) }
 {
@@ -19,7 +20,7 @@ fn take_called(alloc: Global, whole: usize, bytes: &[u8]) -> Result<(Op, &[u8]),
     Ok((Op::Call(call), rest))
 }
 
-#[tactic(auto, unfolding(record_bytes::specs::Reading::time_at))]
+#[tactic(auto, unfolding(run_record::specs::Reading::time_at))]
 fn take_time(whole: usize, bytes: &[u8]) -> Result<(Op, &[u8]), ByteFault>
     ensures { Gives (λ x. (x.0, x.1.now)) result (reads.time_at whole bytes.now) }
 {
@@ -27,7 +28,7 @@ fn take_time(whole: usize, bytes: &[u8]) -> Result<(Op, &[u8]), ByteFault>
     Ok((Op::Time(time), rest))
 }
 
-#[tactic(auto, unfolding(record_bytes::specs::Reading::op_at))]
+#[tactic(auto, unfolding(run_record::specs::Reading::op_at))]
 fn take_op(alloc: Global, whole: usize, bytes: &[u8]) -> Result<(Op, &[u8]), ByteFault>
     ensures { Gives (λ x. (x.0, x.1.now)) result (reads.op_at whole bytes.now) }
 {
@@ -40,7 +41,7 @@ fn take_op(alloc: Global, whole: usize, bytes: &[u8]) -> Result<(Op, &[u8]), Byt
     }
 }
 
-#[tactic(auto, unfolding(record_bytes::specs::Reading::entry_at))]
+#[tactic(auto, unfolding(run_record::specs::Reading::entry_at))]
 fn take_entry(alloc: Global, whole: usize, bytes: &[u8]) -> Result<(Entry, &[u8]), ByteFault>
     ensures { Gives (λ x. (x.0, x.1.now)) result (reads.entry_at whole bytes.now) }
 {
@@ -76,7 +77,7 @@ fn take_many_entries(
 }
 
 /// The entries behind their count.
-#[tactic(auto, unfolding(record_bytes::specs::Reading::list_at))]
+#[tactic(auto, unfolding(run_record::specs::Reading::list_at))]
 pub(crate) fn take_entries(
     alloc: Global,
     whole: usize,
@@ -89,7 +90,7 @@ pub(crate) fn take_entries(
     Ok((Listed::make(entries), rest))
 }
 
-#[tactic(auto, unfolding(record_bytes::specs::Reading::sum_at))]
+#[tactic(auto, unfolding(run_record::specs::Reading::sum_at))]
 fn take_sum(whole: usize, bytes: &[u8]) -> Result<(Sum, &[u8]), ByteFault>
     ensures { Tells (λ x. (x.0, x.1.now)) result (reads.sum_at whole bytes.now) }
 {
@@ -127,7 +128,7 @@ fn take_many_sums(
 }
 
 /// The sums behind their count.
-#[tactic(auto, unfolding(record_bytes::specs::Reading::list_at))]
+#[tactic(auto, unfolding(run_record::specs::Reading::list_at))]
 pub(crate) fn take_sums(
     alloc: Global,
     whole: usize,

@@ -1,12 +1,12 @@
 //! What the numbers of the formats stand for.
 
 ghost use Rattle.std.specs.Prelude.{◌≡◌};
-ghost use Rattle.record_bytes.specs.Numbers as sums;
-ghost use Rattle.reply_bytes.specs.Numbers as numbers;
+ghost use Rattle.run_record.specs.Numbers as sums;
+ghost use Rattle.call_bytes.specs.Numbers as numbers;
 
-use channel_calls::{Refusal, Reply};
-use nitro_bytes::{Name, StepFault, SupportFault};
-use record_bytes::SumOf;
+use call_history::{Refusal, Reply};
+use channel_values::{Name, StepFault, SupportFault};
+use run_record::SumOf;
 
 pub(crate) fn step_of(number: u8) -> Option<StepFault>
     ensures { result ≡ numbers.step_of number }

@@ -1,19 +1,19 @@
 //! Records from their canonical bytes.
 
 ghost use Rattle.std.specs.Prelude.{◌≡◌, IfOk, Ok};
-ghost use Rattle.nitro_bytes.specs.Reading.{Gives};
-ghost use Rattle.record_bytes.specs.Spelling as spelling;
-ghost use Rattle.record_bytes.specs.Limits.{IsRecord, KeepsRecord};
-ghost use Rattle.record_bytes.specs.Reading.{record_at, record_of};
-ghost use Rattle.record_bytes.specs.declared.run_record.Record.{Record as AnyRecord};
+ghost use Rattle.channel_values.specs.Reading.{Gives};
+ghost use Rattle.run_record.specs.Spelling as spelling;
+ghost use Rattle.run_record.specs.Limits.{IsRecord, KeepsRecord};
+ghost use Rattle.run_record.specs.Reading.{record_at, record_of};
+ghost use Rattle.run_record.specs.declared.run_record.Record.{Record as AnyRecord};
 
 use crate::endings::take_endings;
 use crate::entries::{take_entries, take_sums};
-use nitro_bytes::{ByteFault, ended};
-use record_bytes::Record;
+use channel_values::{ByteFault, ended};
+use run_record::Record;
 use std::alloc::Global;
 
-#[tactic(auto, unfolding(record_bytes::specs::Reading::record_at))]
+#[tactic(auto, unfolding(run_record::specs::Reading::record_at))]
 fn take_record(alloc: Global, whole: usize, bytes: &[u8]) -> Result<(Record, &[u8]), ByteFault>
     ensures { Gives (λ x. (x.0, x.1.now)) result (record_at whole bytes.now) }
 {
@@ -28,7 +28,7 @@ fn take_record(alloc: Global, whole: usize, bytes: &[u8]) -> Result<(Record, &[u
     Ok((record, rest))
 }
 
-#[tactic(auto, unfolding(nitro_bytes::specs::Reading::all_of))]
+#[tactic(auto, unfolding(channel_values::specs::Reading::all_of))]
 fn record_from(alloc: Global, bytes: &[u8]) -> Result<Record, ByteFault>
     ensures { Gives (λ x. x) result (record_of bytes.now) }
 {

@@ -1,12 +1,14 @@
 //! Replies from their canonical bytes. None takes memory.
 
 ghost use Rattle.std.specs.Prelude.{◌≡◌};
-ghost use Rattle.nitro_bytes.specs.Reading.{Tells};
-ghost use Rattle.reply_bytes.specs.Reading as reads;
+ghost use Rattle.channel_values.specs.Reading.{Tells};
+ghost use Rattle.call_bytes.specs.Reading as reads;
 
 use crate::numbers::{accepted_of, named_of, numbered_of, plain_of, step_of, support_of};
-use channel_calls::{Refusal, Reply};
-use nitro_bytes::{ByteFault, StepFault, SupportFault, place_of, take_byte, take_name, take_u64};
+use call_history::{Refusal, Reply};
+use channel_values::{
+    ByteFault, StepFault, SupportFault, place_of, take_byte, take_name, take_u64,
+};
 
 /// What a number stands for, with the bytes behind it; its place is the fault where it stands for nothing.
 pub(crate) fn or_bad<T: Copy>(
@@ -22,7 +24,7 @@ pub(crate) fn or_bad<T: Copy>(
     }
 }
 
-#[tactic(auto, unfolding(reply_bytes::specs::Reading::step_at))]
+#[tactic(auto, unfolding(call_bytes::specs::Reading::step_at))]
 fn take_step(whole: usize, bytes: &[u8]) -> Result<(StepFault, &[u8]), ByteFault>
     ensures { Tells (λ x. (x.0, x.1.now)) result (reads.step_at whole bytes.now) }
 {
@@ -32,7 +34,7 @@ fn take_step(whole: usize, bytes: &[u8]) -> Result<(StepFault, &[u8]), ByteFault
 }
 
 /// A fault of a chain. One that has no place has 0 there.
-#[tactic(auto, unfolding(reply_bytes::specs::Reading::support_at))]
+#[tactic(auto, unfolding(call_bytes::specs::Reading::support_at))]
 fn take_support(whole: usize, bytes: &[u8]) -> Result<(SupportFault, &[u8]), ByteFault>
     ensures { Tells (λ x. (x.0, x.1.now)) result (reads.support_at whole bytes.now) }
 {
@@ -50,7 +52,7 @@ fn take_support(whole: usize, bytes: &[u8]) -> Result<(SupportFault, &[u8]), Byt
     or_bad(at_step, support_of(tag, place, step), rest)
 }
 
-#[tactic(auto, unfolding(reply_bytes::specs::Reading::unsupported_at))]
+#[tactic(auto, unfolding(call_bytes::specs::Reading::unsupported_at))]
 fn take_unsupported(whole: usize, bytes: &[u8]) -> Result<(Refusal, &[u8]), ByteFault>
     ensures { Tells (λ x. (x.0, x.1.now)) result (reads.unsupported_at whole bytes.now) }
 {
@@ -58,7 +60,7 @@ fn take_unsupported(whole: usize, bytes: &[u8]) -> Result<(Refusal, &[u8]), Byte
     Ok((Refusal::NotSupported(fault), rest))
 }
 
-#[tactic(auto, unfolding(reply_bytes::specs::Reading::bad_step_at))]
+#[tactic(auto, unfolding(call_bytes::specs::Reading::bad_step_at))]
 fn take_bad_step(whole: usize, bytes: &[u8]) -> Result<(Refusal, &[u8]), ByteFault>
     ensures { Tells (λ x. (x.0, x.1.now)) result (reads.bad_step_at whole bytes.now) }
 {
@@ -66,7 +68,7 @@ fn take_bad_step(whole: usize, bytes: &[u8]) -> Result<(Refusal, &[u8]), ByteFau
     Ok((Refusal::BadStep(fault), rest))
 }
 
-#[tactic(auto, unfolding(reply_bytes::specs::Reading::numbered_at))]
+#[tactic(auto, unfolding(call_bytes::specs::Reading::numbered_at))]
 fn take_numbered(
     whole: usize,
     place: usize,
@@ -79,7 +81,7 @@ fn take_numbered(
     or_bad(place, numbered_of(tag, n), rest)
 }
 
-#[tactic(auto, unfolding(reply_bytes::specs::Reading::named_at))]
+#[tactic(auto, unfolding(call_bytes::specs::Reading::named_at))]
 fn take_named(
     whole: usize,
     place: usize,
@@ -114,7 +116,7 @@ fn take_kept(
     }
 }
 
-#[tactic(auto, unfolding(reply_bytes::specs::Reading::refusal_at))]
+#[tactic(auto, unfolding(call_bytes::specs::Reading::refusal_at))]
 fn take_refusal(whole: usize, bytes: &[u8]) -> Result<(Refusal, &[u8]), ByteFault>
     ensures { Tells (λ x. (x.0, x.1.now)) result (reads.refusal_at whole bytes.now) }
 {
@@ -123,7 +125,7 @@ fn take_refusal(whole: usize, bytes: &[u8]) -> Result<(Refusal, &[u8]), ByteFaul
     take_kept(whole, place, tag, rest)
 }
 
-#[tactic(auto, unfolding(reply_bytes::specs::Reading::refused_at))]
+#[tactic(auto, unfolding(call_bytes::specs::Reading::refused_at))]
 fn take_refused(whole: usize, bytes: &[u8]) -> Result<(Reply, &[u8]), ByteFault>
     ensures { Tells (λ x. (x.0, x.1.now)) result (reads.refused_at whole bytes.now) }
 {
@@ -131,7 +133,7 @@ fn take_refused(whole: usize, bytes: &[u8]) -> Result<(Reply, &[u8]), ByteFault>
     Ok((Reply::No(why), rest))
 }
 
-#[tactic(auto, unfolding(reply_bytes::specs::Reading::accepted_at))]
+#[tactic(auto, unfolding(call_bytes::specs::Reading::accepted_at))]
 fn take_accepted(
     whole: usize,
     place: usize,
@@ -156,7 +158,7 @@ fn take_told(whole: usize, place: usize, tag: u8, bytes: &[u8]) -> Result<(Reply
 }
 
 /// A reply, and the bytes after it.
-#[tactic(auto, unfolding(reply_bytes::specs::Reading::reply_at))]
+#[tactic(auto, unfolding(call_bytes::specs::Reading::reply_at))]
 pub(crate) fn take_reply(whole: usize, bytes: &[u8]) -> Result<(Reply, &[u8]), ByteFault>
     ensures { Tells (λ x. (x.0, x.1.now)) result (reads.reply_at whole bytes.now) }
 {

@@ -1,9 +1,9 @@
 //! What a record says, in words.
 
-use channel_calls::{Entry, flow_of};
-use nitro_bytes::{Dest, Name};
-use record_bytes::{Ending, Record, Sum};
+use call_history::{Entry, flow_of};
+use channel_values::{Dest, Name};
 use report_lines::entry_line;
+use run_record::{Ending, Record, Sum};
 use std::alloc::{AllocError, Global};
 
 /// The lines of a record's entries, and the names of its sums and of its endings' persons, in the order of the record.

@@ -1,9 +1,9 @@
 //! From a record and its words to the run that they tell. Nothing is checked: what the record says is taken as it is.
 
 use crate::told::Told;
-use channel_calls::{Entry as Entered, time_after};
-use nitro_bytes::Name;
-use record_bytes::{Ending, Record, Sum, SumOf};
+use call_history::{Entry as Entered, time_after};
+use channel_values::Name;
+use run_record::{Ending, Record, Sum, SumOf};
 use run_text::{AssetEnd, Balance, End, Entry, PersonAsset, PersonEnd, Run, read_paying_entry};
 use std::alloc::{AllocError, Global};
 use std::collections::BTreeMap;

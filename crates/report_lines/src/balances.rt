@@ -1,14 +1,14 @@
 //! The lines of a history's end and of its balances.
 
 ghost use Rattle.std.specs.Prelude.{◌≡◌, length, IfOk, List, ℕ, string_bytes};
-ghost use Rattle.channel_calls.specs.Flows.{AreWithinAmounts};
-ghost use Rattle.channel_calls.specs.History.{newest_first, now_of};
-ghost use Rattle.channel_calls.specs.declared.entry.Entry.{Entry};
+ghost use Rattle.call_history.specs.Flows.{AreWithinAmounts};
+ghost use Rattle.call_history.specs.History.{newest_first, now_of};
+ghost use Rattle.call_history.specs.declared.entry.Entry.{Entry};
 ghost use Rattle.report_lines.specs.Text.{end_line, asset_line, balance_line, held_line, paid_line};
 
 use crate::names::{channel_text, person_text};
-use flow_balances::Balances;
-use nitro_bytes::{Dest, Label};
+use asset_holder::Balances;
+use channel_values::{Dest, Label};
 use std::alloc::{AllocError, Global};
 
 /// How many entries a history has, and the time after it.

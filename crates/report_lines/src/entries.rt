@@ -5,8 +5,8 @@ ghost use Rattle.std.specs.Fmt.{decimal};
 ghost use Rattle.report_lines.specs.Text.{◌&◌, fixed_text, top_text, call_text, op_text, step_fault_number, support_fault_text, refusal_text, reply_text, entry_line};
 
 use crate::names::{channel_text, fixed_text};
-use channel_calls::{Call, Entry, Op, Refusal, Reply, newest};
-use nitro_bytes::{Chain, Dest, Fixed, Label, State, StepFault, SupportFault};
+use call_history::{Call, Entry, Op, Refusal, Reply, newest};
+use channel_values::{Chain, Dest, Fixed, Label, State, StepFault, SupportFault};
 use std::alloc::{AllocError, Global};
 
 /// The turn of the last state of a row, or `-` where it has none.

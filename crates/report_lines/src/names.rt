@@ -3,8 +3,7 @@
 ghost use Rattle.std.specs.Prelude.{◌≡◌, IfOk, string_bytes};
 ghost use Rattle.report_lines.specs.Text.{digits_of, dest_text, channel_text, person_text, fixed_text};
 
-use channel_name::channel_name;
-use nitro_bytes::{Dest, Fixed, Label, Name};
+use channel_values::{Dest, Fixed, Label, Name, channel_name};
 use std::alloc::{AllocError, Global};
 
 fn digits_of(alloc: Global, dest: &Dest) -> Result<String, AllocError>

@@ -4,9 +4,8 @@ ghost use Rattle.std.specs.Prelude.{◌≡◌, IfOk, string_bytes};
 ghost use Rattle.report_lines.specs.Text.{mode_text, node_refusal_text};
 
 use crate::names::channel_text;
-use channel_calls::NodeRefusal;
-use deadline_clock::Standing;
-use nitro_bytes::{Dest, Label};
+use call_history::{NodeRefusal, Standing};
+use channel_values::{Dest, Label};
 use std::alloc::{AllocError, Global};
 
 fn mode_text(mode: &Standing) -> &'static str

@@ -3,31 +3,31 @@ use Rattle.std.proofs.Common.{◌≡◌, ℕ, ◌+◌, ◌≤◌, ◌<◌, List,
 use Rattle.std.proofs.lemmas.List.Sums.{sum_by-cons}
 use Rattle.std.specs.Prelude.{◌-◌, ◌^◌, ◌==◌, ◌||◌, nat_lt, nat_le, length, slice_index_or, Result, Ok, Err}
 use Rattle.std.specs.List.{list_any}
-use Rattle.nitro_bytes.specs.declared.value.AssetOutcome.{AssetOutcome}
-use Rattle.nitro_bytes.specs.declared.value.Dest.{Dest}
-use Rattle.nitro_bytes.specs.declared.value.Dest.TheVariants.{Channel}
-use Rattle.nitro_bytes.specs.declared.value.Shape.{Shape}
-use Rattle.nitro_bytes.specs.declared.value.Shape.TheVariants.{Allocation, Guarantee}
-use Rattle.channel_model.specs.Amounts.{due}
-use Rattle.channel_model.specs.Rules.{Rules}
-use Rattle.channel_calls.specs.Dues.{no_item, shape_in, pay, rest_at, transfer_of, claim_of}
-use Rattle.channel_calls.specs.Flows.{is_outside, carries, enters, deposited_in, held_in, AreCovered}
-use Rattle.channel_calls.specs.History.{Legal, flow_of, flow_to, flows_of, held_of, deposited_of, row, now_of, paid_of, reply_to}
-use Rattle.channel_calls.specs.Refusing.{told, refuse_if}
-use Rattle.channel_calls.specs.Replies.{is_unfinished, ends_otherwise, deposit, transfer, claim}
-use Rattle.channel_calls.specs.declared.call.Call.TheVariants.{Deposit, Challenge, Respond, Refute, Checkpoint, Conclude, Transfer, Claim}
-use Rattle.channel_calls.specs.declared.call.Op.{Op}
-use Rattle.channel_calls.specs.declared.call.Op.TheVariants as ops
-use Rattle.channel_calls.specs.declared.entry.Entry.{Entry}
-use Rattle.channel_calls.specs.declared.funds.Due.{Due}
-use Rattle.channel_calls.specs.declared.funds.Flow.{Flow}
-use Rattle.channel_calls.specs.declared.refusal.Refusal.{Refusal}
-use Rattle.channel_calls.specs.declared.refusal.Refusal.TheVariants.{Zero, Underheld, AssetFull, NotFinal, WrongOutcome, NoItem, NothingDue}
-use Rattle.channel_calls.specs.declared.refusal.Reply.{Reply}
-use Rattle.channel_calls.specs.declared.refusal.Reply.TheVariants.{Held, Until, Opened, Concluded, Paid, Now}
-use Rattle.channel_calls.specs.declared.row.Row.{Row}
-use Rattle.channel_calls.proofs.Conservation.{held_le}
-use Rattle.channel_calls.proofs.Legality.{covered, pays_what_is_held}
+use Rattle.channel_values.specs.declared.value.AssetOutcome.{AssetOutcome}
+use Rattle.channel_values.specs.declared.value.Dest.{Dest}
+use Rattle.channel_values.specs.declared.value.Dest.TheVariants.{Channel}
+use Rattle.channel_values.specs.declared.value.Shape.{Shape}
+use Rattle.channel_values.specs.declared.value.Shape.TheVariants.{Allocation, Guarantee}
+use Rattle.channel_values.specs.Amounts.{due}
+use Rattle.channel_values.specs.Rules.{Rules}
+use Rattle.call_history.specs.Dues.{no_item, shape_in, pay, rest_at, transfer_of, claim_of}
+use Rattle.call_history.specs.Flows.{is_outside, carries, enters, deposited_in, held_in, AreCovered}
+use Rattle.call_history.specs.History.{Legal, flow_of, flow_to, flows_of, held_of, deposited_of, row, now_of, paid_of, reply_to}
+use Rattle.call_history.specs.Refusing.{told, refuse_if}
+use Rattle.call_history.specs.Replies.{is_unfinished, ends_otherwise, deposit, transfer, claim}
+use Rattle.call_history.specs.declared.call.Call.TheVariants.{Deposit, Challenge, Respond, Refute, Checkpoint, Conclude, Transfer, Claim}
+use Rattle.call_history.specs.declared.call.Op.{Op}
+use Rattle.call_history.specs.declared.call.Op.TheVariants as ops
+use Rattle.call_history.specs.declared.entry.Entry.{Entry}
+use Rattle.call_history.specs.declared.funds.Due.{Due}
+use Rattle.call_history.specs.declared.funds.Flow.{Flow}
+use Rattle.call_history.specs.declared.refusal.Refusal.{Refusal}
+use Rattle.call_history.specs.declared.refusal.Refusal.TheVariants.{Zero, Underheld, AssetFull, NotFinal, WrongOutcome, NoItem, NothingDue}
+use Rattle.call_history.specs.declared.refusal.Reply.{Reply}
+use Rattle.call_history.specs.declared.refusal.Reply.TheVariants.{Held, Until, Opened, Concluded, Paid, Now}
+use Rattle.call_history.specs.declared.row.Row.{Row}
+use Rattle.call_history.proofs.Conservation.{held_le}
+use Rattle.call_history.proofs.Legality.{covered, pays_what_is_held}
 
 abbrev pub is_carried : ℕ → List Flow → Bool
 is_carried asset flows = list_any (λ f. f.asset == asset) flows

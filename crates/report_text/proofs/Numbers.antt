@@ -1,12 +1,12 @@
 -- The printed numbers: the flows in the order of time are conserved.
 use Rattle.std.proofs.Common.{◌≡◌, List, sym, ◌∙◌, subst}
 use Rattle.std.specs.Prelude.{IfOk, Result, Ok, Err}
-use Rattle.channel_calls.specs.Flows.{AreConserved, AreWithinAmounts}
-use Rattle.channel_calls.specs.History.{Legal, newest_first, flows_of}
-use Rattle.channel_calls.specs.declared.entry.Entry.{Entry}
-use Rattle.channel_calls.specs.declared.funds.Flow.{Flow}
-use Rattle.channel_calls.proofs.Conservation.{flows_conserved, within_in_time}
-use Rattle.support_chain.specs.Real.{real}
+use Rattle.call_history.specs.Flows.{AreConserved, AreWithinAmounts}
+use Rattle.call_history.specs.History.{Legal, newest_first, flows_of}
+use Rattle.call_history.specs.declared.entry.Entry.{Entry}
+use Rattle.call_history.specs.declared.funds.Flow.{Flow}
+use Rattle.call_history.proofs.Conservation.{flows_conserved, within_in_time}
+use Rattle.support_rules.specs.Real.{real}
 
 pub conserved_in_time : (h : List Entry) → Legal real (newest_first h) → AreConserved (flows_of h)
 conserved_in_time h legal = flows_conserved (flows_of h) (within_in_time real h legal).covered

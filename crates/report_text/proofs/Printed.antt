@@ -8,17 +8,17 @@ use Rattle.std.specs.List.{list_any}
 use Rattle.std.specs.Ordering.{MatchOrdering, match_ordering, nat_cmp}
 use Rattle.std.specs.declared.cmp.Ordering.TheVariants.{Less, Equal, Greater}
 use Rattle.std.specs.BTreeSet.{insert_key}
-use Rattle.nitro_bytes.specs.Outcomes.{AreApart, is_same}
-use Rattle.nitro_bytes.specs.declared.value.Dest.{Dest}
-use Rattle.nitro_bytes.specs.declared.value.Dest.TheVariants.{Person, Channel}
-use Rattle.channel_calls.specs.Flows.{carries, is_outside, enters, deposited_in}
-use Rattle.channel_calls.specs.History.{Legal, newest_first, flow_of, flows_of}
-use Rattle.channel_calls.specs.declared.entry.Entry.{Entry}
-use Rattle.channel_calls.specs.declared.funds.Flow.{Flow}
-use Rattle.channel_calls.proofs.Names.{same_bytes}
-use Rattle.channel_calls.proofs.Conservation.{flows_of-push}
-use Rattle.support_chain.specs.Real.{real}
-use Rattle.flow_balances.specs.Receipts.{Pair, is_pair, is_there, add_new, assets_of, receivers_of}
+use Rattle.channel_values.specs.Outcomes.{AreApart, is_same}
+use Rattle.channel_values.specs.declared.value.Dest.{Dest}
+use Rattle.channel_values.specs.declared.value.Dest.TheVariants.{Person, Channel}
+use Rattle.call_history.specs.Flows.{carries, is_outside, enters, deposited_in}
+use Rattle.call_history.specs.History.{Legal, newest_first, flow_of, flows_of}
+use Rattle.call_history.specs.declared.entry.Entry.{Entry}
+use Rattle.call_history.specs.declared.funds.Flow.{Flow}
+use Rattle.call_history.proofs.Names.{same_bytes}
+use Rattle.call_history.proofs.Conservation.{flows_of-push}
+use Rattle.support_rules.specs.Real.{real}
+use Rattle.asset_holder.specs.Receipts.{Pair, is_pair, is_there, add_new, assets_of, receivers_of}
 use Rattle.report_text.specs.Printed.{IsBelow, AreRising, is_listed, AssetsAreThoseDeposited, is_received, ReceiversComeOnce}
 use Rattle.report_text.proofs.Backed.{is_carried, brought}
 

@@ -5,9 +5,9 @@ use Rattle.std.specs.Ordering.{nat_cmp}
 use Rattle.std.specs.BTreeSet.{insert_key}
 use Rattle.std.proofs.lemmas.List.{take_more, reverse-append}
 use Rattle.std.proofs.lemmas.List.Sums.{fold_more}
-use Rattle.channel_calls.specs.History.{newest_first, time_set, or_before, now_of, flow_of, flows_of}
-use Rattle.channel_calls.specs.declared.entry.Entry.{Entry}
-use Rattle.channel_calls.proofs.Conservation.{flows_of-push}
+use Rattle.call_history.specs.History.{newest_first, time_set, or_before, now_of, flow_of, flows_of}
+use Rattle.call_history.specs.declared.entry.Entry.{Entry}
+use Rattle.call_history.proofs.Conservation.{flows_of-push}
 use Rattle.report_text.specs.People.{refused_steps}
 use Rattle.report_text.specs.declared.commands.Refused.{Refused}
 

@@ -3,9 +3,9 @@ use Rattle.std.specs.Prelude.{◌==◌, ℕ, List, [], ◌∷◌, Bool, true, fa
 use Rattle.std.specs.Fmt.{decimal}
 use Rattle.std.specs.Ordering.{nat_cmp}
 use Rattle.std.specs.BTreeSet.{insert_key}
-use Rattle.channel_name.specs.Digests.{name_of_person}
-use Rattle.channel_calls.specs.declared.event.Deed.{Deed}
-use Rattle.channel_calls.specs.declared.event.Deed.TheVariants.{Commanded}
+use Rattle.channel_values.specs.Digests.{name_of_person}
+use Rattle.call_history.specs.declared.event.Deed.{Deed}
+use Rattle.call_history.specs.declared.event.Deed.TheVariants.{Commanded}
 use Rattle.premises.specs.declared.journal.Journal.{Journal}
 use Rattle.report_lines.specs.Text.{Labels, ◌&◌, ended, person_text, node_refusal_text}
 use Rattle.report_text.specs.declared.commands.Refused.{Refused}

@@ -1,12 +1,12 @@
 -- Which assets and which balances are printed.
 use Rattle.std.specs.Prelude.{◌≡◌, ◌<◌, ◌==◌, ◌↔◌, ◌++◌, ◌∷◌, [], ℕ, List, Bool, true, ⊤}
 use Rattle.std.specs.List.{list_any}
-use Rattle.nitro_bytes.specs.Outcomes.{AreApart}
-use Rattle.channel_calls.specs.Flows.{deposited_in}
-use Rattle.channel_calls.specs.History.{flows_of}
-use Rattle.channel_calls.specs.declared.entry.Entry.{Entry}
-use Rattle.channel_calls.specs.declared.funds.Flow.{Flow}
-use Rattle.flow_balances.specs.Receipts.{Pair, is_pair, is_there, assets_of, receivers_of}
+use Rattle.channel_values.specs.Outcomes.{AreApart}
+use Rattle.call_history.specs.Flows.{deposited_in}
+use Rattle.call_history.specs.History.{flows_of}
+use Rattle.call_history.specs.declared.entry.Entry.{Entry}
+use Rattle.call_history.specs.declared.funds.Flow.{Flow}
+use Rattle.asset_holder.specs.Receipts.{Pair, is_pair, is_there, assets_of, receivers_of}
 
 -- ---- assets
 

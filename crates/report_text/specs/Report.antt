@@ -1,8 +1,8 @@
 -- The whole text of a report.
 use Rattle.std.specs.Prelude.{ℕ, List, ◌++◌, Option, Some, None, codes, flat_map}
 use Rattle.std.specs.Fmt.{decimal}
-use Rattle.channel_calls.specs.History.{flows_of}
-use Rattle.record_bytes.specs.declared.run_record.Record.{Record}
+use Rattle.call_history.specs.History.{flows_of}
+use Rattle.run_record.specs.declared.run_record.Record.{Record}
 use Rattle.report_text.specs.People.{all_refused, command_lines}
 use Rattle.report_text.specs.Shares.{person_lines}
 use Rattle.report_lines.specs.Text.{◌&◌, ended, entry_line, end_line, balance_lines}

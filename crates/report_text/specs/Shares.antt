@@ -3,8 +3,8 @@
 use Rattle.std.specs.Prelude.{ℕ, List, [], ◌++◌, if◌then◌else◌, flat_map, codes}
 use Rattle.std.specs.Fmt.{decimal}
 use Rattle.std.specs.Str.{bytes_eq}
-use Rattle.channel_calls.specs.Flows.{paid_in}
-use Rattle.channel_calls.specs.declared.funds.Flow.{Flow}
+use Rattle.call_history.specs.Flows.{paid_in}
+use Rattle.call_history.specs.declared.funds.Flow.{Flow}
 use Rattle.report_text.specs.People.{judged_line}
 use Rattle.report_lines.specs.Text.{Labels, ◌&◌, ended, person_text}
 use Rattle.report_text.specs.declared.report.Judged.{Judged}

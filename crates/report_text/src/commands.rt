@@ -3,9 +3,8 @@
 ghost use Rattle.std.specs.Prelude.{◌≡◌, ◌++◌, flat_map, IfOk, OnOk, string_bytes};
 ghost use Rattle.report_text.specs.People.{refused_in, refused_of, all_refused, refused_steps, command_line, line_in, lines_of_step, command_lines};
 
-use channel_calls::{Deed, Event, NodeRefusal};
-use channel_name::person_name;
-use nitro_bytes::{Dest, Label, Name};
+use call_history::{Deed, Event, NodeRefusal};
+use channel_values::{Dest, Label, Name, person_name};
 use premises::Journal;
 use report_lines::{node_refusal_text, person_text};
 use std::alloc::{AllocError, Global};

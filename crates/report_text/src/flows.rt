@@ -1,12 +1,12 @@
 //! The flows of a history.
 
 ghost use Rattle.std.specs.Prelude.{◌≡◌, ◌++◌, IfOk, OnOk};
-ghost use Rattle.channel_calls.specs.History.{flow_of, flows_of};
-ghost use Rattle.flow_balances.specs.Receipts.{assets_of};
+ghost use Rattle.call_history.specs.History.{flow_of, flows_of};
+ghost use Rattle.asset_holder.specs.Receipts.{assets_of};
 
-use channel_calls::{Entry, Flow, flow_of};
-use flow_balances::Balances;
-use nitro_bytes::NoMemory;
+use asset_holder::Balances;
+use call_history::{Entry, Flow, flow_of};
+use channel_values::NoMemory;
 use std::alloc::{AllocError, Global};
 
 /// Adds the flow of an accepted call.

@@ -4,7 +4,7 @@ ghost use Rattle.std.specs.Prelude.{◌≡◌, IfOk, string_bytes};
 ghost use Rattle.report_text.specs.People.{yes_or_no, judged_line};
 
 use crate::report::Judged;
-use nitro_bytes::{Dest, Label};
+use channel_values::{Dest, Label};
 use report_lines::person_text;
 use std::alloc::{AllocError, Global};
 

@@ -1,11 +1,11 @@
 //! Laws of the text. Each function is empty: its contract is the law.
 
 ghost use Rattle.std.specs.Prelude.{List};
-ghost use Rattle.channel_calls.specs.Flows.{AreConserved};
-ghost use Rattle.channel_calls.specs.History.{Legal, newest_first, flows_of};
-ghost use Rattle.channel_calls.specs.declared.entry.Entry.{Entry};
-ghost use Rattle.channel_calls.specs.declared.funds.Flow.{Flow};
-ghost use Rattle.support_chain.specs.Real.{real};
+ghost use Rattle.call_history.specs.Flows.{AreConserved};
+ghost use Rattle.call_history.specs.History.{Legal, newest_first, flows_of};
+ghost use Rattle.call_history.specs.declared.entry.Entry.{Entry};
+ghost use Rattle.call_history.specs.declared.funds.Flow.{Flow};
+ghost use Rattle.support_rules.specs.Real.{real};
 ghost use Rattle.report_text.specs.Printed.{AssetsAreThoseDeposited, ReceiversComeOnce};
 
 /// The assets of a legal history are printed rising, and they are exactly those of which something was deposited.

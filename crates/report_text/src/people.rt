@@ -1,13 +1,13 @@
 //! The lines of people with nodes: their premises, shares and exits.
 
 ghost use Rattle.std.specs.Prelude.{◌≡◌, ◌++◌, flat_map, IfOk, OnOk, string_bytes};
-ghost use Rattle.channel_calls.specs.Flows.{AreWithinAmounts};
+ghost use Rattle.call_history.specs.Flows.{AreWithinAmounts};
 ghost use Rattle.report_text.specs.Shares.{share_line, exit_line, share_line_of, exit_line_of, person_lines};
 
 use crate::judged::judged_line;
 use crate::report::{Judged, Report, Share};
-use flow_balances::Balances;
-use nitro_bytes::{Dest, Label, Name};
+use asset_holder::Balances;
+use channel_values::{Dest, Label, Name};
 use report_lines::person_text;
 use std::alloc::{AllocError, Global};
 

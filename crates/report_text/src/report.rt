@@ -1,15 +1,15 @@
 //! What a run made, and its text.
 
 ghost use Rattle.std.specs.Prelude.{◌≡◌, IfOk};
-ghost use Rattle.channel_calls.specs.History.{Legal, newest_first};
-ghost use Rattle.support_chain.specs.Real.{real};
+ghost use Rattle.call_history.specs.History.{Legal, newest_first};
+ghost use Rattle.support_rules.specs.Real.{real};
 ghost use Rattle.report_text.specs.Report.{tail_of, text_of, record_from};
 
 use crate::text::{append_tail, report_text};
-use channel_calls::Entry;
-use nitro_bytes::{Dest, Label, Listed, Name, NoMemory};
+use call_history::Entry;
+use channel_values::{Dest, Label, Listed, Name, NoMemory};
 use premises::Journal;
-use record_bytes::{Ending, Record, Sum};
+use run_record::{Ending, Record, Sum};
 
 /// Whether each premise of a person's safety holds.
 #[derive(Clone, Copy, Debug, Drop)]

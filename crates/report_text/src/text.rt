@@ -1,10 +1,10 @@
 //! The text of a whole report.
 
 ghost use Rattle.std.specs.Prelude.{◌≡◌, ◌++◌, flat_map, IfOk, OnOk, string_bytes};
-ghost use Rattle.channel_calls.specs.Flows.{AreWithinAmounts};
-ghost use Rattle.channel_calls.specs.History.{Legal, newest_first, time_set, or_before, now_of, flows_of};
-ghost use Rattle.support_chain.specs.Real.{real};
-ghost use Rattle.flow_balances.specs.Receipts.{assets_of};
+ghost use Rattle.call_history.specs.Flows.{AreWithinAmounts};
+ghost use Rattle.call_history.specs.History.{Legal, newest_first, time_set, or_before, now_of, flows_of};
+ghost use Rattle.support_rules.specs.Real.{real};
+ghost use Rattle.asset_holder.specs.Receipts.{assets_of};
 ghost use Rattle.report_lines.specs.Text.{entry_line, asset_line, held_line, paid_line, balance_lines};
 ghost use Rattle.report_text.specs.Shares.{person_lines};
 ghost use Rattle.report_text.specs.Report.{load_line, deed_lines, tail_of, text_of};
@@ -13,9 +13,9 @@ use crate::commands::append_commands;
 use crate::flows::flows_of;
 use crate::people::append_people;
 use crate::report::{Load, Report};
-use channel_calls::{Entry, Op, Reply};
-use flow_balances::Balances;
-use nitro_bytes::{Dest, Label, NoMemory};
+use asset_holder::Balances;
+use call_history::{Entry, Op, Reply};
+use channel_values::{Dest, Label, NoMemory};
 use report_lines::{asset_line, end_line, entry_line, held_line, paid_line};
 use std::alloc::{AllocError, Global};
 

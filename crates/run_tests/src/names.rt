@@ -2,10 +2,8 @@
 
 ghost use Rattle.std.specs.Prelude.{◌≡◌, [], IfOk};
 
-use channel_calls::{Deed, Event, NodeRefusal};
-use channel_name::person_name;
-use deadline_clock::Standing;
-use nitro_bytes::{Dest, Label, Listed, Name, NoMemory};
+use call_history::{Deed, Event, NodeRefusal, Standing};
+use channel_values::{Dest, Label, Listed, Name, NoMemory, person_name};
 use premises::Journal;
 use report_text::{Report, text_of};
 use std::alloc::Global;

@@ -1,9 +1,8 @@
 //! What comes of sources and sinks that fail, and of sources that are long. Whole scripts with their texts are files, in
 //! `examples`.
 
-use byte_sink::ListSink;
-use byte_source::ListSource;
-use nitro_bytes::Label;
+use byte_streams::{ListSink, ListSource};
+use channel_values::Label;
 use script_reader::Rule;
 use script_run::{Status, run_words};
 use std::alloc::AllocError;

@@ -1,9 +1,9 @@
 //! What words ask for, with ample memory. The values that are wanted are worked out from the rules of the words.
 
-use nitro_bytes::{Label, NoMemory};
+use channel_values::{Label, NoMemory};
+use command_words::{Asked, asked};
 use std::alloc::{AllocError, Global};
 use std::test::Fail;
-use word_reader::{Asked, asked};
 
 /// The words of a line, which single spaces part.
 fn words_of(alloc: Global, line: &str) -> Result<Vec<Label>, AllocError> {

@@ -2,9 +2,9 @@
 use Rattle.std.proofs.Common.{◌≡◌, ℕ, List, [], ◌∷◌, Bool, true, false, cond, Option, Some, None, refl, sym, ◌∙◌}
 use Rattle.std.specs.Prelude.{◌==◌}
 use Rattle.std.specs.List.{find, filter_map, cons_option}
-use Rattle.nitro_bytes.specs.declared.chain.Signed.{Signed}
-use Rattle.channel_calls.specs.declared.event.Event.{Event}
-use Rattle.net_model.specs.Journals.{made_in}
+use Rattle.channel_values.specs.declared.chain.Signed.{Signed}
+use Rattle.call_history.specs.declared.event.Event.{Event}
+use Rattle.channel_safety.specs.Journals.{made_in}
 use Rattle.script_play.specs.Play.{caught}
 
 found_first : {X : Type 0} (test : X → Bool) (o : Option X) (xs : List X) (x : X) → Some x ≡ find test (cons_option o []) → Some x ≡ find test (cons_option o xs)

@@ -3,3 +3,5 @@ pub mod Weights
 pub mod Steps
 pub mod Kept
 pub mod FirstCaught
+pub mod Walked
+pub mod Played

@@ -4,28 +4,28 @@ use Rattle.std.proofs.lemmas.Bool.{eqb-true}
 use Rattle.std.proofs.lemmas.List.{length-set, length-take-le}
 use Rattle.std.specs.Prelude.{Bool, ◌||◌, ◌==◌, IsTrue, Option, Some, None, unwrap_or}
 use Rattle.std.specs.List.{position_or_len}
-use Rattle.first_found.proofs.Found.{put_found}
+use Rattle.channel_values.proofs.Found.{put_found}
 use Rattle.sha2.proofs.Facts256.{length-sha256}
 use Rattle.sha2.specs.Sha256.{sha256}
-use Rattle.sign_index.specs.Signing.{IsHeight}
-use Rattle.net_party.specs.Histories.{IsFresh}
-use Rattle.script_rules.specs.Digests.{id_of, fresh}
-use Rattle.script_rules.specs.Bounds.{Fits, persons}
+use Rattle.lms_signatures.specs.Signing.{IsHeight}
+use Rattle.network.specs.Histories.{IsFresh}
+use Rattle.script_steps.specs.Digests.{id_of, fresh}
+use Rattle.script_steps.specs.Bounds.{Fits, persons}
 use Rattle.script_play.specs.Growth.{FitsEffect, effect_weight, weight}
-use Rattle.channel_calls.specs.declared.call.Op.{Op}
-use Rattle.channel_calls.specs.declared.call.Op.TheVariants as ops
-use Rattle.net_party.specs.declared.command.Command.{Command}
-use Rattle.script_names.specs.declared.effect.Effect.TheVariants.{Enter, Tell, Post, Lose, Catch, Rounds}
-use Rattle.script_names.specs.Meanings.{Meaning, learning, doing, meant, meaning}
-use Rattle.script_names.specs.Names.{sign_challenge}
-use Rattle.script_people.specs.People.{◌>>=◌, SignedBy, has_name, person_by, signature_of, used_once, replaced, sign}
-use Rattle.named_states.specs.declared.chains.NamedState.{NamedState}
-use Rattle.script_names.specs.declared.names.Names.{Names}
-use Rattle.script_people.specs.declared.people.Person.{Person}
-use Rattle.script_rules.specs.declared.step.Step.{Step}
-use Rattle.script_rules.specs.declared.step.Step.TheVariants as steps
-use Rattle.nitro_bytes.specs.Parts.{FixedParts}
-use Rattle.world_rounds.specs.Rounds.{most_in_round}
+use Rattle.call_history.specs.declared.call.Op.{Op}
+use Rattle.call_history.specs.declared.call.Op.TheVariants as ops
+use Rattle.network.specs.declared.command.Command.{Command}
+use Rattle.step_meanings.specs.declared.effect.Effect.TheVariants.{Enter, Tell, Post, Lose, Catch, Rounds}
+use Rattle.step_meanings.specs.Meanings.{Meaning, learning, doing, meant, meaning}
+use Rattle.step_meanings.specs.Names.{sign_challenge}
+use Rattle.step_meanings.specs.People.{◌>>=◌, SignedBy, has_name, person_by, signature_of, used_once, replaced, sign}
+use Rattle.step_meanings.specs.declared.chains.NamedState.{NamedState}
+use Rattle.step_meanings.specs.declared.names.Names.{Names}
+use Rattle.step_meanings.specs.declared.people.Person.{Person}
+use Rattle.script_steps.specs.declared.step.Step.{Step}
+use Rattle.script_steps.specs.declared.step.Step.TheVariants as steps
+use Rattle.channel_values.specs.Parts.{FixedParts}
+use Rattle.script_play.specs.Rounds.{most_in_round}
 
 -- ---- who signs stays
 

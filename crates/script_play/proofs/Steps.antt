@@ -2,11 +2,11 @@
 use Rattle.std.proofs.Common.{◌≡◌, ℕ, ◌+◌, ◌<◌, List, length, drop, get_or, fold}
 use Rattle.std.proofs.lemmas.List.{at_drop_more}
 use Rattle.std.specs.List.{cons_option}
-use Rattle.net_party.specs.Ways.{Ways}
-use Rattle.script_rules.specs.Bounds.{signers_of}
-use Rattle.script_rules.specs.Conditions.{signer_of}
+use Rattle.network.specs.Ways.{Ways}
+use Rattle.script_steps.specs.Bounds.{signers_of}
+use Rattle.script_steps.specs.Conditions.{signer_of}
 use Rattle.script_play.specs.Play.{SceneOf, numbered, played}
-use Rattle.script_rules.specs.declared.step.Step.{Step}
+use Rattle.script_steps.specs.declared.step.Step.{Step}
 
 pub goes_on : {P : Type 0} (ways : Ways P) (s : SceneOf P) (number : ℕ) (steps : List Step) (i : ℕ) (d : Step) → i < length steps
     → fold (played ways) s (numbered number (drop i steps)) ≡ fold (played ways) (played ways s (number, get_or steps i d)) (numbered (number + 1) (drop (i + 1) steps))

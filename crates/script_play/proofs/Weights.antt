@@ -1,11 +1,11 @@
 -- The steps of a script make no more entries than the history has room for.
 use Rattle.std.proofs.Common.{◌≡◌, ℕ, ◌+◌, ◌*◌, ◌≤◌, ◌<◌, ◌^◌, List, [], ◌∷◌, length, arith}
 use Rattle.std.proofs.lemmas.List.Sums.{sum_by-cons}
-use Rattle.script_rules.specs.Bounds.{rounds, rounds_of}
+use Rattle.script_steps.specs.Bounds.{rounds, rounds_of}
 use Rattle.script_play.specs.Growth.{weight, weight_of}
-use Rattle.script_rules.specs.declared.step.Step.{Step}
-use Rattle.script_rules.specs.declared.step.Step.TheVariants as steps
-use Rattle.world_rounds.specs.Rounds.{most_in_round}
+use Rattle.script_steps.specs.declared.step.Step.{Step}
+use Rattle.script_steps.specs.declared.step.Step.TheVariants as steps
+use Rattle.script_play.specs.Rounds.{most_in_round}
 
 light : (step : Step) → weight step ≤ 1 + rounds step * most_in_round
 light (steps.Rounds count) = omega (arith)

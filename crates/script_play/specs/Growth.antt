@@ -1,11 +1,11 @@
 -- How much the history grows by each step.
 use Rattle.std.specs.Prelude.{ℕ, ◌*◌, List, sum_by}
-use Rattle.net_party.specs.Histories.{IsFresh}
-use Rattle.script_names.specs.declared.effect.Effect.{Effect}
-use Rattle.script_names.specs.declared.effect.Effect.TheVariants as effects
-use Rattle.script_rules.specs.declared.step.Step.{Step}
-use Rattle.script_rules.specs.declared.step.Step.TheVariants as steps
-use Rattle.world_rounds.specs.Rounds.{most_in_round}
+use Rattle.network.specs.Histories.{IsFresh}
+use Rattle.step_meanings.specs.declared.effect.Effect.{Effect}
+use Rattle.step_meanings.specs.declared.effect.Effect.TheVariants as effects
+use Rattle.script_steps.specs.declared.step.Step.{Step}
+use Rattle.script_steps.specs.declared.step.Step.TheVariants as steps
+use Rattle.script_play.specs.Rounds.{most_in_round}
 
 -- a node joins with a signer that has not signed
 abbrev pub FitsEffect : Effect → Type 0

@@ -1,2 +1,4 @@
+pub mod Rounds
 pub mod Growth
 pub mod Play
+pub mod Plays

@@ -2,22 +2,22 @@
 use Rattle.std.specs.Prelude.{ℕ, suc, zero, ◌+◌, ◌==◌, not, List, [], ◌∷◌, ◌++◌, length, filter, fold, Option, Some, None}
 use Rattle.std.specs.List.{find, filter_map}
 use Rattle.std.specs.Str.{bytes_eq}
-use Rattle.nitro_bytes.specs.declared.chain.Signed.{Signed}
-use Rattle.channel_calls.specs.declared.call.Op.{Op}
-use Rattle.channel_calls.specs.declared.call.Op.TheVariants as ops
-use Rattle.channel_calls.specs.declared.event.Event.{Event}
-use Rattle.net_model.specs.Journals.{made_in}
-use Rattle.net_party.specs.Ways.{Ways}
-use Rattle.net_party.specs.declared.command.Command.{Command}
-use Rattle.net_world.specs.Worlds.{WorldOf, new_world, happened, given, joined, journal}
-use Rattle.net_world.specs.declared.happening.Happening.{Happening}
-use Rattle.net_world.specs.declared.happening.Happening.TheVariants as happenings
-use Rattle.script_names.specs.Meanings.{Meaning, meaning, nameless, with_state}
-use Rattle.script_names.specs.declared.effect.Effect.{Effect}
-use Rattle.script_names.specs.declared.effect.Effect.TheVariants.{Nothing, Enter, Join, Tell, Post, Lose, Catch, Rounds}
-use Rattle.script_names.specs.declared.names.Names.{Names}
-use Rattle.script_rules.specs.declared.step.Step.{Step}
-use Rattle.world_rounds.specs.Rounds.{Letter, Mailed, round, seen_by}
+use Rattle.channel_values.specs.declared.chain.Signed.{Signed}
+use Rattle.call_history.specs.declared.call.Op.{Op}
+use Rattle.call_history.specs.declared.call.Op.TheVariants as ops
+use Rattle.call_history.specs.declared.event.Event.{Event}
+use Rattle.channel_safety.specs.Journals.{made_in}
+use Rattle.network.specs.Ways.{Ways}
+use Rattle.network.specs.declared.command.Command.{Command}
+use Rattle.network.specs.Worlds.{WorldOf, new_world, happened, given, joined, journal}
+use Rattle.network.specs.declared.happening.Happening.{Happening}
+use Rattle.network.specs.declared.happening.Happening.TheVariants as happenings
+use Rattle.step_meanings.specs.Meanings.{Meaning, meaning, nameless, with_state}
+use Rattle.step_meanings.specs.declared.effect.Effect.{Effect}
+use Rattle.step_meanings.specs.declared.effect.Effect.TheVariants.{Nothing, Enter, Join, Tell, Post, Lose, Catch, Rounds}
+use Rattle.step_meanings.specs.declared.names.Names.{Names}
+use Rattle.script_steps.specs.declared.step.Step.{Step}
+use Rattle.script_play.specs.Rounds.{Letter, Mailed, round, seen_by}
 
 -- What a run has come to: what names stand for, the world, the messages on their way, and how long the history was after
 -- each round.

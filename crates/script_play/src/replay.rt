@@ -2,17 +2,16 @@
 
 ghost use Rattle.std.specs.Prelude.{◌≡◌, ◌≤◌, List, length, IfOk, All};
 ghost use Rattle.std.specs.List.{cons_option};
-ghost use Rattle.sign_index.specs.Signing.{Signing};
-ghost use Rattle.script_rules.specs.Bounds.{Fits, persons_of, rounds_of, signers_of};
-ghost use Rattle.script_rules.specs.Conditions.{signer_of};
+ghost use Rattle.lms_signatures.specs.Signing.{Signing};
+ghost use Rattle.script_steps.specs.Bounds.{Fits, persons_of, rounds_of, signers_of};
+ghost use Rattle.script_steps.specs.Conditions.{signer_of};
 ghost use Rattle.script_play.specs.Play.{play};
 
 use crate::scene::Scene;
-use net_party::Party;
-use net_world::Docket;
-use nitro_bytes::NoMemory;
-use script_rules::{STEP_LIMIT, Step};
-use sign_index::Signer;
+use channel_values::NoMemory;
+use lms_signatures::Signer;
+use network::{Docket, Party};
+use script_steps::{STEP_LIMIT, Step};
 use std::alloc::Global;
 use std::collections::VecDeque;
 

@@ -3,31 +3,29 @@
 ghost use Rattle.std.specs.Prelude.{◌≡◌, ◌≤◌, ◌<◌, ◌+◌, ◌*◌, ◌-◌, ◌^◌, ◌==◌, ◌||◌, ◌++◌, ◌∷◌, [], length, fold, filter, not, OnOk, IfOk, IfSome, IsTrue};
 ghost use Rattle.std.specs.Str.{bytes_eq};
 ghost use Rattle.std.specs.Option.{option_map};
-ghost use Rattle.channel_calls.specs.History.{Legal, newest_first};
-ghost use Rattle.support_chain.specs.Real.{real};
-ghost use Rattle.net_world.specs.Entered.{oldest_first};
-ghost use Rattle.net_world.specs.Worlds.{happened, given, joined, journal};
-ghost use Rattle.net_world.specs.declared.happening.Happening.TheVariants as happenings;
-ghost use Rattle.script_rules.specs.Conditions.{signer_of};
-ghost use Rattle.script_rules.specs.Bounds.{Fits, persons};
-ghost use Rattle.script_names.specs.Meanings.{with_state};
+ghost use Rattle.call_history.specs.History.{Legal, newest_first};
+ghost use Rattle.support_rules.specs.Real.{real};
+ghost use Rattle.network.specs.Entered.{oldest_first};
+ghost use Rattle.network.specs.Worlds.{happened, given, joined, journal};
+ghost use Rattle.network.specs.declared.happening.Happening.TheVariants as happenings;
+ghost use Rattle.script_steps.specs.Conditions.{signer_of};
+ghost use Rattle.script_steps.specs.Bounds.{Fits, persons};
+ghost use Rattle.step_meanings.specs.Meanings.{with_state};
 ghost use Rattle.script_play.specs.Play.{empty, caught, told, naming, entering, play_round, play_rounds, done, played, at_end};
 ghost use Rattle.script_play.specs.Growth.{FitsEffect, effect_weight, weight};
-ghost use Rattle.script_names.specs.declared.effect.Effect.TheVariants as effects;
-ghost use Rattle.world_rounds.specs.Rounds.{most_in_round};
+ghost use Rattle.step_meanings.specs.declared.effect.Effect.TheVariants as effects;
+ghost use Rattle.script_play.specs.Rounds.{most_in_round};
 
 use crate::catching::caught;
-use channel_calls::{Entry, Op};
-use net_party::{Command, Party, copy_command};
-use net_world::{Docket, Happening, Member, World, world_step};
-use nitro_bytes::{Key, Label, Listed, Name, NoMemory};
-use script_names::{Effect, Names};
-use script_rules::Step;
-use sign_index::Signer;
+use crate::rounds::{Letter, round, see, see_all};
+use call_history::{Entry, Op};
+use channel_values::{Key, Label, Listed, Name, NoMemory};
+use lms_signatures::Signer;
+use network::{Command, Docket, Happening, Member, Party, World, copy_command, world_step};
+use script_steps::Step;
 use std::alloc::Global;
 use std::marker::Model;
-use step_meanings::meet;
-use world_rounds::{Letter, round, see, see_all};
+use step_meanings::{Effect, Names, meet};
 
 /// What names stand for, the world, the messages on their way, and how long the history was after each round.
 #[derive(Drop)]

@@ -1,14 +1,14 @@
 -- What the driver's calls make of its seat, which has the whole of the book.
 use Rattle.std.proofs.Common.{◌≡◌, ℕ, suc, List, [], ◌∷◌, ◌++◌, length, drop, refl, ◌∙◌, ap, arith, append-nil, length-append}
-use Rattle.channel_calls.specs.History.{newest_first, reply_to}
-use Rattle.channel_calls.specs.declared.call.Op.{Op}
-use Rattle.channel_calls.specs.declared.entry.Entry.{Entry}
-use Rattle.channel_calls.specs.declared.refusal.Reply.{Reply}
-use Rattle.adjudicator_book.specs.Caller.{BookId, Caller, IsCaller, Enters, Looks, opening, whole}
-use Rattle.adjudicator_core.specs.Shared.{entry_after}
-use Rattle.round_laws.specs.Races.{entered_on}
+use Rattle.call_history.specs.History.{newest_first, reply_to}
+use Rattle.call_history.specs.declared.call.Op.{Op}
+use Rattle.call_history.specs.declared.entry.Entry.{Entry}
+use Rattle.call_history.specs.declared.refusal.Reply.{Reply}
+use Rattle.shared_object.specs.Caller.{BookId, Caller, IsCaller, Enters, Looks, opening, whole}
+use Rattle.adjudicator.specs.Shared.{entry_after}
+use Rattle.network_rounds.specs.Races.{entered_on}
 use Rattle.script_race.specs.Driving.{EntersOp, HasLookedOn}
-use Rattle.support_chain.specs.Real.{real}
+use Rattle.support_rules.specs.Real.{real}
 
 -- nobody has seen anything
 pub opens : (book : BookId) → IsCaller {E = Entry} (opening book)

@@ -1,20 +1,20 @@
 -- What a step means in a race fits it, and declares at most one person.
 use Rattle.std.proofs.Common.{◌≡◌, ℕ, zero, suc, true, false, length, refl, ◌∙◌, ap, arith, rules}
 use Rattle.std.specs.Prelude.{Option, Some, None, unwrap_or}
-use Rattle.net_party.specs.Ways.{Ways}
-use Rattle.race_plays.specs.Races.{RaceOf, RunsRounds, FitsRace, Does}
-use Rattle.script_names.specs.Meanings.{Meaning, learning, meant, meaning}
-use Rattle.script_names.specs.declared.effect.Effect.{Effect}
-use Rattle.script_names.specs.declared.effect.Effect.TheVariants.{Nothing, Enter, Join, Tell, Post, Lose, Catch, Rounds}
-use Rattle.script_names.specs.declared.names.Names.{Names}
-use Rattle.script_people.specs.People.{◌>>=◌}
+use Rattle.network.specs.Ways.{Ways}
+use Rattle.script_race.specs.Races.{RaceOf, RunsRounds, FitsRace, Does}
+use Rattle.step_meanings.specs.Meanings.{Meaning, learning, meant, meaning}
+use Rattle.step_meanings.specs.declared.effect.Effect.{Effect}
+use Rattle.step_meanings.specs.declared.effect.Effect.TheVariants.{Nothing, Enter, Join, Tell, Post, Lose, Catch, Rounds}
+use Rattle.step_meanings.specs.declared.names.Names.{Names}
+use Rattle.step_meanings.specs.People.{◌>>=◌}
 use Rattle.script_play.proofs.Kept.{done_people}
 use Rattle.script_play.proofs.Meant.{meaning_grows}
 use Rattle.script_play.specs.Play.{done}
-use Rattle.script_rules.specs.Bounds.{Fits}
-use Rattle.script_rules.specs.Conditions.{runs_in_race}
-use Rattle.script_rules.specs.declared.step.Step.{Step}
-use Rattle.script_rules.specs.declared.step.Step.TheVariants as steps
+use Rattle.script_steps.specs.Bounds.{Fits}
+use Rattle.script_steps.specs.Conditions.{runs_in_race}
+use Rattle.script_steps.specs.declared.step.Step.{Step}
+use Rattle.script_steps.specs.declared.step.Step.TheVariants as steps
 
 abbrev FitsIf : Option Meaning → Type 0
 FitsIf None = Unit {0}

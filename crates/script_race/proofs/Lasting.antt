@@ -2,25 +2,25 @@
 use Rattle.std.proofs.Common.{◌≡◌, ℕ, zero, suc, ◌+◌, ◌<◌, ◌≤◌, Bool, true, inl, inr, List, [], ◌∷◌, ◌++◌, length, map, drop, get_or, refl, sym, ◌∙◌, ap, subst, arith}
 use Rattle.std.proofs.lemmas.List.{at_drop_more, reverse-reverse}
 use Rattle.std.specs.Prelude.{All}
-use Rattle.channel_calls.specs.History.{newest_first, now_of}
-use Rattle.channel_calls.specs.declared.entry.Entry.{Entry}
-use Rattle.net_model.specs.Journals.{In}
-use Rattle.net_party.specs.Ways.{Ways}
-use Rattle.net_world.specs.Entered.{oldest_first}
-use Rattle.race_laws.specs.Races.{IsRaced}
-use Rattle.race_plays.specs.Races.{RaceOf, starting, stage_of, DoesAs, Races}
-use Rattle.race_plays.proofs.Staying.{does_stays}
-use Rattle.round_laws.specs.Races.{IsRacing}
-use Rattle.round_model.specs.Members.{HasFollowed}
-use Rattle.round_model.specs.Players.{Player}
-use Rattle.script_names.specs.Meanings.{meaning}
+use Rattle.call_history.specs.History.{newest_first, now_of}
+use Rattle.call_history.specs.declared.entry.Entry.{Entry}
+use Rattle.channel_safety.specs.Journals.{In}
+use Rattle.network.specs.Ways.{Ways}
+use Rattle.network.specs.Entered.{oldest_first}
+use Rattle.channel_safety.specs.Races.{IsRaced}
+use Rattle.script_race.specs.Races.{RaceOf, starting, stage_of, DoesAs, Races}
+use Rattle.script_race.proofs.Staying.{does_stays}
+use Rattle.network_rounds.specs.Races.{IsRacing}
+use Rattle.network_rounds.specs.Members.{HasFollowed}
+use Rattle.network_rounds.specs.Players.{Player}
+use Rattle.step_meanings.specs.Meanings.{meaning}
 use Rattle.script_play.specs.Play.{numbered}
 use Rattle.script_race.proofs.Fitting.{meaning_fits}
 use Rattle.script_race.proofs.Timing.{have_followed, is_early}
 use Rattle.script_race.specs.Driving.{KeepRaces}
-use Rattle.script_rules.specs.Bounds.{Fits}
-use Rattle.script_rules.specs.Conditions.{runs_in_race}
-use Rattle.script_rules.specs.declared.step.Step.{Step}
+use Rattle.script_steps.specs.Bounds.{Fits}
+use Rattle.script_steps.specs.Conditions.{runs_in_race}
+use Rattle.script_steps.specs.declared.step.Step.{Step}
 
 -- ---- the start
 

@@ -1,6 +1,14 @@
+pub mod Durations
+pub mod Opening
+pub mod Places
+pub mod Staying
 pub mod Driving
 pub mod Nodes
 pub mod Timing
 pub mod Fitting
 pub mod Scenes
 pub mod Lasting
+pub mod Walked
+pub mod Followed
+pub mod LastingChannels
+pub mod Raced

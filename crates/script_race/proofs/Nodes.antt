@@ -2,14 +2,14 @@
 use Rattle.std.proofs.Common.{◌≡◌, ℕ, zero, suc, ◌+◌, ◌^◌, ◌<◌, ◌≤◌, List, [], ◌∷◌, length, drop, get_or, inl, inr, refl, ◌∙◌, ap, arith, length-drop}
 use Rattle.std.specs.Prelude.{◌==◌, slice_set, Some}
 use Rattle.std.specs.List.{position}
-use Rattle.adjudicator_book.specs.Caller.{most_entries}
-use Rattle.channel_calls.specs.declared.entry.Entry.{Entry}
-use Rattle.net_model.specs.Journals.{In}
-use Rattle.net_party.specs.Ways.{Ways}
-use Rattle.net_party.specs.declared.lookout.Lookout.{Lookout}
-use Rattle.net_world.proofs.Places.{changes_there}
-use Rattle.net_world.specs.Members.{MemberOf, sees}
-use Rattle.net_world.specs.Worlds.{changed}
+use Rattle.shared_object.specs.Caller.{most_entries}
+use Rattle.call_history.specs.declared.entry.Entry.{Entry}
+use Rattle.channel_safety.specs.Journals.{In}
+use Rattle.network.specs.Ways.{Ways}
+use Rattle.network.specs.declared.lookout.Lookout.{Lookout}
+use Rattle.network.proofs.Places.{changes_there}
+use Rattle.network.specs.Members.{MemberOf, sees}
+use Rattle.network.specs.Worlds.{changed}
 use Rattle.script_race.specs.Driving.{world_of}
 
 pub in_at : {A : Type 0} (xs : List A) (k : ℕ) (x : A) → k < length xs → x ≡ get_or xs k x → In x xs

@@ -3,31 +3,31 @@ use Rattle.std.proofs.Common.{◌≡◌, ℕ, suc, ◌+◌, ◌≤◌, Bool, Lis
 use Rattle.std.proofs.lemmas.List.{reverse-reverse, length-reverse}
 use Rattle.std.specs.Prelude.{Option, Some, None}
 use Rattle.std.specs.Option.{option_map}
-use Rattle.channel_calls.specs.History.{newest_first, now_of, reply_to}
-use Rattle.channel_calls.specs.declared.call.Call.{Call}
-use Rattle.channel_calls.specs.declared.call.Op.{Op}
-use Rattle.channel_calls.specs.declared.call.Op.TheVariants as ops
-use Rattle.channel_calls.specs.declared.entry.Entry.{Entry}
-use Rattle.net_model.specs.Journals.{In}
-use Rattle.net_party.specs.Ways.{Ways}
-use Rattle.net_party.specs.declared.command.Command.{Command}
-use Rattle.net_party.specs.declared.outs.Outs.{Outs}
-use Rattle.net_world.specs.Entered.{entered, oldest_first}
-use Rattle.net_world.specs.Members.{MemberOf, sees}
-use Rattle.net_world.specs.Worlds.{WorldOf, member, replaced, happened, given}
-use Rattle.net_world.specs.declared.happening.Happening.TheVariants as happenings
-use Rattle.race_plays.specs.Races.{RaceOf, RunsRound, RunsRounds, stage_of}
-use Rattle.race_plays.proofs.Staying.{rounds_stay, told_all, all_see}
-use Rattle.round_laws.proofs.Races.{on-front}
-use Rattle.round_laws.specs.Races.{entered_on, IsRacing}
-use Rattle.round_model.specs.Members.{Letter}
-use Rattle.script_names.specs.declared.names.Names.{Names}
-use Rattle.script_people.specs.declared.people.Person.{Person}
+use Rattle.call_history.specs.History.{newest_first, now_of, reply_to}
+use Rattle.call_history.specs.declared.call.Call.{Call}
+use Rattle.call_history.specs.declared.call.Op.{Op}
+use Rattle.call_history.specs.declared.call.Op.TheVariants as ops
+use Rattle.call_history.specs.declared.entry.Entry.{Entry}
+use Rattle.channel_safety.specs.Journals.{In}
+use Rattle.network.specs.Ways.{Ways}
+use Rattle.network.specs.declared.command.Command.{Command}
+use Rattle.network.specs.declared.outs.Outs.{Outs}
+use Rattle.network.specs.Entered.{entered, oldest_first}
+use Rattle.network.specs.Members.{MemberOf, sees}
+use Rattle.network.specs.Worlds.{WorldOf, member, replaced, happened, given}
+use Rattle.network.specs.declared.happening.Happening.TheVariants as happenings
+use Rattle.script_race.specs.Races.{RaceOf, RunsRound, RunsRounds, stage_of}
+use Rattle.script_race.proofs.Staying.{rounds_stay, told_all, all_see}
+use Rattle.network_rounds.proofs.Races.{on-front}
+use Rattle.network_rounds.specs.Races.{entered_on, IsRacing}
+use Rattle.network_rounds.specs.Members.{Letter}
+use Rattle.step_meanings.specs.declared.names.Names.{Names}
+use Rattle.step_meanings.specs.declared.people.Person.{Person}
 use Rattle.script_play.specs.Play.{told}
 use Rattle.script_race.specs.Driving.{KeepRaces, world_of}
 use Rattle.script_race.proofs.Timing.{have_seen}
-use Rattle.support_chain.specs.Real.{real}
-use Rattle.world_rounds.specs.Rounds.{seen_by}
+use Rattle.support_rules.specs.Real.{real}
+use Rattle.script_play.specs.Rounds.{seen_by}
 
 module _ {P : Type 0} (ways : Ways P) where
   -- a node sees, and is told the command of a step

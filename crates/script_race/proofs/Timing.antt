@@ -2,26 +2,26 @@
 use Rattle.std.proofs.Common.{◌≡◌, ℕ, zero, suc, ◌+◌, ◌-◌, ◌^◌, ◌<◌, ◌≤◌, Bool, false, inl, inr, List, [], ◌∷◌, ◌++◌, length, reverse, refl, sym, ◌∙◌, ap, subst, arith, length-append}
 use Rattle.std.proofs.lemmas.List.{reverse-reverse, length-reverse}
 use Rattle.std.specs.Prelude.{All, Option}
-use Rattle.channel_calls.specs.History.{newest_first, now_of, or_before, reply_to}
-use Rattle.channel_calls.specs.declared.call.Op.{Op}
-use Rattle.channel_calls.specs.declared.call.Op.TheVariants as ops
-use Rattle.channel_calls.specs.declared.entry.Entry.{Entry}
-use Rattle.net_model.specs.Journals.{In}
-use Rattle.net_party.specs.Ways.{Ways}
-use Rattle.net_party.specs.declared.lookout.Lookout.{Lookout}
-use Rattle.net_world.specs.Entered.{entered}
-use Rattle.net_world.specs.Members.{MemberOf}
-use Rattle.race_laws.specs.Growing.{AreTimeless}
-use Rattle.race_plays.specs.Races.{RunsRound}
-use Rattle.round_laws.proofs.Kept.{longer-is}
-use Rattle.round_laws.proofs.Races.{on-front, time-set, now-low, no-time}
-use Rattle.round_laws.specs.Races.{Stage, entered_on, IsRacing}
-use Rattle.round_laws.specs.Told.{Round}
-use Rattle.round_model.specs.Members.{HasFollowed}
-use Rattle.round_model.specs.Rounds.{CrewOf}
-use Rattle.script_names.specs.declared.names.Names.{Names}
+use Rattle.call_history.specs.History.{newest_first, now_of, or_before, reply_to}
+use Rattle.call_history.specs.declared.call.Op.{Op}
+use Rattle.call_history.specs.declared.call.Op.TheVariants as ops
+use Rattle.call_history.specs.declared.entry.Entry.{Entry}
+use Rattle.channel_safety.specs.Journals.{In}
+use Rattle.network.specs.Ways.{Ways}
+use Rattle.network.specs.declared.lookout.Lookout.{Lookout}
+use Rattle.network.specs.Entered.{entered}
+use Rattle.network.specs.Members.{MemberOf}
+use Rattle.channel_safety.specs.Growing.{AreTimeless}
+use Rattle.script_race.specs.Races.{RunsRound}
+use Rattle.network_rounds.proofs.Kept.{longer-is}
+use Rattle.network_rounds.proofs.Races.{on-front, time-set, now-low, no-time}
+use Rattle.network_rounds.specs.Races.{Stage, entered_on, IsRacing}
+use Rattle.network_rounds.specs.Told.{Round}
+use Rattle.network_rounds.specs.Members.{HasFollowed}
+use Rattle.network_rounds.specs.Rounds.{CrewOf}
+use Rattle.step_meanings.specs.declared.names.Names.{Names}
 use Rattle.script_race.specs.Driving.{KeepRaces, world_of}
-use Rattle.support_chain.specs.Real.{real}
+use Rattle.support_rules.specs.Real.{real}
 
 all_in : {A : Type 0} (Q : A → Type 0) (xs : List A) → ((x : A) → In x xs → Q x) → All Q xs
 all_in Q [] f k d lt = absurd (omega (arith, lt))

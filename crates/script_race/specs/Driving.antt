@@ -1,22 +1,22 @@
 -- A driver of a race: what its parts stand for, and what is true of it between two calls.
 use Rattle.std.specs.Prelude.{◌≡◌, Bool, false, List, map}
-use Rattle.channel_calls.specs.History.{newest_first, now_of}
-use Rattle.channel_calls.specs.declared.call.Op.{Op}
-use Rattle.channel_calls.specs.declared.entry.Entry.{Entry}
-use Rattle.adjudicator_book.specs.Caller.{Caller, IsCaller, whole}
-use Rattle.net_actors.specs.Views.{player_of}
-use Rattle.net_actors.specs.declared.cast.Cast.{Cast}
-use Rattle.net_party.specs.Ways.{Ways}
-use Rattle.net_world.specs.Members.{MemberOf}
-use Rattle.net_world.specs.Worlds.{WorldOf}
-use Rattle.round_laws.specs.Journals.{WritesJournals}
-use Rattle.round_laws.specs.Races.{entered_on, IsRacing}
-use Rattle.round_model.specs.Working.{IsHistory}
-use Rattle.round_model.specs.declared.actor.Act.{Act}
+use Rattle.call_history.specs.History.{newest_first, now_of}
+use Rattle.call_history.specs.declared.call.Op.{Op}
+use Rattle.call_history.specs.declared.entry.Entry.{Entry}
+use Rattle.shared_object.specs.Caller.{Caller, IsCaller, whole}
+use Rattle.network_rounds.specs.Views.{player_of}
+use Rattle.network_rounds.specs.declared.cast.Cast.{Cast}
+use Rattle.network.specs.Ways.{Ways}
+use Rattle.network.specs.Members.{MemberOf}
+use Rattle.network.specs.Worlds.{WorldOf}
+use Rattle.network_rounds.specs.Journals.{WritesJournals}
+use Rattle.network_rounds.specs.Races.{entered_on, IsRacing}
+use Rattle.network_rounds.specs.Working.{IsHistory}
+use Rattle.network_rounds.specs.declared.actor.Act.{Act}
 use Rattle.script_play.specs.Play.{SceneOf}
-use Rattle.race_plays.specs.Races.{RaceOf, stage_of}
+use Rattle.script_race.specs.Races.{RaceOf, stage_of}
 use Rattle.script_race.specs.declared.racing.Race.{Race}
-use Rattle.world_laws.specs.Standing.{AreKept}
+use Rattle.network.specs.Standing.{AreKept}
 
 -- nodes with what the driver has seen, in the order of time
 abbrev pub world_of : {P : Type 0} → List Entry → List (MemberOf P) → WorldOf P

@@ -1,1 +1,5 @@
+pub mod CommandLaws
+pub mod Races
+pub mod PlayLaws
 pub mod Driving
+pub mod Raced

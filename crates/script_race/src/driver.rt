@@ -2,25 +2,24 @@
 
 ghost use Rattle.std.specs.Prelude.{◌≡◌, ℕ, ◌==◌, ◌≤◌, ◌<◌, List, [], length, take, drop, fold, OnOk, IfOk, IfSome};
 ghost use Rattle.std.specs.List.{position};
-ghost use Rattle.channel_calls.specs.declared.entry.Entry.{Entry as AnEntry};
-ghost use Rattle.adjudicator_book.specs.Caller.{whole, IsCaller};
-ghost use Rattle.net_model.specs.Journals.{In};
-ghost use Rattle.net_world.specs.Members.{MemberOf, sees};
-ghost use Rattle.net_world.specs.Worlds.{happened, given, journal};
-ghost use Rattle.net_world.specs.declared.happening.Happening.TheVariants as happenings;
-ghost use Rattle.world_rounds.specs.Rounds.{seen_by};
+ghost use Rattle.call_history.specs.declared.entry.Entry.{Entry as AnEntry};
+ghost use Rattle.shared_object.specs.Caller.{whole, IsCaller};
+ghost use Rattle.channel_safety.specs.Journals.{In};
+ghost use Rattle.network.specs.Members.{MemberOf, sees};
+ghost use Rattle.network.specs.Worlds.{happened, given, journal};
+ghost use Rattle.network.specs.declared.happening.Happening.TheVariants as happenings;
+ghost use Rattle.script_play.specs.Rounds.{seen_by};
 ghost use Rattle.script_race.specs.Driving.{world_of, EntersOp, HasLookedOn};
 
-use adjudicator_book::{Book, BookFault, Seat};
-use adjudicator_core::{Adjudicator, CheckedOp};
-use channel_calls::{Entry, Event, Op};
-use net_actors::RoundFault;
-use net_party::{Command, Outs, Party, no_outs};
-use net_world::Member;
-use script_people::Person;
+use adjudicator::{Adjudicator, CheckedOp};
+use call_history::{Entry, Event, Op};
+use network::{Command, Member, Outs, Party, no_outs};
+use network_rounds::RoundFault;
+use shared_object::{Book, BookFault, Seat};
 use std::alloc::Global;
 use std::sync::Wait;
 use std::thread::Threads;
+use step_meanings::Person;
 
 /// Enters an op as caller 0, and answers its number. Its signatures are checked before the turn is drawn.
 pub(crate) fn enter<R: Threads + Wait + Sync>(

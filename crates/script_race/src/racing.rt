@@ -2,37 +2,35 @@
 
 ghost use Rattle.std.specs.Prelude.{◌≡◌, ◌≤◌, ◌+◌, ◌++◌, ◌∷◌, [], true, not, length, map, fold, filter, OnOk, IfOk};
 ghost use Rattle.std.specs.Str.{bytes_eq};
-ghost use Rattle.channel_calls.specs.History.{newest_first};
-ghost use Rattle.net_model.specs.Journals.{In};
-ghost use Rattle.net_party.specs.Histories.{IsFresh};
-ghost use Rattle.net_world.specs.Members.{MemberOf};
-ghost use Rattle.net_world.specs.Worlds.{happened, joined, journal};
-ghost use Rattle.net_actors.specs.Views.{player_of};
-ghost use Rattle.script_rules.specs.Conditions.{signer_of, runs_in_race};
-ghost use Rattle.script_rules.specs.Bounds.{Fits, persons};
-ghost use Rattle.script_names.specs.Meanings.{meaning};
-ghost use Rattle.script_names.specs.declared.effect.Effect.TheVariants as effects;
+ghost use Rattle.call_history.specs.History.{newest_first};
+ghost use Rattle.channel_safety.specs.Journals.{In};
+ghost use Rattle.network.specs.Histories.{IsFresh};
+ghost use Rattle.network.specs.Members.{MemberOf};
+ghost use Rattle.network.specs.Worlds.{happened, joined, journal};
+ghost use Rattle.network_rounds.specs.Views.{player_of};
+ghost use Rattle.script_steps.specs.Conditions.{signer_of, runs_in_race};
+ghost use Rattle.script_steps.specs.Bounds.{Fits, persons};
+ghost use Rattle.step_meanings.specs.Meanings.{meaning};
+ghost use Rattle.step_meanings.specs.declared.effect.Effect.TheVariants as effects;
 ghost use Rattle.script_play.specs.Play as plays;
 ghost use Rattle.script_play.specs.Play.{caught, naming, entering, at_end};
-ghost use Rattle.race_plays.specs.Races.{starting, FitsRace, RunsRound, RunsRounds, Does, DoesAs};
+ghost use Rattle.script_race.specs.Races.{starting, FitsRace, RunsRound, RunsRounds, Does, DoesAs};
 ghost use Rattle.script_race.specs.Driving.{race_of, IsSeated, KeepRaces, Racing, Turns};
 
 use crate::driver::{command, enter, journal, see, see_all};
-use adjudicator_book::{Book, Seat};
-use adjudicator_core::Adjudicator;
-use channel_calls::{Entry, Op};
-use net_actors::{Cast, Clear, Crew, RoundFault, race_round};
-use net_party::{Command, Party, copy_command};
-use net_world::Member;
-use nitro_bytes::{Key, Label, Listed, Name, NoMemory, Signed};
-use script_names::{Effect, Names};
+use adjudicator::Adjudicator;
+use call_history::{Entry, Op};
+use channel_values::{Key, Label, Listed, Name, NoMemory, Signed};
+use lms_signatures::Signer;
+use network::{Command, Member, Party, copy_command};
+use network_rounds::{Cast, Clear, Crew, RoundFault, race_round};
 use script_play::{caught, without};
-use script_rules::Step;
-use sign_index::Signer;
+use script_steps::Step;
+use shared_object::{Book, Seat};
 use std::alloc::Global;
 use std::sync::Wait;
 use std::thread::Threads;
-use step_meanings::meet;
+use step_meanings::{Effect, Names, meet};
 
 /// What names stand for; the shared adjudicator with the driver's seat; the nodes, the cast and the messages on their way;
 /// how long the history was after each round; and the time.

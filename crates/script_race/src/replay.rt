@@ -2,18 +2,18 @@
 
 ghost use Rattle.std.specs.Prelude.{◌≡◌, ◌≤◌, [], List, length, map, IfOk, All, true};
 ghost use Rattle.std.specs.List.{cons_option};
-ghost use Rattle.net_actors.specs.Views.{player_of};
-ghost use Rattle.sign_index.specs.Signing.{Signing};
-ghost use Rattle.script_rules.specs.Bounds.{Fits, persons_of, signers_of};
-ghost use Rattle.script_rules.specs.Conditions.{signer_of, runs_in_race};
-ghost use Rattle.race_plays.specs.Races.{IsRaceOf};
+ghost use Rattle.network_rounds.specs.Views.{player_of};
+ghost use Rattle.lms_signatures.specs.Signing.{Signing};
+ghost use Rattle.script_steps.specs.Bounds.{Fits, persons_of, signers_of};
+ghost use Rattle.script_steps.specs.Conditions.{signer_of, runs_in_race};
+ghost use Rattle.script_race.specs.Races.{IsRaceOf};
 ghost use Rattle.script_race.specs.Driving.{race_of, IsSeated, KeepRaces, Racing};
 
 use crate::racing::Race;
-use net_actors::{Cast, RoundFault};
-use net_party::Party;
-use script_rules::{STEP_LIMIT, Step};
-use sign_index::Signer;
+use lms_signatures::Signer;
+use network::Party;
+use network_rounds::{Cast, RoundFault};
+use script_steps::{STEP_LIMIT, Step};
 use std::alloc::Global;
 use std::collections::VecDeque;
 use std::sync::Wait;

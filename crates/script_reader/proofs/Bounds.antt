@@ -4,14 +4,14 @@ use Rattle.std.specs.Prelude.{Bool, ◌&&◌, ◌||◌, ◌==◌, not, nat_lt, n
 use Rattle.std.proofs.lemmas.Bool.{ltb-true, leb-true, eqb-true}
 use Rattle.std.proofs.lemmas.List.Elements.{All-nil, All-cons}
 use Rattle.std.proofs.lemmas.List.Sums.{sum_by-cons}
-use Rattle.script_rules.specs.Bounds.{Fits, persons, persons_of, rounds, rounds_of}
-use Rattle.script_rules.specs.Conditions.{after, fits, is_able, within, runs_in_race}
-use Rattle.script_rules.specs.Context.{has_index}
-use Rattle.script_rules.specs.Digests.{key_of, person_name}
+use Rattle.script_steps.specs.Bounds.{Fits, persons, persons_of, rounds, rounds_of}
+use Rattle.script_steps.specs.Conditions.{after, fits, is_able, within, runs_in_race}
+use Rattle.script_steps.specs.Context.{has_index}
+use Rattle.script_steps.specs.Digests.{key_of, person_name}
 use Rattle.script_reader.specs.Script.{start, AreChecked}
-use Rattle.script_rules.specs.declared.context.Context.{Context}
-use Rattle.script_rules.specs.declared.step.Step.{Step}
-use Rattle.script_rules.specs.declared.step.Step.TheVariants as steps
+use Rattle.script_steps.specs.declared.context.Context.{Context}
+use Rattle.script_steps.specs.declared.step.Step.{Step}
+use Rattle.script_steps.specs.declared.step.Step.TheVariants as steps
 
 both : (a b : Bool) → a && b ≡ true → (a ≡ true) × (b ≡ true)
 both true b e = (refl, e)

@@ -2,23 +2,23 @@
 use Rattle.std.proofs.Common.{◌≡◌, ℕ, ◌+◌, List, [], ◌∷◌, ◌++◌, length, refl, sym, subst, ◌∙◌, ap, Result, Ok, Err, append_assoc, append-nil, true, false}
 use Rattle.std.specs.Prelude.{Bool, ◌&&◌}
 use Rattle.serde_json.specs.Data.{Data, Items, no_items, item}
-use Rattle.net_party.specs.declared.command.Route.TheVariants.{Plain}
-use Rattle.script_rules.specs.Rules.{◌>>=◌, holds}
-use Rattle.script_rules.specs.Conditions.{after, sign_uses, open_uses, open_on_uses, open_virtual_uses, are_known, is_named, fits, has_fixed, is_new_person, is_new_channel, distinct_channel, distinct}
-use Rattle.script_rules.specs.Context.{is_new}
+use Rattle.network.specs.declared.command.Route.TheVariants.{Plain}
+use Rattle.script_steps.specs.Rules.{◌>>=◌, holds}
+use Rattle.script_steps.specs.Conditions.{after, sign_uses, open_uses, open_on_uses, open_virtual_uses, are_known, is_named, fits, has_fixed, is_new_person, is_new_channel, distinct_channel, distinct}
+use Rattle.script_steps.specs.Context.{is_new}
 use Rattle.script_reader.specs.Listed.{listed}
 use Rattle.script_reader.specs.Reading.{written_of, named_of, led, knows_names, limited, may_race, step_of, Keeps}
 use Rattle.script_reader.specs.Resolved.{knows_outcome, resolved, outcome_in, pair_in}
 use Rattle.script_reader.specs.Script as script
 use Rattle.script_reader.specs.Script.{at_step, steps_from, script_of, AreChecked}
-use Rattle.script_rules.specs.declared.context.Context.{Context}
-use Rattle.script_rules.specs.declared.step.Rule.{Rule}
-use Rattle.script_rules.specs.declared.step.Rule.TheVariants as rules
-use Rattle.script_rules.specs.declared.step.Step.{Step}
-use Rattle.script_rules.specs.declared.step.Step.TheVariants as steps
+use Rattle.script_steps.specs.declared.context.Context.{Context}
+use Rattle.script_steps.specs.declared.step.Rule.{Rule}
+use Rattle.script_steps.specs.declared.step.Rule.TheVariants as rules
+use Rattle.script_steps.specs.declared.step.Step.{Step}
+use Rattle.script_steps.specs.declared.step.Step.TheVariants as steps
 use Rattle.script_reader.specs.declared.script.ScriptFault.{ScriptFault}
-use Rattle.step_forms.specs.declared.written.Written.{Written}
-use Rattle.step_forms.specs.declared.written.Written.TheVariants as written
+use Rattle.script_reader.specs.declared.written.Written.{Written}
+use Rattle.script_reader.specs.declared.written.Written.TheVariants as written
 
 -- both went well, if one after the other did
 bind_ok : {A B : Type 0} (r : Result A Rule) (f : A → Result B Rule) (y : B) → r >>= f ≡ Ok y → (x : A) × (r ≡ Ok x) × (f x ≡ Ok y)

@@ -1,3 +1,5 @@
+pub mod Counts
+pub mod Many
 pub mod Bounds
 pub mod Checked
 pub mod Each

@@ -5,8 +5,8 @@ use Rattle.serde_json.specs.Data.{Data}
 use Rattle.script_reader.specs.Script.{IsJson, IsNoJson, IsScript, Breaks, start, script_of}
 use Rattle.script_reader.specs.declared.script.ScriptFault.{ScriptFault}
 use Rattle.script_reader.specs.declared.script.ScriptFault.TheVariants.{Broken}
-use Rattle.script_rules.specs.declared.step.Rule.{Rule}
-use Rattle.script_rules.specs.declared.step.Step.{Step}
+use Rattle.script_steps.specs.declared.step.Rule.{Rule}
+use Rattle.script_steps.specs.declared.step.Step.{Step}
 
 one_value : (bytes : List ℕ) (d e : Data) → IsJson bytes d → IsJson bytes e → d ≡ e
 one_value bytes d e p q = let a = p.1 in let b = q.1 in cc

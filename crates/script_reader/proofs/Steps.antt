@@ -4,13 +4,13 @@ use Rattle.std.proofs.lemmas.List.{at_drop_more}
 use Rattle.std.proofs.lemmas.List.Elements.{filter_map-append}
 use Rattle.serde_json.specs.declared.value.Value.{Value}
 use Rattle.serde_json.specs.View.{view, items_view}
-use Rattle.sign_index.specs.Signing.{Signing}
-use Rattle.script_rules.specs.Bounds.{signers_of}
-use Rattle.script_rules.specs.Conditions.{after, signer_of}
+use Rattle.lms_signatures.specs.Signing.{Signing}
+use Rattle.script_steps.specs.Bounds.{signers_of}
+use Rattle.script_steps.specs.Conditions.{after, signer_of}
 use Rattle.script_reader.specs.Reading.{step_of}
 use Rattle.script_reader.specs.Script.{◌>>=◌, at_step, steps_from}
-use Rattle.script_rules.specs.declared.context.Context.{Context}
-use Rattle.script_rules.specs.declared.step.Step.{Step}
+use Rattle.script_steps.specs.declared.context.Context.{Context}
+use Rattle.script_steps.specs.declared.step.Step.{Step}
 use Rattle.script_reader.specs.declared.script.ScriptFault.{ScriptFault}
 
 -- what is read of the values that are left, behind the steps seen

@@ -1,10 +1,10 @@
 -- The items of a script, before any of them is read.
 use Rattle.std.specs.Prelude.{Bool, nat_le, Result, Ok, codes}
 use Rattle.serde_json.specs.Data.{Data, Items}
-use Rattle.script_rules.specs.Rules.{◌>>=◌, holds}
-use Rattle.key_kinds.specs.Kinds.{keys, array_at, item_count}
-use Rattle.script_rules.specs.declared.step.Rule.{Rule}
-use Rattle.script_rules.specs.declared.step.Rule.TheVariants as rules
+use Rattle.script_steps.specs.Rules.{◌>>=◌, holds}
+use Rattle.script_reader.specs.Kinds.{keys, array_at, item_count}
+use Rattle.script_steps.specs.declared.step.Rule.{Rule}
+use Rattle.script_steps.specs.declared.step.Rule.TheVariants as rules
 
 -- at most 4,096 items
 abbrev pub few_items : Items → Bool

@@ -3,7 +3,7 @@ use Rattle.std.specs.Prelude.{ℕ, zero, suc, List, ◌++◌, codes}
 use Rattle.std.specs.Fmt.{decimal}
 use Rattle.script_reader.specs.declared.script.ScriptFault.{ScriptFault}
 use Rattle.script_reader.specs.declared.script.ScriptFault.TheVariants as faults
-use Rattle.script_rules.specs.Messages.{rule_words}
+use Rattle.script_steps.specs.Messages.{rule_words}
 
 -- why a script is refused
 abbrev pub fault_words : ScriptFault → List ℕ

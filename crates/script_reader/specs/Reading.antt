@@ -1,18 +1,18 @@
 -- The step that a value is, or the first rule that it breaks.
 use Rattle.std.specs.Prelude.{◌≡◌, ◌&&◌, ◌||◌, Bool, true, not, Result, Ok}
 use Rattle.serde_json.specs.Data.{Data}
-use Rattle.script_rules.specs.Rules.{◌>>=◌, holds}
-use Rattle.key_kinds.specs.Kinds.{word_at}
-use Rattle.step_forms.specs.Forms.{is_word, written_by}
+use Rattle.script_steps.specs.Rules.{◌>>=◌, holds}
+use Rattle.script_reader.specs.Kinds.{word_at}
+use Rattle.script_reader.specs.Forms.{is_word, written_by}
 use Rattle.script_reader.specs.Resolved.{knows_outcome, resolved}
-use Rattle.script_rules.specs.Conditions.{sign_uses, open_uses, open_on_uses, open_virtual_uses, are_known, is_named, fits, distinct, runs_in_race}
-use Rattle.script_rules.specs.Context.{is_new}
-use Rattle.script_rules.specs.declared.context.Context.{Context}
-use Rattle.script_rules.specs.declared.step.Rule.{Rule}
-use Rattle.script_rules.specs.declared.step.Rule.TheVariants as rules
-use Rattle.script_rules.specs.declared.step.Step.{Step}
-use Rattle.step_forms.specs.declared.written.Written.{Written}
-use Rattle.step_forms.specs.declared.written.Written.TheVariants as written
+use Rattle.script_steps.specs.Conditions.{sign_uses, open_uses, open_on_uses, open_virtual_uses, are_known, is_named, fits, distinct, runs_in_race}
+use Rattle.script_steps.specs.Context.{is_new}
+use Rattle.script_steps.specs.declared.context.Context.{Context}
+use Rattle.script_steps.specs.declared.step.Rule.{Rule}
+use Rattle.script_steps.specs.declared.step.Rule.TheVariants as rules
+use Rattle.script_steps.specs.declared.step.Step.{Step}
+use Rattle.script_reader.specs.declared.written.Written.{Written}
+use Rattle.script_reader.specs.declared.written.Written.TheVariants as written
 
 -- first the shape alone
 abbrev pub written_of : Data → Result Written Rule

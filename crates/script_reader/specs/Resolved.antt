@@ -1,35 +1,35 @@
 -- Where the names of an outcome lead, by what earlier steps declared.
 use Rattle.std.specs.Prelude.{◌&&◌, ◌^◌, ℕ, List, [], ◌∷◌, ◌++◌, Bool, nat_lt, is_ok, Option, Some, None, Result, Ok, Err}
 use Rattle.std.specs.List.{list_all}
-use Rattle.net_party.specs.declared.command.Route.TheVariants.{Plain}
-use Rattle.nitro_bytes.specs.declared.value.Dest.{Dest}
-use Rattle.nitro_bytes.specs.declared.value.Dest.TheVariants as dests
-use Rattle.nitro_bytes.specs.declared.value.Item.{Item}
-use Rattle.nitro_bytes.specs.declared.value.Shape.{Shape}
-use Rattle.nitro_bytes.specs.declared.value.Shape.TheVariants.{Allocation, Guarantee}
-use Rattle.nitro_bytes.specs.declared.value.AssetOutcome.{AssetOutcome}
-use Rattle.nitro_bytes.specs.Spelling.{outcome}
-use Rattle.nitro_bytes.specs.Reading.{outcome_of}
-use Rattle.script_rules.specs.Context.{person_by, channel_by, knows}
-use Rattle.script_rules.specs.Rules.{◌>>=◌, given, holds}
-use Rattle.script_rules.specs.declared.context.Channel.{Channel}
-use Rattle.script_rules.specs.declared.context.Context.{Context}
-use Rattle.script_rules.specs.declared.context.Kind.TheVariants as kinds
-use Rattle.script_rules.specs.declared.context.Person.{Person}
-use Rattle.script_rules.specs.declared.step.Rule.{Rule}
-use Rattle.script_rules.specs.declared.step.Rule.TheVariants as rules
-use Rattle.script_rules.specs.declared.step.Step.{Step}
-use Rattle.script_rules.specs.declared.step.Step.TheVariants as steps
-use Rattle.step_forms.specs.declared.written.Holding.{Holding}
-use Rattle.step_forms.specs.declared.written.OpenKeys.{OpenKeys}
-use Rattle.step_forms.specs.declared.written.OpenOnKeys.{OpenOnKeys}
-use Rattle.step_forms.specs.declared.written.OpenVirtualKeys.{OpenVirtualKeys}
-use Rattle.step_forms.specs.declared.written.SignKeys.{SignKeys}
-use Rattle.step_forms.specs.declared.written.Written.{Written}
-use Rattle.step_forms.specs.declared.written.Written.TheVariants as written
-use Rattle.step_forms.specs.declared.written.WrittenShape.{WrittenShape}
-use Rattle.step_forms.specs.declared.written.WrittenShape.TheVariants as shapes
-use Rattle.step_forms.specs.declared.written.WrittenAsset.{WrittenAsset}
+use Rattle.network.specs.declared.command.Route.TheVariants.{Plain}
+use Rattle.channel_values.specs.declared.value.Dest.{Dest}
+use Rattle.channel_values.specs.declared.value.Dest.TheVariants as dests
+use Rattle.channel_values.specs.declared.value.Item.{Item}
+use Rattle.channel_values.specs.declared.value.Shape.{Shape}
+use Rattle.channel_values.specs.declared.value.Shape.TheVariants.{Allocation, Guarantee}
+use Rattle.channel_values.specs.declared.value.AssetOutcome.{AssetOutcome}
+use Rattle.channel_values.specs.Spelling.{outcome}
+use Rattle.channel_values.specs.Reading.{outcome_of}
+use Rattle.script_steps.specs.Context.{person_by, channel_by, knows}
+use Rattle.script_steps.specs.Rules.{◌>>=◌, given, holds}
+use Rattle.script_steps.specs.declared.context.Channel.{Channel}
+use Rattle.script_steps.specs.declared.context.Context.{Context}
+use Rattle.script_steps.specs.declared.context.Kind.TheVariants as kinds
+use Rattle.script_steps.specs.declared.context.Person.{Person}
+use Rattle.script_steps.specs.declared.step.Rule.{Rule}
+use Rattle.script_steps.specs.declared.step.Rule.TheVariants as rules
+use Rattle.script_steps.specs.declared.step.Step.{Step}
+use Rattle.script_steps.specs.declared.step.Step.TheVariants as steps
+use Rattle.script_reader.specs.declared.written.Holding.{Holding}
+use Rattle.script_reader.specs.declared.written.OpenKeys.{OpenKeys}
+use Rattle.script_reader.specs.declared.written.OpenOnKeys.{OpenOnKeys}
+use Rattle.script_reader.specs.declared.written.OpenVirtualKeys.{OpenVirtualKeys}
+use Rattle.script_reader.specs.declared.written.SignKeys.{SignKeys}
+use Rattle.script_reader.specs.declared.written.Written.{Written}
+use Rattle.script_reader.specs.declared.written.Written.TheVariants as written
+use Rattle.script_reader.specs.declared.written.WrittenShape.{WrittenShape}
+use Rattle.script_reader.specs.declared.written.WrittenShape.TheVariants as shapes
+use Rattle.script_reader.specs.declared.written.WrittenAsset.{WrittenAsset}
 
 abbrev pub knows_shape : Context → WrittenShape → Bool
 knows_shape c (shapes.Items holdings) = list_all (λ h. knows c kinds.Dest h.to) holdings

@@ -3,14 +3,14 @@ use Rattle.std.specs.Prelude.{◌≡◌, ◌⊎◌, ◌+◌, ◌++◌, ◌∷◌
 use Rattle.serde_json.specs.Data.{Data, Items, no_items, item}
 use Rattle.serde_json.specs.Read.{read}
 use Rattle.script_reader.specs.Listed.{listed}
-use Rattle.script_rules.specs.Conditions.{after}
+use Rattle.script_steps.specs.Conditions.{after}
 use Rattle.script_reader.specs.Reading.{step_of, Keeps}
-use Rattle.script_rules.specs.declared.context.Context.{Context}
-use Rattle.script_rules.specs.declared.step.Rule.{Rule}
-use Rattle.script_rules.specs.declared.step.Rule.TheVariants as rules
-use Rattle.script_rules.specs.declared.step.Step.{Step}
-use Rattle.script_rules.specs.declared.step.StepFault.{StepFault}
-use Rattle.script_rules.specs.declared.step.StepFault.TheVariants as stepfaults
+use Rattle.script_steps.specs.declared.context.Context.{Context}
+use Rattle.script_steps.specs.declared.step.Rule.{Rule}
+use Rattle.script_steps.specs.declared.step.Rule.TheVariants as rules
+use Rattle.script_steps.specs.declared.step.Step.{Step}
+use Rattle.script_steps.specs.declared.step.StepFault.{StepFault}
+use Rattle.script_steps.specs.declared.step.StepFault.TheVariants as stepfaults
 use Rattle.script_reader.specs.declared.script.ScriptFault.{ScriptFault}
 use Rattle.script_reader.specs.declared.script.ScriptFault.TheVariants.{Broken, NoMemory}
 

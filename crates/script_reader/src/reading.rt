@@ -2,17 +2,18 @@
 
 ghost use Rattle.std.specs.Prelude.{◌≡◌, IfOk};
 ghost use Rattle.serde_json.specs.View.{view};
-ghost use Rattle.script_rules.specs.Rules.{Gives};
-ghost use Rattle.script_rules.specs.Conditions.{after, signer_of};
+ghost use Rattle.script_steps.specs.Rules.{Gives};
+ghost use Rattle.script_steps.specs.Conditions.{after, signer_of};
 ghost use Rattle.script_reader.specs.Reading.{written_of, knows_names, named_of, led, limited, step_of};
 
+use crate::forms::{is_word, written_by};
+use crate::kinds::word_at;
 use crate::resolve::{knows_outcome, resolved};
-use key_kinds::word_at;
-use script_rules::{Context, Rule, Step, StepFault, enter, runs_in_race};
+use crate::written::Written;
+use lms_signatures::Signer;
+use script_steps::{Context, Rule, Step, StepFault, enter, runs_in_race};
 use serde_json::Value;
-use sign_index::Signer;
 use std::alloc::Global;
-use step_forms::{Written, is_word, written_by};
 
 /// Reads a step as it is written.
 fn written_of(alloc: Global, step: &Value) -> Result<Written, StepFault>

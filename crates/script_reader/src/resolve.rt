@@ -2,17 +2,17 @@
 
 ghost use Rattle.std.specs.Prelude.{◌≡◌, []};
 ghost use Rattle.std.specs.List.{list_all};
-ghost use Rattle.script_rules.specs.Rules.{Gives};
+ghost use Rattle.script_steps.specs.Rules.{Gives};
 ghost use Rattle.script_reader.specs.Resolved.{knows_shape, knows_outcome, dest_of, item_of, each, shape_in, asset_in, outcome_in, pair_in, signed, opened, opened_on, opened_virtual, resolved};
-ghost use Rattle.script_rules.specs.Context.{knows};
+ghost use Rattle.script_steps.specs.Context.{knows};
 
-use net_party::Route;
-use nitro_bytes::{AssetOutcome, ByteFault, Dest, Item, Label, Listed, Outcome, Shape};
-use script_rules::{Context, Kind, Rule, Step, StepFault};
-use std::alloc::Global;
-use step_forms::{
+use crate::written::{
     Holding, OpenKeys, OpenOnKeys, OpenVirtualKeys, SignKeys, Written, WrittenAsset, WrittenShape,
 };
+use channel_values::{AssetOutcome, ByteFault, Dest, Item, Label, Listed, Outcome, Shape};
+use network::Route;
+use script_steps::{Context, Kind, Rule, Step, StepFault};
+use std::alloc::Global;
 
 fn knows_holdings(context: &Context, holdings: &[Holding]) -> bool
     ensures { result ≡ list_all (λ h. knows context.now Kind.Dest h.to) holdings.now }

@@ -2,20 +2,20 @@
 
 ghost use Rattle.std.specs.Prelude.{◌≡◌, ◌≤◌, [], length, nat_le, IfOk, All};
 ghost use Rattle.serde_json.specs.View.{view, items_view};
-ghost use Rattle.script_rules.specs.Rules.{Gives};
+ghost use Rattle.script_steps.specs.Rules.{Gives};
 ghost use Rattle.script_reader.specs.Listed.{few_items, listed};
-ghost use Rattle.script_rules.specs.Conditions.{after, signer_of};
-ghost use Rattle.script_rules.specs.Bounds.{Fits, persons_of, rounds_of, signers_of};
+ghost use Rattle.script_steps.specs.Conditions.{after, signer_of};
+ghost use Rattle.script_steps.specs.Bounds.{Fits, persons_of, rounds_of, signers_of};
 ghost use Rattle.script_reader.specs.Reading.{step_of};
 ghost use Rattle.script_reader.specs.Script.{Ends, fault_at, at_step, start, steps_from, script_of, IsReading, IsReadingIn, AreChecked};
 ghost use Rattle.script_reader.specs.declared.script.ScriptFault.TheVariants.{NoMemory as NoMemoryLeft};
 
+use crate::kinds::{array_at, keys};
 use crate::reading::step_of;
-use key_kinds::{array_at, keys};
-use nitro_bytes::{Listed, NoMemory};
-use script_rules::{Context, NameList, Rule, STEP_LIMIT, Step, StepFault};
+use channel_values::{Listed, NoMemory};
+use lms_signatures::Signer;
+use script_steps::{Context, NameList, Rule, STEP_LIMIT, Step, StepFault};
 use serde_json::Value;
-use sign_index::Signer;
 use std::alloc::{AllocFailed, Global};
 use std::error::Error;
 use std::fmt;
@@ -133,7 +133,7 @@ fn steps_in(
     Ok((steps, signers))
 }
 
-#[tactic(auto, using(key_kinds::proofs::Counts::item_count_view))]
+#[tactic(auto, using(crate::proofs::Counts::item_count_view))]
 fn is_few(values: &[Value]) -> bool
     ensures few { result ≡ few_items (items_view values.now) }
     ensures count { result ≡ nat_le (length values.now) STEP_LIMIT }

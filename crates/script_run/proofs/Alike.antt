@@ -1,25 +1,25 @@
 -- The words and the bytes of a source that doesn't fail determine the end and the report.
 use Rattle.std.proofs.Common.{◌≡◌, ℕ, ◌≤◌, ◌<◌, ◌⊎◌, inl, inr, List, length, Option, Some, None, refl, sym, ◌∙◌, ap, arith, subst}
 use Rattle.std.specs.Prelude.{◌≢◌, true, false}
-use Rattle.net_party.specs.Ways.{Ways}
+use Rattle.network.specs.Ways.{Ways}
 use Rattle.play_report.specs.Reported.{IsPlayed}
 use Rattle.play_report.proofs.Once.{one_report}
 use Rattle.report_text.specs.declared.report.Load.{Load as Note}
 use Rattle.report_text.specs.declared.report.Report.{Report}
-use Rattle.script_names.specs.Commands.{command_of}
+use Rattle.step_meanings.specs.Commands.{command_of}
 use Rattle.script_play.specs.Play.{play}
 use Rattle.script_reader.specs.Script.{IsScript, Breaks}
 use Rattle.script_reader.specs.step.Rule.{Rule}
 use Rattle.script_reader.specs.step.Step.{Step}
 use Rattle.script_reader.proofs.OneReading.{one_script, script_breaks_none, one_fault}
-use Rattle.round_model.specs.Players.{Player}
+use Rattle.network_rounds.specs.Players.{Player}
 use Rattle.script_run.specs.Run.{Given, IsCalm, EndsAlike, EndsAs, Comes, wanted, made_from}
-use Rattle.word_reader.specs.declared.asking.Asked.{Asked}
-use Rattle.word_reader.specs.declared.asking.Asked.TheVariants.{Run, Race, Load}
-use Rattle.load_script.specs.Load.{load_steps}
+use Rattle.command_words.specs.declared.asking.Asked.{Asked}
+use Rattle.command_words.specs.declared.asking.Asked.TheVariants.{Run, Race, Load}
+use Rattle.load.specs.Load.{load_steps}
 use Rattle.script_run.specs.declared.run.Status.{Status}
 use Rattle.script_run.specs.declared.run.Status.TheVariants.{Done, NoMemory, Usage, Script, ReadFault, WriteFault, TooLong}
-use Rattle.byte_source.proofs.Known.{all_taken, no_more_taken}
+use Rattle.byte_streams.proofs.Known.{all_taken, no_more_taken}
 
 -- ---- what words and bytes come to
 

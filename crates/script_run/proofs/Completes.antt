@@ -4,15 +4,15 @@ use Rattle.std.specs.Prelude.{IfSome}
 use Rattle.script_reader.specs.Script.{Breaks}
 use Rattle.script_reader.specs.step.Rule.{Rule}
 use Rattle.script_reader.proofs.OneReading.{script_breaks_none}
-use Rattle.byte_source.specs.Outside.{Rose}
-use Rattle.byte_source.proofs.Known.{all_taken, no_more_taken}
-use Rattle.round_model.specs.Players.{Player}
+use Rattle.byte_streams.specs.OutsideSource.{Rose}
+use Rattle.byte_streams.proofs.Known.{all_taken, no_more_taken}
+use Rattle.network_rounds.specs.Players.{Player}
 use Rattle.script_run.specs.Run.{Given, wanted, play, Plays, Takes, Reads, TellsScript, HasScript, IsRunnable, IsToldOf, EndsAs}
 use Rattle.script_run.specs.declared.run.Status.{Status}
 use Rattle.script_run.specs.declared.run.Status.TheVariants.{Done, NoMemory, Usage, Script, ReadFault, WriteFault, TooLong}
-use Rattle.word_reader.specs.declared.asking.Asked.{Asked}
+use Rattle.command_words.specs.declared.asking.Asked.{Asked}
 use Rattle.report_text.specs.declared.report.Report.{Report}
-use Rattle.net_party.specs.Ways.{Ways}
+use Rattle.network.specs.Ways.{Ways}
 
 -- words ask for one thing
 same_request : (o : Option Asked) (p a : Asked) → o ≡ Some p → o ≡ Some a → a ≡ p

@@ -3,11 +3,11 @@ use Rattle.std.proofs.Common.{◌≡◌, ℕ, ◌≤◌, List, [], ◌∷◌, Bo
 use Rattle.std.specs.Prelude.{◌&&◌, nat_le, flat_map}
 use Rattle.std.specs.Str.{bytes_eq}
 use Rattle.std.proofs.lemmas.Bool.{leb-true}
-use Rattle.load_script.specs.Load.{are_two}
+use Rattle.load.specs.Load.{are_two}
 use Rattle.script_run.specs.Run.{playable, wanted}
-use Rattle.word_reader.specs.Words.{number_of, load_of, parts_of, is_end, load_in, asked}
-use Rattle.word_reader.specs.declared.asking.Asked.{Asked}
-use Rattle.word_reader.specs.declared.asking.Asked.TheVariants.{Run, Race, Load}
+use Rattle.command_words.specs.Words.{number_of, load_of, parts_of, is_end, load_in, asked}
+use Rattle.command_words.specs.declared.asking.Asked.{Asked}
+use Rattle.command_words.specs.declared.asking.Asked.TheVariants.{Run, Race, Load}
 
 abbrev IsWithin : ℕ → Type 0
 IsWithin count = (1 ≤ count) × (count ≤ 1000)

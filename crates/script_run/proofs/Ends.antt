@@ -1,19 +1,19 @@
 -- The ends of a script that was read, or couldn't be: as a run, and as a race.
 use Rattle.std.proofs.Common.{◌≡◌, ℕ, ◌≤◌, ◌<◌, true, false, List, length, Some, None, sym, subst}
 use Rattle.std.specs.Io.KnownBytes.{Consumes, IsAtEnd}
-use Rattle.byte_source.specs.Outside.{Rose}
-use Rattle.net_party.specs.Ways.{Ways}
+use Rattle.byte_streams.specs.OutsideSource.{Rose}
+use Rattle.network.specs.Ways.{Ways}
 use Rattle.play_report.specs.Reported.{IsPlayed}
-use Rattle.race_report.specs.Raced.{IsOfRace}
+use Rattle.script_race.specs.Raced.{IsOfRace}
 use Rattle.report_text.specs.declared.report.Report.{Report}
-use Rattle.round_model.specs.Players.{Player}
+use Rattle.network_rounds.specs.Players.{Player}
 use Rattle.script_reader.specs.Script.{IsScript, Breaks}
 use Rattle.script_reader.specs.step.Rule.{Rule}
 use Rattle.script_reader.specs.step.Step.{Step}
 use Rattle.script_run.specs.Run.{Given, Takes, wanted, EndsAs}
 use Rattle.script_run.specs.declared.run.Ended.{Ended}
 use Rattle.script_run.specs.declared.run.Status.TheVariants.{Done, Script, ReadFault, TooLong}
-use Rattle.word_reader.specs.declared.asking.Asked.TheVariants.{Run, Race}
+use Rattle.command_words.specs.declared.asking.Asked.TheVariants.{Run, Race}
 
 module _ {P : Type 0} (ways : Ways P) (cast : List Player) (g : Given) (bytes : List ℕ) (taken : Consumes g.before g.after bytes) (done : IsAtEnd g.after)
     (short : length bytes ≤ 4194304) where

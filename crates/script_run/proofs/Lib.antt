@@ -1,3 +1,4 @@
+pub mod Sound
 pub mod Alike
 pub mod Completes
 pub mod Counts
@@ -5,3 +6,5 @@ pub mod Ends
 pub mod Loaded
 pub mod Pays
 pub mod Racing
+pub mod RecordEnds
+pub mod RecordCompletes

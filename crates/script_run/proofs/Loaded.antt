@@ -1,12 +1,12 @@
 -- What a load comes to.
 use Rattle.std.proofs.Common.{◌≡◌, ℕ, List, Some, subst}
-use Rattle.net_party.specs.Ways.{Ways}
+use Rattle.network.specs.Ways.{Ways}
 use Rattle.play_report.specs.Reported.{IsPlayed}
 use Rattle.report_text.specs.declared.report.Report.{Report}
 use Rattle.script_reader.specs.step.Step.{Step}
-use Rattle.word_reader.specs.declared.asking.Asked.TheVariants.{Load}
-use Rattle.load_script.specs.Load.{load_steps}
-use Rattle.round_model.specs.Players.{Player}
+use Rattle.command_words.specs.declared.asking.Asked.TheVariants.{Load}
+use Rattle.load.specs.Load.{load_steps}
+use Rattle.network_rounds.specs.Players.{Player}
 use Rattle.script_run.specs.Run.{Given, IsUnread, EndsAs, made_from, wanted}
 use Rattle.script_run.specs.declared.run.Status.TheVariants.{Done}
 

@@ -1,20 +1,20 @@
 -- The report of a load tells that it paid what it says.
 use Rattle.std.proofs.Common.{◌≡◌, ℕ, Bool, true, false, cond, List, Option, Some, None, refl, sym, ap, subst}
 use Rattle.std.specs.Prelude.{IfSome}
-use Rattle.load_laws.proofs.Reports.{loads_pay}
-use Rattle.load_laws.specs.Paying.{Pays}
-use Rattle.load_script.specs.Load.{are_two}
-use Rattle.node_way_laws.specs.Ways.{ways}
+use Rattle.load.proofs.Reports.{loads_pay}
+use Rattle.load.specs.Paying.{Pays}
+use Rattle.load.specs.Load.{are_two}
+use Rattle.node_guarantees.specs.Ways.{ways}
 use Rattle.report_text.specs.declared.report.Load.{Load as Note}
 use Rattle.report_text.specs.declared.report.Report.{Report}
-use Rattle.round_model.specs.Players.{Player}
+use Rattle.network_rounds.specs.Players.{Player}
 use Rattle.script_run.proofs.Completes.{is_told}
 use Rattle.script_run.proofs.Counts.{few_payments}
 use Rattle.script_run.specs.Run.{Given, IsToldOf, EndsAs, playable, made_from}
 use Rattle.script_run.specs.declared.run.Status.{Status}
-use Rattle.word_reader.specs.Words.{asked}
-use Rattle.word_reader.specs.declared.asking.Asked.{Asked}
-use Rattle.word_reader.specs.declared.asking.Asked.TheVariants.{Run, Race, Load}
+use Rattle.command_words.specs.Words.{asked}
+use Rattle.command_words.specs.declared.asking.Asked.{Asked}
+use Rattle.command_words.specs.declared.asking.Asked.TheVariants.{Run, Race, Load}
 
 -- what was asked for, of what can be played
 record AskedSo (o : Option Asked) (seed count : ℕ) : Type 0 where

@@ -1,9 +1,9 @@
 -- What a run keeps of its adjudicator and its history.
 use Rattle.std.specs.Prelude.{◌<◌, ◌^◌, List, length}
-use Rattle.channel_calls.specs.History.{Legal}
-use Rattle.channel_calls.specs.declared.entry.Entry.{Entry}
-use Rattle.support_chain.specs.Real.{real}
-use Rattle.adjudicator_core.specs.Standing.{Standing, StandsFor}
+use Rattle.call_history.specs.History.{Legal}
+use Rattle.call_history.specs.declared.entry.Entry.{Entry}
+use Rattle.support_rules.specs.Real.{real}
+use Rattle.adjudicator.specs.Standing.{Standing, StandsFor}
 
 -- the history is legal, and the adjudicator stands for it
 pub record IsKept (history : List Entry) (adjudicator : Standing) : Type 0 where

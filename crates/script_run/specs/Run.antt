@@ -2,25 +2,25 @@
 use Rattle.std.specs.Prelude.{◌≡◌, ◌≤◌, ◌<◌, ℕ, List, [], ◌∷◌, length, Bool, true, false, ⊤, Option, Some, None, codes, if◌then◌else◌}
 use Rattle.std.specs.Fmt.{decimal}
 use Rattle.std.specs.Io.KnownBytes.{Keeps, Consumes, IsAtEnd}
-use Rattle.byte_source.specs.Outside.{Rose}
+use Rattle.byte_streams.specs.OutsideSource.{Rose}
 use Rattle.script_reader.specs.Script.{IsScript, Breaks}
 use Rattle.script_reader.specs.step.Rule.{Rule}
 use Rattle.script_reader.specs.step.Rule.TheVariants as rules
 use Rattle.script_reader.specs.step.Step.{Step}
-use Rattle.net_party.specs.Ways.{Ways}
+use Rattle.network.specs.Ways.{Ways}
 use Rattle.play_report.specs.Reported.{IsPlayed}
-use Rattle.race_report.specs.Raced.{IsOfRace}
+use Rattle.script_race.specs.Raced.{IsOfRace}
 use Rattle.report_text.specs.Report.{text_of}
 use Rattle.report_text.specs.Text.{◌&◌, ended}
 use Rattle.report_text.specs.declared.report.Load.{Load as Note}
 use Rattle.report_text.specs.declared.report.Report.{Report}
-use Rattle.round_model.specs.Players.{Player}
+use Rattle.network_rounds.specs.Players.{Player}
 use Rattle.script_run.specs.declared.run.Status.{Status}
 use Rattle.script_run.specs.declared.run.Status.TheVariants.{Done, NoMemory, Usage, Script, ReadFault, WriteFault, TooLong}
-use Rattle.word_reader.specs.Words.{asked}
-use Rattle.word_reader.specs.declared.asking.Asked.{Asked}
-use Rattle.word_reader.specs.declared.asking.Asked.TheVariants.{Run, Race, Load}
-use Rattle.load_script.specs.Load.{are_two, load_steps}
+use Rattle.command_words.specs.Words.{asked}
+use Rattle.command_words.specs.declared.asking.Asked.{Asked}
+use Rattle.command_words.specs.declared.asking.Asked.TheVariants.{Run, Race, Load}
+use Rattle.load.specs.Load.{are_two, load_steps}
 
 -- the words and the source that a run was handed: what was left of it and its count of faults, before and after
 pub record Given : Type 0 where

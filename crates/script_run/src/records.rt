@@ -1,14 +1,14 @@
 //! The history that a run makes, entry by entry.
 
 ghost use Rattle.std.specs.Prelude.{◌≡◌, ◌<◌, ◌-◌, ◌^◌, [], length, OnOk};
-ghost use Rattle.channel_calls.specs.History.{Legal, newest_first};
-ghost use Rattle.support_chain.specs.Real.{real};
-ghost use Rattle.net_world.specs.Entered.{entered, oldest_first};
+ghost use Rattle.call_history.specs.History.{Legal, newest_first};
+ghost use Rattle.support_rules.specs.Real.{real};
+ghost use Rattle.network.specs.Entered.{entered, oldest_first};
 
-use adjudicator_core::Adjudicator;
-use channel_calls::{Entry, Op};
-use net_world::Docket;
-use nitro_bytes::NoMemory;
+use adjudicator::Adjudicator;
+use call_history::{Entry, Op};
+use channel_values::NoMemory;
+use network::Docket;
 use std::alloc::Global;
 use std::marker::Model;
 
@@ -21,8 +21,8 @@ pub struct Records {
 
 impl Model for Records {
     ghost use Rattle.std.specs.Prelude.{List};
-    ghost use Rattle.channel_calls.specs.History.{newest_first};
-    ghost use Rattle.channel_calls.specs.declared.entry.Entry.{Entry};
+    ghost use Rattle.call_history.specs.History.{newest_first};
+    ghost use Rattle.call_history.specs.declared.entry.Entry.{Entry};
     ghost use Rattle.script_run.specs.Kept.{IsKept};
 
     ghost Value = { List Entry };

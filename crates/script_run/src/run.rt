@@ -2,38 +2,37 @@
 
 ghost use Rattle.std.specs.Prelude.{◌≡◌, ◌≢◌, ◌≤◌, ◌⊎◌, ℕ, List, [], Some, None, length, map, All, IfOk, IfSome, IsNone, string_bytes};
 ghost use Rattle.std.specs.Io.KnownBytes.{Keeps, Consumes, Appends, IsAtEnd};
-ghost use Rattle.channel_calls.specs.Flows.{AreConserved};
-ghost use Rattle.channel_calls.specs.History.{Legal, newest_first, flows_of};
-ghost use Rattle.support_chain.specs.Real.{real};
-ghost use Rattle.net_actors.specs.Views.{player_of};
-ghost use Rattle.round_laws.specs.Journals.{WritesJournals};
-ghost use Rattle.round_model.specs.Players.{Player};
-ghost use Rattle.race_report.specs.Raced.{RacersAreInTime};
-ghost use Rattle.byte_source.specs.Outside.{Rose};
-ghost use Rattle.byte_sink.specs.Outside.{AppendsPart};
-ghost use Rattle.word_reader.specs.Words.{asked};
-ghost use Rattle.word_reader.specs.declared.asking.Asked.{Asked};
+ghost use Rattle.call_history.specs.Flows.{AreConserved};
+ghost use Rattle.call_history.specs.History.{Legal, newest_first, flows_of};
+ghost use Rattle.support_rules.specs.Real.{real};
+ghost use Rattle.network_rounds.specs.Views.{player_of};
+ghost use Rattle.network_rounds.specs.Journals.{WritesJournals};
+ghost use Rattle.network_rounds.specs.Players.{Player};
+ghost use Rattle.script_race.specs.Raced.{RacersAreInTime};
+ghost use Rattle.byte_streams.specs.OutsideSource.{Rose};
+ghost use Rattle.byte_streams.specs.OutsideSink.{AppendsPart};
+ghost use Rattle.command_words.specs.Words.{asked};
+ghost use Rattle.command_words.specs.declared.asking.Asked.{Asked};
 ghost use Rattle.script_run.specs.declared.run.Status.{Status};
-ghost use Rattle.load_laws.specs.Paying.{Pays};
-ghost use Rattle.node_way_laws.specs.Ways.{ways};
+ghost use Rattle.load.specs.Paying.{Pays};
+ghost use Rattle.node_guarantees.specs.Ways.{ways};
 ghost use Rattle.script_run.specs.Run.{Given, IsRunnable, IsUnread, given, code_of, wanted, EndsAs, IsToldOf, rule_text, owed};
 
 use crate::records::Records;
-use byte_sink::{Sink, put_all};
-use byte_source::{ReadEnd, Source, read_all};
-use load_script::{LoadFault, load_script};
-use net_actors::Cast;
-use net_node::Node;
-use nitro_bytes::{Label, NoMemory};
+use byte_streams::{ReadEnd, Sink, Source, put_all, read_all};
+use channel_values::{Label, NoMemory};
+use command_words::{Asked, asked};
+use load::{LoadFault, load_script};
+use network_node::Node;
+use network_rounds::Cast;
+use node_guarantees::ReportedNode;
 use play_report::report_play;
-use race_report::report_race;
 use report_text::{Load, Report, text_of};
-use reported_node::ReportedNode;
+use script_race::report_race;
 use script_reader::{Rule, ScriptFault, read_script_with_signers};
 use std::alloc::{AllocError, Global};
 use std::sync::Wait;
 use std::thread::Threads;
-use word_reader::{Asked, asked};
 
 /// How a run ended. A script that is refused has the step, counted from 1, and the rule that it breaks
 /// first; step 0 is the whole script.
@@ -197,7 +196,7 @@ fn run_load<P: ReportedNode>(alloc: Global, seed: u64, count: u32) -> Result<End
 }
 
 /// What the words and the source come to, with nodes of this type.
-#[tactic(auto, using(byte_source::proofs::Known::keeps_all, crate::proofs::Counts::some_payments, crate::proofs::Counts::few_payments, crate::proofs::Counts::wanted_none, crate::proofs::Counts::wanted_run, crate::proofs::Counts::wanted_race))]
+#[tactic(auto, using(byte_streams::proofs::Known::keeps_all, crate::proofs::Counts::some_payments, crate::proofs::Counts::few_payments, crate::proofs::Counts::wanted_none, crate::proofs::Counts::wanted_run, crate::proofs::Counts::wanted_race))]
 fn work<R: Threads + Wait + Sync, P: ReportedNode + Send, S: Source>(
     rt: &R,
     alloc: Global,

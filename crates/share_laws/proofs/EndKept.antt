@@ -1,21 +1,21 @@
 use Rattle.std.proofs.Common.{◌≡◌, ℕ, ◌+◌, ◌-◌, ◌≤◌, min, Bool, true, false, ◌||◌, List, [], ◌∷◌, refl, sym, ◌∙◌, ap, subst, arith, cond, inl, inr, ◌⊎◌}
 use Rattle.std.proofs.lemmas.Bool.{false≢true}
 use Rattle.std.proofs.lemmas.Slice.Eq.{bytes_eq-Decides}
-use Rattle.nitro_bytes.specs.declared.value.Dest.{Dest}
-use Rattle.nitro_bytes.specs.declared.value.Dest.TheVariants.{Person, Channel}
-use Rattle.nitro_bytes.specs.declared.value.Item.{Item}
-use Rattle.funding_value.specs.declared.plan.Part.TheVariants.{End}
-use Rattle.funding_value.specs.declared.plan.Virtual.{Virtual}
+use Rattle.channel_values.specs.declared.value.Dest.{Dest}
+use Rattle.channel_values.specs.declared.value.Dest.TheVariants.{Person, Channel}
+use Rattle.channel_values.specs.declared.value.Item.{Item}
+use Rattle.funding_plans.specs.declared.plan.Part.TheVariants.{End}
+use Rattle.funding_plans.specs.declared.plan.Virtual.{Virtual}
 use Rattle.std.specs.Str.{bytes_eq}
-use Rattle.nitro_bytes.specs.Outcomes.{is_same}
-use Rattle.channel_model.specs.Amounts.{amt, has}
-use Rattle.share_model.specs.Books.{Books}
-use Rattle.share_model.specs.Worth.{Table, affords, claim, own_claim, child, guarantor, virtual, end_reach}
-use Rattle.funding_value.specs.Parts.{own_ledger, own_guarantor}
+use Rattle.channel_values.specs.Outcomes.{is_same}
+use Rattle.channel_values.specs.Amounts.{amt, has}
+use Rattle.share_laws.specs.Books.{Books}
+use Rattle.share_laws.specs.Worth.{Table, affords, claim, own_claim, child, guarantor, virtual, end_reach}
+use Rattle.funding_plans.specs.Parts.{own_ledger, own_guarantor}
 use Rattle.share_laws.specs.Moved.{gain, lost, spent, Moved, EndPays}
 use Rattle.share_laws.proofs.Numbers.{end_other-own}
 use Rattle.share_laws.proofs.Kept.{Kept, Kept-with, PartKept, loss, child-le, affords-from}
-use Rattle.channel_calls.proofs.Names.{same_bytes}
+use Rattle.call_history.proofs.Names.{same_bytes}
 
 cond-below : (t : Bool) (x : ℕ) → cond t x 0 ≤ x
 cond-below true x = omega arith

@@ -2,33 +2,33 @@
 use Rattle.std.proofs.Common.{◌≡◌, ◌≢◌, ℕ, zero, suc, ◌+◌, ◌*◌, ◌<◌, ◌≤◌, true, List, [], ◌∷◌, ◌++◌, ◌⊎◌, inl, inr, length, refl, sym, ◌∙◌, ap, subst, arith}
 use Rattle.std.specs.Prelude.{Option, Some}
 use Rattle.std.specs.List.{slice_get, AllByRecursion}
-use Rattle.nitro_bytes.specs.Parts.{FixedParts, StateParts, IsState}
-use Rattle.nitro_bytes.specs.declared.chain.Mark.{Mark}
-use Rattle.channel_model.specs.Chains.{mover, last_of, last_turn}
-use Rattle.channel_model.proofs.Rows.{others_move}
-use Rattle.channel_model.specs.Rules.{Rules, people, turn_of, outcome_or_none, top_turn, top_outcome, KeepsFinal}
-use Rattle.channel_model.specs.Supported.{Rises, AreSteps}
-use Rattle.channel_model.proofs.Turns.{last_turn_greatest}
-use Rattle.channel_calls.specs.Rows.{turned, fixed_of}
-use Rattle.channel_calls.specs.History.{Legal, is_accepted, is_named, now_of, turning, row, settles, settled}
-use Rattle.channel_calls.specs.Marked.{Marked, nothing, marked_of, is_supported}
-use Rattle.channel_calls.specs.Shown.{shown_by, shown}
-use Rattle.channel_calls.specs.declared.call.Call.TheVariants.{Challenge, Conclude}
-use Rattle.channel_calls.specs.declared.call.Op.{Op}
-use Rattle.channel_calls.specs.declared.call.Op.TheVariants as ops
-use Rattle.channel_calls.specs.declared.row.Row.{Row}
-use Rattle.channel_calls.specs.declared.entry.Entry.{Entry}
-use Rattle.net_model.specs.Good.{InTurn, InSteps}
-use Rattle.net_model.specs.Journals.{Line}
-use Rattle.net_model.specs.Steps.{StepsAfter}
-use Rattle.chain_laws.proofs.Tests.{cond-false, cond-true, and-left, some-eq, none-eq}
-use Rattle.chain_laws.proofs.Lists.{In-get, append_assoc', get-within, get-some, length-up}
-use Rattle.history_laws.proofs.Replies.{taken, conclude_ok, challenge_ok}
-use Rattle.chain_laws.proofs.Chains.{AreStates, Stood, Parts, parts, turn_at, top_at, to_mark, final_at, all_final-at, late_at, OwnState}
-use Rattle.history_laws.proofs.Rowing.{row-quiet, settled-quiet, legal-suffix}
-use Rattle.history_laws.proofs.Final.{Concluded, Expired, Running, running}
-use Rattle.history_laws.proofs.Safe.{Setting}
-use Rattle.history_laws.proofs.Headline.{fixed-is}
+use Rattle.channel_values.specs.Parts.{FixedParts, StateParts, IsState}
+use Rattle.channel_values.specs.declared.chain.Mark.{Mark}
+use Rattle.channel_values.specs.Rows.{mover, last_of, last_turn}
+use Rattle.channel_values.proofs.Rows.{others_move}
+use Rattle.channel_values.specs.Rules.{Rules, people, turn_of, outcome_or_none, top_turn, top_outcome, KeepsFinal}
+use Rattle.channel_values.specs.Supported.{Rises, AreSteps}
+use Rattle.channel_values.proofs.Turns.{last_turn_greatest}
+use Rattle.call_history.specs.Rows.{turned, fixed_of}
+use Rattle.call_history.specs.History.{Legal, is_accepted, is_named, now_of, turning, row, settles, settled}
+use Rattle.call_history.specs.Marked.{Marked, nothing, marked_of, is_supported}
+use Rattle.call_history.specs.Shown.{shown_by, shown}
+use Rattle.call_history.specs.declared.call.Call.TheVariants.{Challenge, Conclude}
+use Rattle.call_history.specs.declared.call.Op.{Op}
+use Rattle.call_history.specs.declared.call.Op.TheVariants as ops
+use Rattle.call_history.specs.declared.row.Row.{Row}
+use Rattle.call_history.specs.declared.entry.Entry.{Entry}
+use Rattle.channel_safety.specs.Good.{InTurn, InSteps}
+use Rattle.channel_safety.specs.Journals.{Line}
+use Rattle.channel_safety.specs.Steps.{StepsAfter}
+use Rattle.channel_safety.proofs.Tests.{cond-false, cond-true, and-left, some-eq, none-eq}
+use Rattle.channel_safety.proofs.Lists.{In-get, append_assoc', get-within, get-some, length-up}
+use Rattle.channel_safety.proofs.Replies.{taken, conclude_ok, challenge_ok}
+use Rattle.channel_safety.proofs.Chains.{AreStates, Stood, Parts, parts, turn_at, top_at, to_mark, final_at, all_final-at, late_at, OwnState}
+use Rattle.channel_safety.proofs.Rowing.{row-quiet, settled-quiet, legal-suffix}
+use Rattle.channel_safety.proofs.Final.{Concluded, Expired, Running, running}
+use Rattle.channel_safety.proofs.Safe.{Setting}
+use Rattle.channel_safety.proofs.Headline.{fixed-is}
 
 pub record EndsBy (r : Rules) (F : FixedParts) (h : List Entry) (e : Entry) (past : List Entry) : Type 0 where
   pub later : List Entry

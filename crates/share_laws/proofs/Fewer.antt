@@ -1,12 +1,12 @@
 -- What no collision is in among entries and lines, is none among fewer of them.
 use Rattle.std.proofs.Common.{ℕ, List, ◌++◌, inl, inr}
-use Rattle.nitro_bytes.specs.Parts.{FixedParts, StateParts}
-use Rattle.nitro_bytes.specs.declared.value.AssetOutcome.{AssetOutcome}
-use Rattle.channel_model.specs.Rules.{Rules}
-use Rattle.channel_calls.specs.declared.entry.Entry.{Entry}
-use Rattle.net_model.specs.Journals.{Line}
-use Rattle.net_model.specs.Occurring.{OccursFixed, OccursState, OccursOutcome, NoCollision, in_call, in_line}
-use Rattle.chain_laws.proofs.Lists.{In-append_right}
+use Rattle.channel_values.specs.Parts.{FixedParts, StateParts}
+use Rattle.channel_values.specs.declared.value.AssetOutcome.{AssetOutcome}
+use Rattle.channel_values.specs.Rules.{Rules}
+use Rattle.call_history.specs.declared.entry.Entry.{Entry}
+use Rattle.channel_safety.specs.Journals.{Line}
+use Rattle.channel_safety.specs.Occurring.{OccursFixed, OccursState, OccursOutcome, NoCollision, in_call, in_line}
+use Rattle.channel_safety.proofs.Lists.{In-append_right}
 
 pub fewer : (r : Rules) (later past : List Entry) (newer front : List Line) → NoCollision r (later ++ past) (newer ++ front) → NoCollision r past front
 fewer r later past newer front none = record {

@@ -1,25 +1,25 @@
 -- A final channel stays final, and its row, settled outcome and rest stay.
 use Rattle.std.proofs.Common.{◌≡◌, ℕ, ◌≤◌, Bool, true, false, cond, List, [], ◌∷◌, refl, ◌∙◌, ap, subst, arith}
 use Rattle.std.specs.Prelude.{nat_le, Option, Some, None}
-use Rattle.nitro_bytes.specs.declared.chain.Chain.{Chain}
-use Rattle.deadline_clock.specs.Mode.{mode_at, is_final, is_challenged}
-use Rattle.deadline_clock.specs.declared.standing.Standing.{Standing}
-use Rattle.deadline_clock.specs.declared.standing.Standing.TheVariants.{Open, Challenged, Final}
-use Rattle.channel_model.specs.Rules.{Rules}
-use Rattle.channel_calls.specs.Rows.{fixed_of, turned}
-use Rattle.channel_calls.specs.History.{Legal, is_accepted, now_of, is_named, turning, row, mode, settles, settled, call_reply}
-use Rattle.channel_calls.specs.declared.call.Call.TheVariants.{Challenge, Respond, Refute, Checkpoint, Conclude}
-use Rattle.channel_calls.specs.declared.call.Op.{Op}
-use Rattle.channel_calls.specs.declared.call.Op.TheVariants as ops
-use Rattle.channel_calls.specs.Replies as replies
-use Rattle.channel_calls.specs.declared.refusal.Refusal.TheVariants.{IsFinal}
-use Rattle.channel_calls.specs.declared.refusal.Reply.TheVariants.{Concluded}
-use Rattle.channel_calls.specs.declared.row.Row.{Row}
-use Rattle.channel_calls.specs.declared.entry.Entry.{Entry}
-use Rattle.channel_calls.proofs.Names.{same_bytes}
-use Rattle.chain_laws.proofs.Tests.{cond-false, and-left, and-right, clash, le-true, true-le}
-use Rattle.history_laws.proofs.Rowing.{now-rises, passes, told-ok}
-use Rattle.history_laws.proofs.Replies.{taken, challenge_ok, checkpoint_ok, respond_ok, refute_ok}
+use Rattle.channel_values.specs.declared.chain.Chain.{Chain}
+use Rattle.call_history.specs.Mode.{mode_at, is_final, is_challenged}
+use Rattle.call_history.specs.declared.standing.Standing.{Standing}
+use Rattle.call_history.specs.declared.standing.Standing.TheVariants.{Open, Challenged, Final}
+use Rattle.channel_values.specs.Rules.{Rules}
+use Rattle.call_history.specs.Rows.{fixed_of, turned}
+use Rattle.call_history.specs.History.{Legal, is_accepted, now_of, is_named, turning, row, mode, settles, settled, call_reply}
+use Rattle.call_history.specs.declared.call.Call.TheVariants.{Challenge, Respond, Refute, Checkpoint, Conclude}
+use Rattle.call_history.specs.declared.call.Op.{Op}
+use Rattle.call_history.specs.declared.call.Op.TheVariants as ops
+use Rattle.call_history.specs.Replies as replies
+use Rattle.call_history.specs.declared.refusal.Refusal.TheVariants.{IsFinal}
+use Rattle.call_history.specs.declared.refusal.Reply.TheVariants.{Concluded}
+use Rattle.call_history.specs.declared.row.Row.{Row}
+use Rattle.call_history.specs.declared.entry.Entry.{Entry}
+use Rattle.call_history.proofs.Names.{same_bytes}
+use Rattle.channel_safety.proofs.Tests.{cond-false, and-left, and-right, clash, le-true, true-le}
+use Rattle.channel_safety.proofs.Rowing.{now-rises, passes, told-ok}
+use Rattle.channel_safety.proofs.Replies.{taken, challenge_ok, checkpoint_ok, respond_ok, refute_ok}
 
 not_both : (s : Standing) → is_final s ≡ true → is_challenged s ≡ true → ⊥
 not_both Open h k = cc

@@ -2,47 +2,47 @@
 use Rattle.std.proofs.Common.{◌≡◌, ℕ, ◌+◌, ◌%◌, ◌<◌, ◌≤◌, Bool, true, false, cond, List, [], ◌∷◌, ◌++◌, ◌⊎◌, inl, inr, length, refl, sym, ◌∙◌, ap, subst, arith}
 use Rattle.std.specs.Prelude.{Option, Some, None}
 use Rattle.std.specs.Option.{option_map, option_or}
-use Rattle.nitro_bytes.specs.Parts.{FixedParts, StateParts}
-use Rattle.nitro_bytes.specs.declared.chain.Chain.{Chain}
-use Rattle.nitro_bytes.specs.declared.chain.Signed.{Signed}
-use Rattle.nitro_bytes.specs.declared.value.AssetOutcome.{AssetOutcome}
-use Rattle.deadline_clock.specs.Mode.{is_final}
-use Rattle.channel_model.specs.Rules.{Rules, people, top_turn, top_outcome, KeepsFinal}
-use Rattle.channel_calls.specs.Rest.{rest_outcome}
-use Rattle.channel_calls.specs.History.{Legal, turning, row, mode, paid_of, rest_of_channel}
-use Rattle.channel_calls.specs.Shown.{shown}
-use Rattle.channel_calls.specs.declared.call.Call.TheVariants.{Challenge}
-use Rattle.channel_calls.specs.declared.call.Op.TheVariants as ops
-use Rattle.channel_calls.specs.declared.entry.Entry.{Entry}
-use Rattle.channel_calls.specs.declared.event.Deed.{Deed}
-use Rattle.channel_calls.specs.declared.event.Deed.TheVariants as deeds
-use Rattle.channel_model.specs.Amounts.{aff}
-use Rattle.nitro_bytes.specs.declared.value.Dest.TheVariants.{Person}
-use Rattle.net_model.specs.Journals.{In, Line, opened, is_followed, made_in, is_watched}
-use Rattle.net_model.specs.Held.{held}
-use Rattle.net_model.specs.Honest.{Honest, HonestIn}
-use Rattle.net_model.specs.Premises.{Unforged, InTime}
-use Rattle.net_model.specs.Occurring.{NoCollision, AreValid}
-use Rattle.net_model.specs.Safety.{IsChannelOf, SettlesWell}
-use Rattle.share_model.specs.Places.{Order, plan, channels, listed, proposed, outcomes_of, possible_after, is_held, last_made, possible, IsPlace}
-use Rattle.share_model.specs.Bases.{all_bases, NoWorse}
-use Rattle.funding_value.specs.Shapes.{items_in, list_in}
+use Rattle.channel_values.specs.Parts.{FixedParts, StateParts}
+use Rattle.channel_values.specs.declared.chain.Chain.{Chain}
+use Rattle.channel_values.specs.declared.chain.Signed.{Signed}
+use Rattle.channel_values.specs.declared.value.AssetOutcome.{AssetOutcome}
+use Rattle.call_history.specs.Mode.{is_final}
+use Rattle.channel_values.specs.Rules.{Rules, people, top_turn, top_outcome, KeepsFinal}
+use Rattle.call_history.specs.Rest.{rest_outcome}
+use Rattle.call_history.specs.History.{Legal, turning, row, mode, paid_of, rest_of_channel}
+use Rattle.call_history.specs.Shown.{shown}
+use Rattle.call_history.specs.declared.call.Call.TheVariants.{Challenge}
+use Rattle.call_history.specs.declared.call.Op.TheVariants as ops
+use Rattle.call_history.specs.declared.entry.Entry.{Entry}
+use Rattle.call_history.specs.declared.event.Deed.{Deed}
+use Rattle.call_history.specs.declared.event.Deed.TheVariants as deeds
+use Rattle.channel_values.specs.Amounts.{aff}
+use Rattle.channel_values.specs.declared.value.Dest.TheVariants.{Person}
+use Rattle.channel_safety.specs.Journals.{In, Line, opened, is_followed, made_in, is_watched}
+use Rattle.channel_safety.specs.Held.{held}
+use Rattle.channel_safety.specs.Honest.{Honest, HonestIn}
+use Rattle.channel_safety.specs.Premises.{Unforged, InTime}
+use Rattle.channel_safety.specs.Occurring.{NoCollision, AreValid}
+use Rattle.channel_safety.specs.Safety.{IsChannelOf, SettlesWell}
+use Rattle.share_laws.specs.Places.{Order, plan, channels, listed, proposed, outcomes_of, possible_after, is_held, last_made, possible, IsPlace}
+use Rattle.share_laws.specs.Bases.{all_bases, NoWorse}
+use Rattle.funding_plans.specs.Shapes.{items_in, list_in}
 use Rattle.share_laws.specs.Turns.{OneOf, Turns}
 use Rattle.share_laws.specs.Finality.{StandsFor, StepsKeepPossible, RestsOnNoPayments, FinalsEndWell, HonestSharesAreKept}
-use Rattle.history_laws.proofs.Taking.{take-part}
+use Rattle.channel_safety.proofs.Taking.{take-part}
 use Rattle.share_laws.proofs.Finals.{not-final, final-is}
 use Rattle.share_laws.proofs.Whole.{whole}
 use Rattle.share_laws.proofs.Ending.{EndsBy, by_conclude, by_time, OwnSteps, own_steps}
 use Rattle.share_laws.proofs.Keeping.{held-over_entry}
 use Rattle.share_laws.proofs.Unpaid.{rest-whole}
-use Rattle.chain_laws.proofs.Tests.{some-eq, le_or_lt}
-use Rattle.chain_laws.proofs.Lists.{In-append_right, In-append_cases, Suffix, suffix_of, append_assoc'}
-use Rattle.chain_laws.proofs.Chains.{parts}
-use Rattle.history_laws.proofs.Final.{Concluded, Expired, becomes_final}
-use Rattle.history_laws.proofs.Places.{made-not_watched, made-noted}
-use Rattle.history_laws.proofs.Safe.{Setting, honest-suffix, MadeLine, own_line, made-mover, valid-shown}
-use Rattle.history_laws.proofs.Rowing.{legal-suffix}
-use Rattle.history_laws.proofs.Headline.{setting, fixed-is, safe}
+use Rattle.channel_safety.proofs.Tests.{some-eq, le_or_lt}
+use Rattle.channel_safety.proofs.Lists.{In-append_right, In-append_cases, Suffix, suffix_of, append_assoc'}
+use Rattle.channel_safety.proofs.Chains.{parts}
+use Rattle.channel_safety.proofs.Final.{Concluded, Expired, becomes_final}
+use Rattle.channel_safety.proofs.Places.{made-not_watched, made-noted}
+use Rattle.channel_safety.proofs.Safe.{Setting, honest-suffix, MadeLine, own_line, made-mover, valid-shown}
+use Rattle.channel_safety.proofs.Rowing.{legal-suffix}
+use Rattle.channel_safety.proofs.Headline.{setting, fixed-is, safe}
 
 -- ---- the last state signed
 

@@ -1,8 +1,8 @@
 -- Whether a mode is final.
 use Rattle.std.proofs.Common.{◌≡◌, true, false, refl, ap}
-use Rattle.deadline_clock.specs.Mode.{is_final}
-use Rattle.deadline_clock.specs.declared.standing.Standing.{Standing}
-use Rattle.deadline_clock.specs.declared.standing.Standing.TheVariants.{Open, Challenged, Final}
+use Rattle.call_history.specs.Mode.{is_final}
+use Rattle.call_history.specs.declared.standing.Standing.{Standing}
+use Rattle.call_history.specs.declared.standing.Standing.TheVariants.{Open, Challenged, Final}
 
 pub not-final : (m : Standing) → is_final m ≡ false → m ≡ Final → ⊥
 not-final m h e = let f : is_final m ≡ true = ap is_final e in cc

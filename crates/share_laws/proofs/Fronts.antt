@@ -4,24 +4,24 @@ use Rattle.std.specs.Prelude.{nat_lt, Option, Some, None}
 use Rattle.std.specs.List.{list_any}
 use Rattle.std.specs.Option.{option_or}
 use Rattle.std.specs.Str.{bytes_eq}
-use Rattle.nitro_bytes.specs.Parts.{FixedParts}
-use Rattle.nitro_bytes.specs.declared.chain.Signed.{Signed}
-use Rattle.deadline_clock.specs.Mode.{is_final}
-use Rattle.channel_model.specs.Rules.{Rules}
-use Rattle.channel_calls.specs.History.{Legal, mode, settled}
-use Rattle.channel_calls.specs.Marked.{Marked, nothing}
-use Rattle.channel_calls.specs.Shown.{shown}
-use Rattle.channel_calls.specs.declared.entry.Entry.{Entry}
-use Rattle.channel_calls.proofs.Names.{same_bytes}
-use Rattle.net_model.specs.Journals.{In, Line, opened, opens, made_in, is_watched}
-use Rattle.net_model.specs.Held.{note, show, held}
-use Rattle.net_model.specs.Honest.{HonestIn}
-use Rattle.share_model.specs.Places.{channels, last_made}
+use Rattle.channel_values.specs.Parts.{FixedParts}
+use Rattle.channel_values.specs.declared.chain.Signed.{Signed}
+use Rattle.call_history.specs.Mode.{is_final}
+use Rattle.channel_values.specs.Rules.{Rules}
+use Rattle.call_history.specs.History.{Legal, mode, settled}
+use Rattle.call_history.specs.Marked.{Marked, nothing}
+use Rattle.call_history.specs.Shown.{shown}
+use Rattle.call_history.specs.declared.entry.Entry.{Entry}
+use Rattle.call_history.proofs.Names.{same_bytes}
+use Rattle.channel_safety.specs.Journals.{In, Line, opened, opens, made_in, is_watched}
+use Rattle.channel_safety.specs.Held.{note, show, held}
+use Rattle.channel_safety.specs.Honest.{HonestIn}
+use Rattle.share_laws.specs.Places.{channels, last_made}
 use Rattle.share_laws.proofs.Final.{final-settled}
 use Rattle.std.proofs.lemmas.List.{append-nil}
-use Rattle.chain_laws.proofs.Tests.{lt-false, lt-true}
-use Rattle.chain_laws.proofs.Lists.{In-append_left, In-append_right}
-use Rattle.history_laws.proofs.Places.{over-entries, slot-lasts}
+use Rattle.channel_safety.proofs.Tests.{lt-false, lt-true}
+use Rattle.channel_safety.proofs.Lists.{In-append_left, In-append_right}
+use Rattle.channel_safety.proofs.Places.{over-entries, slot-lasts}
 
 -- ---- the lines that had seen at most k entries
 

@@ -3,31 +3,31 @@ use Rattle.std.proofs.Common.{◌≡◌, ◌≢◌, ℕ, ◌<◌, ◌≤◌, Boo
 use Rattle.std.specs.Prelude.{Option, Some, None}
 use Rattle.std.specs.List.{AllByRecursion}
 use Rattle.std.specs.Option.{option_map}
-use Rattle.nitro_bytes.specs.Parts.{FixedParts}
-use Rattle.nitro_bytes.specs.declared.chain.Chain.{Chain}
-use Rattle.nitro_bytes.specs.declared.chain.Signed.{Signed}
-use Rattle.nitro_bytes.specs.declared.value.AssetOutcome.{AssetOutcome}
-use Rattle.nitro_bytes.specs.declared.value.Dest.{Dest}
-use Rattle.nitro_bytes.specs.declared.value.Shape.{Shape}
-use Rattle.deadline_clock.specs.Mode.{is_final}
-use Rattle.channel_model.specs.Rules.{Rules, KeepsFinal}
-use Rattle.channel_calls.specs.Dues.{shape_in}
-use Rattle.channel_calls.specs.Rest.{rest_shape, rest_outcome}
-use Rattle.channel_calls.specs.History.{Legal, turning, mode, settled, paid_of}
-use Rattle.channel_calls.specs.Marked.{Marked}
-use Rattle.channel_calls.specs.Shown.{shown}
-use Rattle.channel_calls.specs.declared.call.Call.TheVariants.{Challenge}
-use Rattle.channel_calls.specs.declared.call.Op.TheVariants as ops
-use Rattle.channel_calls.specs.declared.entry.Entry.{Entry}
-use Rattle.channel_calls.proofs.Payouts.{shape_rest}
-use Rattle.net_model.specs.Journals.{made_in, In, Line, opened, is_watched}
-use Rattle.net_model.specs.Held.{held}
-use Rattle.net_model.specs.Honest.{Honest, HonestIn, HonestLine}
-use Rattle.net_model.specs.Premises.{Unforged, InTime}
-use Rattle.net_model.specs.Occurring.{NoCollision, AreValid}
-use Rattle.net_model.specs.Safety.{IsChannelOf, SettlesWell}
-use Rattle.share_model.specs.Books.{counts_in, outcome_in}
-use Rattle.share_model.specs.Places.{Order, other, channels, counting, outcomes_of, possible_after, is_held, last_made, possible, IsPlace}
+use Rattle.channel_values.specs.Parts.{FixedParts}
+use Rattle.channel_values.specs.declared.chain.Chain.{Chain}
+use Rattle.channel_values.specs.declared.chain.Signed.{Signed}
+use Rattle.channel_values.specs.declared.value.AssetOutcome.{AssetOutcome}
+use Rattle.channel_values.specs.declared.value.Dest.{Dest}
+use Rattle.channel_values.specs.declared.value.Shape.{Shape}
+use Rattle.call_history.specs.Mode.{is_final}
+use Rattle.channel_values.specs.Rules.{Rules, KeepsFinal}
+use Rattle.call_history.specs.Dues.{shape_in}
+use Rattle.call_history.specs.Rest.{rest_shape, rest_outcome}
+use Rattle.call_history.specs.History.{Legal, turning, mode, settled, paid_of}
+use Rattle.call_history.specs.Marked.{Marked}
+use Rattle.call_history.specs.Shown.{shown}
+use Rattle.call_history.specs.declared.call.Call.TheVariants.{Challenge}
+use Rattle.call_history.specs.declared.call.Op.TheVariants as ops
+use Rattle.call_history.specs.declared.entry.Entry.{Entry}
+use Rattle.call_history.proofs.Payouts.{shape_rest}
+use Rattle.channel_safety.specs.Journals.{made_in, In, Line, opened, is_watched}
+use Rattle.channel_safety.specs.Held.{held}
+use Rattle.channel_safety.specs.Honest.{Honest, HonestIn, HonestLine}
+use Rattle.channel_safety.specs.Premises.{Unforged, InTime}
+use Rattle.channel_safety.specs.Occurring.{NoCollision, AreValid}
+use Rattle.channel_safety.specs.Safety.{IsChannelOf, SettlesWell}
+use Rattle.share_laws.specs.Books.{counts_in, outcome_in}
+use Rattle.share_laws.specs.Places.{Order, other, channels, counting, outcomes_of, possible_after, is_held, last_made, possible, IsPlace}
 use Rattle.share_laws.specs.Turns.{OneOf}
 use Rattle.share_laws.specs.Sound.{IsPromise}
 use Rattle.share_laws.specs.Finality.{StandsFor, StepsKeepPossible}
@@ -37,14 +37,14 @@ use Rattle.share_laws.proofs.Ending.{EndsBy, by_conclude, by_time, OwnSteps, own
 use Rattle.share_laws.proofs.Finals.{not-final, final-is}
 use Rattle.share_laws.proofs.Finality.{settles, stands, opened-there, opens-not_watched}
 use Rattle.share_laws.proofs.Fronts.{front_at, FrontAt, front-at, Became, became, last-made, last-line, held-opened, channels-there}
-use Rattle.chain_laws.proofs.Tests.{some-eq}
-use Rattle.chain_laws.proofs.Lists.{In-append_right, In-append_cases, append_assoc'}
-use Rattle.history_laws.proofs.Final.{Concluded, Expired, becomes_final}
-use Rattle.history_laws.proofs.Places.{made-not_watched}
-use Rattle.history_laws.proofs.Rowing.{legal-suffix}
-use Rattle.history_laws.proofs.Safe.{Setting, MadeLine, Placed, placed, honest-at, own_line, valid-shown}
-use Rattle.history_laws.proofs.Headline.{setting, fixed-is}
-use Rattle.history_laws.proofs.Taking.{take-part}
+use Rattle.channel_safety.proofs.Tests.{some-eq}
+use Rattle.channel_safety.proofs.Lists.{In-append_right, In-append_cases, append_assoc'}
+use Rattle.channel_safety.proofs.Final.{Concluded, Expired, becomes_final}
+use Rattle.channel_safety.proofs.Places.{made-not_watched}
+use Rattle.channel_safety.proofs.Rowing.{legal-suffix}
+use Rattle.channel_safety.proofs.Safe.{Setting, MadeLine, Placed, placed, honest-at, own_line, valid-shown}
+use Rattle.channel_safety.proofs.Headline.{setting, fixed-is}
+use Rattle.channel_safety.proofs.Taking.{take-part}
 
 -- a promise stays when items are paid
 promise-rest : (joint : List ℕ) (list : List Dest) (p : ℕ → ℕ → ℕ) (o : List AssetOutcome) → Promises joint list o → Promises joint list (rest_outcome p o)

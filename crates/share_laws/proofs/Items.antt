@@ -2,23 +2,23 @@
 use Rattle.std.proofs.Common.{◌≡◌, ℕ, zero, suc, ◌+◌, ◌-◌, ◌≤◌, Bool, true, false, cond, not, List, [], ◌∷◌, refl, sym, ◌∙◌, ap, subst, arith}
 use Rattle.std.specs.Prelude.{◌==◌, slice_get, Option, Some, None}
 use Rattle.std.specs.Option.{option_map}
-use Rattle.nitro_bytes.specs.Outcomes.{is_same}
-use Rattle.nitro_bytes.specs.declared.value.AssetOutcome.{AssetOutcome}
-use Rattle.nitro_bytes.specs.declared.value.Dest.{Dest}
-use Rattle.nitro_bytes.specs.declared.value.Dest.TheVariants.{Person, Channel}
-use Rattle.nitro_bytes.specs.declared.value.Item.{Item}
-use Rattle.nitro_bytes.specs.declared.value.Shape.{Shape}
-use Rattle.nitro_bytes.specs.declared.value.Shape.TheVariants.{Allocation, Guarantee}
-use Rattle.channel_model.specs.Amounts.{amt, before, due}
-use Rattle.channel_calls.specs.Dues.{amount_at, dest_in, place_of, rest_of, shape_in}
-use Rattle.channel_calls.specs.Rest.{less_paid, lower_at, lower_shape, lower_outcome}
-use Rattle.channel_calls.specs.History.{item_dest}
-use Rattle.channel_calls.proofs.Names.{bytes_eq_self}
-use Rattle.channel_calls.proofs.Amounts.{due_cons, due_same, claim_affords}
-use Rattle.channel_calls.proofs.Payouts.{same_dest, turned_eq}
-use Rattle.funding_value.specs.Shapes.{items_of, list_of}
+use Rattle.channel_values.specs.Outcomes.{is_same}
+use Rattle.channel_values.specs.declared.value.AssetOutcome.{AssetOutcome}
+use Rattle.channel_values.specs.declared.value.Dest.{Dest}
+use Rattle.channel_values.specs.declared.value.Dest.TheVariants.{Person, Channel}
+use Rattle.channel_values.specs.declared.value.Item.{Item}
+use Rattle.channel_values.specs.declared.value.Shape.{Shape}
+use Rattle.channel_values.specs.declared.value.Shape.TheVariants.{Allocation, Guarantee}
+use Rattle.channel_values.specs.Amounts.{amt, before, due}
+use Rattle.call_history.specs.Dues.{amount_at, dest_in, place_of, rest_of, shape_in}
+use Rattle.call_history.specs.Rest.{less_paid, lower_at, lower_shape, lower_outcome}
+use Rattle.call_history.specs.History.{item_dest}
+use Rattle.call_history.proofs.Names.{bytes_eq_self}
+use Rattle.call_history.proofs.Amounts.{due_cons, due_same, claim_affords}
+use Rattle.call_history.proofs.Payouts.{same_dest, turned_eq}
+use Rattle.funding_plans.specs.Shapes.{items_of, list_of}
 use Rattle.share_laws.specs.Moved.{gain, due_at, IsAt}
-use Rattle.chain_laws.proofs.Tests.{some-eq}
+use Rattle.channel_safety.proofs.Tests.{some-eq}
 use Rattle.std.proofs.lemmas.Bool.{eqb-true}
 
 pub is_same_self : (d : Dest) → is_same d d ≡ true

@@ -2,43 +2,43 @@
 use Rattle.std.proofs.Common.{◌≡◌, ℕ, ◌≤◌, Bool, true, false, cond, List, [], ◌∷◌, ◌++◌, length, refl, sym, ◌∙◌, ap, subst, arith, inl, inr}
 use Rattle.std.specs.Prelude.{Option, Some, None}
 use Rattle.std.specs.Option.{option_map, option_or}
-use Rattle.nitro_bytes.specs.Parts.{FixedParts}
-use Rattle.nitro_bytes.specs.declared.chain.Signed.{Signed}
-use Rattle.nitro_bytes.specs.declared.value.AssetOutcome.{AssetOutcome}
-use Rattle.deadline_clock.specs.Mode.{is_final}
-use Rattle.channel_model.specs.Rules.{Rules}
-use Rattle.channel_calls.specs.Flows.{held_in, paid_in, paid_of_item}
-use Rattle.channel_calls.specs.Rest.{rest_outcome}
-use Rattle.channel_calls.specs.History.{mode, settled, flow_of, flows_of, held_of, paid_to, paid_of, payment_of, payments_of, rest_of_channel}
-use Rattle.channel_calls.specs.Marked.{Marked}
-use Rattle.channel_calls.specs.Shown.{shown}
-use Rattle.channel_calls.specs.declared.call.Call.TheVariants.{Deposit, Transfer, Claim}
-use Rattle.channel_calls.specs.declared.call.Op.{Op}
-use Rattle.channel_calls.specs.declared.call.Op.TheVariants as ops
-use Rattle.channel_calls.specs.declared.entry.Entry.{Entry}
-use Rattle.channel_calls.specs.declared.event.Deed.{Deed}
-use Rattle.channel_calls.specs.declared.event.Deed.TheVariants as deeds
-use Rattle.channel_calls.specs.declared.funds.Flow.{Flow}
-use Rattle.channel_calls.specs.declared.funds.Payment.{Payment}
-use Rattle.channel_calls.specs.declared.refusal.Reply.{Reply}
-use Rattle.net_model.specs.Journals.{In, Line, opened, made_in, noted_in, is_watched}
-use Rattle.funding_value.specs.declared.plan.Part.{Part}
-use Rattle.share_model.specs.Share.{share_of}
+use Rattle.channel_values.specs.Parts.{FixedParts}
+use Rattle.channel_values.specs.declared.chain.Signed.{Signed}
+use Rattle.channel_values.specs.declared.value.AssetOutcome.{AssetOutcome}
+use Rattle.call_history.specs.Mode.{is_final}
+use Rattle.channel_values.specs.Rules.{Rules}
+use Rattle.call_history.specs.Flows.{held_in, paid_in, paid_of_item}
+use Rattle.call_history.specs.Rest.{rest_outcome}
+use Rattle.call_history.specs.History.{mode, settled, flow_of, flows_of, held_of, paid_to, paid_of, payment_of, payments_of, rest_of_channel}
+use Rattle.call_history.specs.Marked.{Marked}
+use Rattle.call_history.specs.Shown.{shown}
+use Rattle.call_history.specs.declared.call.Call.TheVariants.{Deposit, Transfer, Claim}
+use Rattle.call_history.specs.declared.call.Op.{Op}
+use Rattle.call_history.specs.declared.call.Op.TheVariants as ops
+use Rattle.call_history.specs.declared.entry.Entry.{Entry}
+use Rattle.call_history.specs.declared.event.Deed.{Deed}
+use Rattle.call_history.specs.declared.event.Deed.TheVariants as deeds
+use Rattle.call_history.specs.declared.funds.Flow.{Flow}
+use Rattle.call_history.specs.declared.funds.Payment.{Payment}
+use Rattle.call_history.specs.declared.refusal.Reply.{Reply}
+use Rattle.channel_safety.specs.Journals.{In, Line, opened, made_in, noted_in, is_watched}
+use Rattle.funding_plans.specs.declared.plan.Part.{Part}
+use Rattle.share_laws.specs.Share.{share_of}
 use Rattle.std.proofs.lemmas.List.{append-nil}
-use Rattle.chain_laws.proofs.Tests.{clash}
-use Rattle.net_model.specs.Held.{held, note, show}
-use Rattle.share_model.specs.Places.{Order, opened_part, plan, channels, listed, possible_after, is_held, last_made, possible, counting_among, counting, balances, share}
-use Rattle.share_model.specs.Kept.{is_signing}
-use Rattle.nitro_bytes.specs.Outcomes.{AreApart}
-use Rattle.share_laws.specs.Laws.{moves_funds}
-use Rattle.share_model.specs.Bases.{all_bases}
+use Rattle.channel_safety.proofs.Tests.{clash}
+use Rattle.channel_safety.specs.Held.{held, note, show}
+use Rattle.share_laws.specs.Places.{Order, opened_part, plan, channels, listed, possible_after, is_held, last_made, possible, counting_among, counting, balances, share}
+use Rattle.share_laws.specs.Kept.{is_signing}
+use Rattle.channel_values.specs.Outcomes.{AreApart}
+use Rattle.share_laws.specs.ShareLaws.{moves_funds}
+use Rattle.share_laws.specs.Bases.{all_bases}
 use Rattle.share_laws.specs.Turns.{names, Turns}
 use Rattle.share_laws.specs.Whole.{TurnsKeepShares, LinesKeepShares}
 use Rattle.share_laws.proofs.Final.{final-stays, final-settled}
-use Rattle.share_model.proofs.Growing.{share_grows}
+use Rattle.share_laws.proofs.Growing.{share_grows}
 use Rattle.share_laws.proofs.Turning.{follows}
-use Rattle.history_laws.proofs.Keeps.{HoldsNewer, extended-newer, show-newer}
-use Rattle.history_laws.proofs.Places.{over-entries, over-lines}
+use Rattle.channel_safety.proofs.Keeps.{HoldsNewer, extended-newer, show-newer}
+use Rattle.channel_safety.proofs.Places.{over-entries, over-lines}
 use Rattle.std.specs.Str.{bytes_eq}
 
 -- ---- what is held stays held

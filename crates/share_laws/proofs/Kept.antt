@@ -1,19 +1,19 @@
 use Rattle.std.proofs.Common.{◌≡◌, ℕ, ◌+◌, ◌≤◌, Bool, true, false, ◌||◌, List, [], ◌∷◌, ◌++◌, refl, sym, ◌∙◌, ap, subst, arith, cond, inl, inr, ◌⊎◌}
 use Rattle.std.proofs.lemmas.Bool.{false≢true}
-use Rattle.nitro_bytes.specs.declared.value.Dest.{Dest}
-use Rattle.nitro_bytes.specs.declared.value.Dest.TheVariants.{Person, Channel}
-use Rattle.funding_value.specs.declared.plan.Part.{Part}
-use Rattle.funding_value.specs.declared.plan.Part.TheVariants.{Root, OnLedger}
+use Rattle.channel_values.specs.declared.value.Dest.{Dest}
+use Rattle.channel_values.specs.declared.value.Dest.TheVariants.{Person, Channel}
+use Rattle.funding_plans.specs.declared.plan.Part.{Part}
+use Rattle.funding_plans.specs.declared.plan.Part.TheVariants.{Root, OnLedger}
 use Rattle.std.specs.Str.{bytes_eq}
-use Rattle.channel_model.specs.Amounts.{has, aff}
-use Rattle.share_model.specs.Books.{Books}
-use Rattle.share_model.specs.Worth.{Table, affords, with_reach, child, reach_after, part_worth, worth}
-use Rattle.channel_calls.specs.Flows.{is_among}
+use Rattle.channel_values.specs.Amounts.{has, aff}
+use Rattle.share_laws.specs.Books.{Books}
+use Rattle.share_laws.specs.Worth.{Table, affords, with_reach, child, reach_after, part_worth, worth}
+use Rattle.call_history.specs.Flows.{is_among}
 use Rattle.share_laws.specs.Moved.{gain, lost, spent, Moved, payers, all_payers}
-use Rattle.nitro_bytes.specs.Outcomes.{AreApart}
-use Rattle.share_model.proofs.Amounts.{aff-zero}
-use Rattle.share_model.proofs.Apart.{apart-rest, apart-once, among-append}
-use Rattle.channel_calls.proofs.Names.{same_bytes}
+use Rattle.channel_values.specs.Outcomes.{AreApart}
+use Rattle.share_laws.proofs.Amounts.{aff-zero}
+use Rattle.share_laws.proofs.Apart.{apart-rest, apart-once, among-append}
+use Rattle.call_history.proofs.Names.{same_bytes}
 
 cond-below : (t : Bool) (x : ℕ) → cond t x 0 ≤ x
 cond-below true x = omega arith

@@ -1,17 +1,17 @@
 -- From a place to a later one there is a way of one entry or line at a time.
 use Rattle.std.proofs.Common.{◌≡◌, ℕ, zero, suc, ◌+◌, ◌<◌, ◌≤◌, Bool, true, false, List, [], ◌∷◌, ◌++◌, ◌⊎◌, inl, inr, length, refl, sym, ◌∙◌, ap, subst, arith}
 use Rattle.std.proofs.lemmas.List.{append_cancel_right}
-use Rattle.channel_model.specs.Rules.{Rules}
-use Rattle.channel_calls.specs.declared.entry.Entry.{Entry}
-use Rattle.net_model.specs.Journals.{In, Line, is_watched}
-use Rattle.nitro_bytes.specs.Parts.{FixedParts}
-use Rattle.net_model.specs.Honest.{HonestIn}
-use Rattle.share_model.specs.Places.{Order, share, IsPlace}
-use Rattle.share_model.specs.Kept.{SharesAreKept}
+use Rattle.channel_values.specs.Rules.{Rules}
+use Rattle.call_history.specs.declared.entry.Entry.{Entry}
+use Rattle.channel_safety.specs.Journals.{In, Line, is_watched}
+use Rattle.channel_values.specs.Parts.{FixedParts}
+use Rattle.channel_safety.specs.Honest.{HonestIn}
+use Rattle.share_laws.specs.Places.{Order, share, IsPlace}
+use Rattle.share_laws.specs.Kept.{SharesAreKept}
 use Rattle.share_laws.specs.Lines.{AreInOrder, SignNothing}
 use Rattle.share_laws.specs.Lasting.{HonestJournalsAreInOrder, SharesLast}
-use Rattle.chain_laws.proofs.Tests.{le_or_lt, clash}
-use Rattle.chain_laws.proofs.Lists.{In-append_right, In-append_cases, append_assoc', length-up}
+use Rattle.channel_safety.proofs.Tests.{le_or_lt, clash}
+use Rattle.channel_safety.proofs.Lists.{In-append_right, In-append_cases, append_assoc', length-up}
 
 order-front : (newer front : List Line) → AreInOrder (newer ++ front) → AreInOrder front
 order-front [] front o = o

@@ -3,50 +3,50 @@ use Rattle.std.proofs.Common.{◌≡◌, ℕ, ◌+◌, ◌-◌, ◌≤◌, Bool,
 use Rattle.std.specs.Prelude.{◌==◌, map, Option, Some, None, Result, Ok, Err}
 use Rattle.std.specs.Str.{bytes_eq}
 use Rattle.std.proofs.lemmas.Bool.{eqb-true}
-use Rattle.nitro_bytes.specs.Parts.{FixedParts}
-use Rattle.nitro_bytes.specs.Outcomes.{is_same}
-use Rattle.nitro_bytes.specs.declared.value.AssetOutcome.{AssetOutcome}
-use Rattle.nitro_bytes.specs.declared.value.Dest.{Dest}
-use Rattle.nitro_bytes.specs.declared.value.Dest.TheVariants.{Person, Channel}
-use Rattle.nitro_bytes.specs.declared.value.Item.{Item}
-use Rattle.nitro_bytes.specs.declared.value.Shape.{Shape}
-use Rattle.nitro_bytes.specs.declared.value.Shape.TheVariants.{Allocation}
-use Rattle.channel_model.specs.Rules.{Rules}
-use Rattle.deadline_clock.specs.Mode.{is_final}
-use Rattle.channel_calls.specs.Dues.{place_of, shape_in}
-use Rattle.channel_calls.specs.Flows.{AreCovered, HasMoved, brings, held_in, paid_in}
-use Rattle.channel_calls.specs.Refusing.{told}
-use Rattle.channel_calls.specs.Rest.{lower_at}
-use Rattle.channel_calls.specs.Replies as replies
-use Rattle.channel_calls.specs.History.{Legal, is_accepted, now_of, row, mode, settled, item_dest, listed_dest, place_in, flow_to, flow_of, flows_of, held_of, paid_to, paid_of, payment_of, deposited_of, reply_to}
-use Rattle.channel_calls.specs.declared.call.Call.TheVariants.{Deposit, Transfer, Claim}
-use Rattle.channel_calls.specs.declared.call.Op.{Op}
-use Rattle.channel_calls.specs.declared.call.Op.TheVariants as ops
-use Rattle.channel_calls.specs.declared.entry.Entry.{Entry}
-use Rattle.channel_calls.specs.declared.funds.Due.{Due}
-use Rattle.channel_calls.specs.declared.funds.Flow.{Flow}
-use Rattle.channel_calls.specs.declared.refusal.Refusal.{Refusal}
-use Rattle.channel_calls.specs.declared.refusal.Reply.{Reply}
-use Rattle.channel_calls.specs.declared.refusal.Reply.TheVariants.{Held, Paid, No}
-use Rattle.channel_calls.proofs.Legality.{covered, moved_cons}
-use Rattle.net_model.specs.Journals.{In, Line}
-use Rattle.funding_value.specs.Shapes.{items_of, list_of}
-use Rattle.share_model.specs.Books.{outcome_in, counts_in, varying}
-use Rattle.share_model.specs.Share.{worth_under}
-use Rattle.share_model.specs.Places.{plan, possible, channels, counting, counting_among, balances}
-use Rattle.net_model.specs.Strings.{outcomes_in}
-use Rattle.net_model.specs.Occurring.{NoCollision}
-use Rattle.share_laws.specs.Laws.{moves_funds, AreSeen, FlowsKeepShares}
+use Rattle.channel_values.specs.Parts.{FixedParts}
+use Rattle.channel_values.specs.Outcomes.{is_same}
+use Rattle.channel_values.specs.declared.value.AssetOutcome.{AssetOutcome}
+use Rattle.channel_values.specs.declared.value.Dest.{Dest}
+use Rattle.channel_values.specs.declared.value.Dest.TheVariants.{Person, Channel}
+use Rattle.channel_values.specs.declared.value.Item.{Item}
+use Rattle.channel_values.specs.declared.value.Shape.{Shape}
+use Rattle.channel_values.specs.declared.value.Shape.TheVariants.{Allocation}
+use Rattle.channel_values.specs.Rules.{Rules}
+use Rattle.call_history.specs.Mode.{is_final}
+use Rattle.call_history.specs.Dues.{place_of, shape_in}
+use Rattle.call_history.specs.Flows.{AreCovered, HasMoved, brings, held_in, paid_in}
+use Rattle.call_history.specs.Refusing.{told}
+use Rattle.call_history.specs.Rest.{lower_at}
+use Rattle.call_history.specs.Replies as replies
+use Rattle.call_history.specs.History.{Legal, is_accepted, now_of, row, mode, settled, item_dest, listed_dest, place_in, flow_to, flow_of, flows_of, held_of, paid_to, paid_of, payment_of, deposited_of, reply_to}
+use Rattle.call_history.specs.declared.call.Call.TheVariants.{Deposit, Transfer, Claim}
+use Rattle.call_history.specs.declared.call.Op.{Op}
+use Rattle.call_history.specs.declared.call.Op.TheVariants as ops
+use Rattle.call_history.specs.declared.entry.Entry.{Entry}
+use Rattle.call_history.specs.declared.funds.Due.{Due}
+use Rattle.call_history.specs.declared.funds.Flow.{Flow}
+use Rattle.call_history.specs.declared.refusal.Refusal.{Refusal}
+use Rattle.call_history.specs.declared.refusal.Reply.{Reply}
+use Rattle.call_history.specs.declared.refusal.Reply.TheVariants.{Held, Paid, No}
+use Rattle.call_history.proofs.Legality.{covered, moved_cons}
+use Rattle.channel_safety.specs.Journals.{In, Line}
+use Rattle.funding_plans.specs.Shapes.{items_of, list_of}
+use Rattle.share_laws.specs.Books.{outcome_in, counts_in, varying}
+use Rattle.share_laws.specs.Share.{worth_under}
+use Rattle.share_laws.specs.Places.{plan, possible, channels, counting, counting_among, balances}
+use Rattle.channel_safety.specs.Strings.{outcomes_in}
+use Rattle.channel_safety.specs.Occurring.{NoCollision}
+use Rattle.share_laws.specs.ShareLaws.{moves_funds, AreSeen, FlowsKeepShares}
 use Rattle.share_laws.specs.Sound.{IsPromise, Guarantees}
 use Rattle.share_laws.proofs.Counted.{outcome-changed, counts-changed, varying-changed}
-use Rattle.share_model.proofs.Least.{Takes, least_over-kept}
+use Rattle.share_laws.proofs.Least.{Takes, least_over-kept}
 use Rattle.share_laws.proofs.Moving.{of_asset, Balanced, balanced, books_at, lowered-none, items-after, list-after, counts-after, promise-after}
-use Rattle.share_laws.proofs.Parts.{still, Pays, pays-kept}
+use Rattle.share_laws.proofs.PartShares.{still, Pays, pays-kept}
 use Rattle.share_laws.proofs.Paying.{Moved-still, elsewhere, transfers, claims}
 use Rattle.share_laws.proofs.Payouts.{Ends, TransferDue, ClaimDue, ClaimOk, transfer_ok, claim_ok}
 use Rattle.share_laws.proofs.Possible.{lowered, possible-same, possible-lowered}
 use Rattle.share_laws.proofs.Quiet.{IsQuiet, is_quiet}
-use Rattle.history_laws.proofs.Settled.{final-told}
+use Rattle.channel_safety.proofs.Settled.{final-told}
 use Rattle.share_laws.proofs.Finals.{final-is}
 
 -- ---- nothing is paid out

@@ -1,11 +1,11 @@
 -- What items afford once one of them is lowered.
 use Rattle.std.proofs.Common.{◌≡◌, ℕ, zero, suc, ◌+◌, ◌-◌, ◌≤◌, min, Bool, true, false, List, [], ◌∷◌, subst, arith, cond}
-use Rattle.nitro_bytes.specs.declared.value.Dest.{Dest}
-use Rattle.nitro_bytes.specs.declared.value.Item.{Item}
-use Rattle.nitro_bytes.specs.Outcomes.{is_same}
-use Rattle.channel_model.specs.Amounts.{aff}
-use Rattle.channel_calls.specs.Rest.{lower_at}
-use Rattle.share_model.proofs.Amounts.{aff-mono}
+use Rattle.channel_values.specs.declared.value.Dest.{Dest}
+use Rattle.channel_values.specs.declared.value.Item.{Item}
+use Rattle.channel_values.specs.Outcomes.{is_same}
+use Rattle.channel_values.specs.Amounts.{aff}
+use Rattle.call_history.specs.Rest.{lower_at}
+use Rattle.share_laws.proofs.Amounts.{aff-mono}
 use Rattle.share_laws.specs.Moved.{due_at, gain_at}
 
 pub due-le : (xs : List Item) (i h : ℕ) → due_at xs i h ≤ h

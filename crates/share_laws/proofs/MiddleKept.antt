@@ -1,16 +1,16 @@
 use Rattle.std.proofs.Common.{◌≡◌, ℕ, ◌+◌, ◌≤◌, min, Bool, true, false, ◌||◌, List, [], ◌∷◌, refl, sym, ◌∙◌, ap, subst, arith, cond, inl, inr, ◌⊎◌}
 use Rattle.std.proofs.lemmas.Bool.{false≢true}
 use Rattle.std.proofs.lemmas.Slice.Eq.{bytes_eq-Decides}
-use Rattle.nitro_bytes.specs.declared.value.Dest.{Dest}
-use Rattle.nitro_bytes.specs.declared.value.Dest.TheVariants.{Person, Channel}
-use Rattle.nitro_bytes.specs.declared.value.Item.{Item}
-use Rattle.funding_value.specs.declared.plan.Part.TheVariants.{Middle}
-use Rattle.funding_value.specs.declared.plan.Virtual.{Virtual}
+use Rattle.channel_values.specs.declared.value.Dest.{Dest}
+use Rattle.channel_values.specs.declared.value.Dest.TheVariants.{Person, Channel}
+use Rattle.channel_values.specs.declared.value.Item.{Item}
+use Rattle.funding_plans.specs.declared.plan.Part.TheVariants.{Middle}
+use Rattle.funding_plans.specs.declared.plan.Virtual.{Virtual}
 use Rattle.std.specs.Str.{bytes_eq}
-use Rattle.nitro_bytes.specs.Outcomes.{is_same}
-use Rattle.channel_model.specs.Amounts.{amt}
-use Rattle.share_model.specs.Books.{Books}
-use Rattle.share_model.specs.Worth.{Table, child, guarantor, second_amt, middle_worth, part_worth}
+use Rattle.channel_values.specs.Outcomes.{is_same}
+use Rattle.channel_values.specs.Amounts.{amt}
+use Rattle.share_laws.specs.Books.{Books}
+use Rattle.share_laws.specs.Worth.{Table, child, guarantor, second_amt, middle_worth, part_worth}
 use Rattle.share_laws.specs.Moved.{gain, lost, spent, Moved}
 use Rattle.share_laws.proofs.Numbers.{middle_falls_a, middle_falls_b}
 use Rattle.share_laws.proofs.Kept.{Kept, PartKept, loss, child-le}

@@ -4,25 +4,25 @@ use Rattle.std.specs.Prelude.{◌==◌, map, Option, Some, None}
 use Rattle.std.specs.Option.{option_map}
 use Rattle.std.specs.Str.{bytes_eq}
 use Rattle.std.proofs.lemmas.Bool.{eqb-true}
-use Rattle.nitro_bytes.specs.Parts.{FixedParts}
-use Rattle.nitro_bytes.specs.declared.value.AssetOutcome.{AssetOutcome}
-use Rattle.nitro_bytes.specs.declared.value.Dest.{Dest}
-use Rattle.nitro_bytes.specs.declared.value.Shape.{Shape}
-use Rattle.nitro_bytes.specs.declared.value.Shape.TheVariants.{Allocation, Guarantee}
-use Rattle.nitro_bytes.specs.declared.value.Dest.TheVariants.{Person, Channel}
-use Rattle.channel_model.specs.Rules.{Rules}
-use Rattle.channel_calls.specs.Dues.{shape_in}
-use Rattle.channel_calls.specs.Flows.{AreCovered, HasMoved, held_in, paid_in}
-use Rattle.channel_calls.specs.Rest.{lower_at, lower_shape, lower_outcome}
-use Rattle.channel_calls.specs.History.{flow_of, flows_of, held_of, paid_to}
-use Rattle.channel_calls.specs.declared.funds.Flow.{Flow}
-use Rattle.channel_calls.specs.declared.entry.Entry.{Entry}
-use Rattle.channel_calls.proofs.Legality.{moved_cons}
-use Rattle.channel_calls.proofs.Names.{same_bytes}
-use Rattle.net_model.specs.Journals.{Line}
-use Rattle.share_model.specs.Books.{Books, outcome_in, books_under}
-use Rattle.funding_value.specs.Shapes.{items_of, list_of}
-use Rattle.share_model.specs.Places.{possible, counting_among, balances}
+use Rattle.channel_values.specs.Parts.{FixedParts}
+use Rattle.channel_values.specs.declared.value.AssetOutcome.{AssetOutcome}
+use Rattle.channel_values.specs.declared.value.Dest.{Dest}
+use Rattle.channel_values.specs.declared.value.Shape.{Shape}
+use Rattle.channel_values.specs.declared.value.Shape.TheVariants.{Allocation, Guarantee}
+use Rattle.channel_values.specs.declared.value.Dest.TheVariants.{Person, Channel}
+use Rattle.channel_values.specs.Rules.{Rules}
+use Rattle.call_history.specs.Dues.{shape_in}
+use Rattle.call_history.specs.Flows.{AreCovered, HasMoved, held_in, paid_in}
+use Rattle.call_history.specs.Rest.{lower_at, lower_shape, lower_outcome}
+use Rattle.call_history.specs.History.{flow_of, flows_of, held_of, paid_to}
+use Rattle.call_history.specs.declared.funds.Flow.{Flow}
+use Rattle.call_history.specs.declared.entry.Entry.{Entry}
+use Rattle.call_history.proofs.Legality.{moved_cons}
+use Rattle.call_history.proofs.Names.{same_bytes}
+use Rattle.channel_safety.specs.Journals.{Line}
+use Rattle.share_laws.specs.Books.{Books, outcome_in, books_under}
+use Rattle.funding_plans.specs.Shapes.{items_of, list_of}
+use Rattle.share_laws.specs.Places.{possible, counting_among, balances}
 use Rattle.share_laws.specs.Moved.{gain, lost}
 use Rattle.share_laws.specs.Sound.{IsPromise}
 use Rattle.share_laws.proofs.Counted.{outcome-changed, counts-changed}

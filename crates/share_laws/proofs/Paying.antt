@@ -4,37 +4,37 @@ use Rattle.std.specs.Prelude.{Option, Some}
 use Rattle.std.specs.List.{AllByRecursion}
 use Rattle.std.specs.Option.{option_map}
 use Rattle.std.specs.Str.{bytes_eq}
-use Rattle.nitro_bytes.specs.Parts.{FixedParts}
-use Rattle.nitro_bytes.specs.Outcomes.{is_same}
-use Rattle.nitro_bytes.specs.declared.value.AssetOutcome.{AssetOutcome}
-use Rattle.nitro_bytes.specs.declared.value.Dest.{Dest}
-use Rattle.nitro_bytes.specs.declared.value.Dest.TheVariants.{Channel}
-use Rattle.nitro_bytes.specs.declared.value.Item.{Item}
-use Rattle.nitro_bytes.specs.declared.value.Shape.{Shape}
-use Rattle.nitro_bytes.specs.declared.value.Shape.TheVariants.{Allocation, Guarantee}
-use Rattle.deadline_clock.specs.Mode.{is_final}
-use Rattle.channel_model.specs.Rules.{Rules}
-use Rattle.channel_model.specs.Amounts.{amt, has, aff, before}
-use Rattle.channel_calls.specs.Dues.{amount_at, dest_in, place_of, rest_at, shape_in}
-use Rattle.channel_calls.specs.Rest.{less_paid, lower_at, rest_shape, rest_outcome}
-use Rattle.channel_calls.specs.History.{mode, settled, held_of, paid_to, paid_of}
-use Rattle.channel_calls.specs.declared.funds.Due.{Due}
-use Rattle.channel_calls.specs.declared.entry.Entry.{Entry}
-use Rattle.channel_calls.proofs.Amounts.{due_same}
-use Rattle.channel_calls.proofs.Names.{same_bytes, bytes_eq_self}
-use Rattle.channel_calls.proofs.Payouts.{shape_rest}
-use Rattle.channel_calls.proofs.Rests.{rest_at_less_paid, place_less_paid}
-use Rattle.net_model.specs.Journals.{Line}
-use Rattle.share_model.specs.Books.{Books, outcome_in, counts_in}
-use Rattle.funding_value.specs.Shapes.{items_of, list_of}
-use Rattle.share_model.specs.Places.{possible, counting_among}
+use Rattle.channel_values.specs.Parts.{FixedParts}
+use Rattle.channel_values.specs.Outcomes.{is_same}
+use Rattle.channel_values.specs.declared.value.AssetOutcome.{AssetOutcome}
+use Rattle.channel_values.specs.declared.value.Dest.{Dest}
+use Rattle.channel_values.specs.declared.value.Dest.TheVariants.{Channel}
+use Rattle.channel_values.specs.declared.value.Item.{Item}
+use Rattle.channel_values.specs.declared.value.Shape.{Shape}
+use Rattle.channel_values.specs.declared.value.Shape.TheVariants.{Allocation, Guarantee}
+use Rattle.call_history.specs.Mode.{is_final}
+use Rattle.channel_values.specs.Rules.{Rules}
+use Rattle.channel_values.specs.Amounts.{amt, has, aff, before}
+use Rattle.call_history.specs.Dues.{amount_at, dest_in, place_of, rest_at, shape_in}
+use Rattle.call_history.specs.Rest.{less_paid, lower_at, rest_shape, rest_outcome}
+use Rattle.call_history.specs.History.{mode, settled, held_of, paid_to, paid_of}
+use Rattle.call_history.specs.declared.funds.Due.{Due}
+use Rattle.call_history.specs.declared.entry.Entry.{Entry}
+use Rattle.call_history.proofs.Amounts.{due_same}
+use Rattle.call_history.proofs.Names.{same_bytes, bytes_eq_self}
+use Rattle.call_history.proofs.Payouts.{shape_rest}
+use Rattle.call_history.proofs.Rests.{rest_at_less_paid, place_less_paid}
+use Rattle.channel_safety.specs.Journals.{Line}
+use Rattle.share_laws.specs.Books.{Books, outcome_in, counts_in}
+use Rattle.funding_plans.specs.Shapes.{items_of, list_of}
+use Rattle.share_laws.specs.Places.{possible, counting_among}
 use Rattle.share_laws.specs.Moved.{gain, lost, due_at, Moved, IsAt}
 use Rattle.share_laws.specs.Sound.{IsPromise, Guarantees}
-use Rattle.share_model.proofs.Amounts.{aff-mono}
+use Rattle.share_laws.proofs.Amounts.{aff-mono}
 use Rattle.share_laws.proofs.Counted.{Outcome, silent, such, outcome-such}
 use Rattle.share_laws.proofs.Items.{at_rest, due_at-is, lowered_first, claim_below}
 use Rattle.share_laws.proofs.Moving.{Balanced, books_at}
-use Rattle.share_laws.proofs.Parts.{PaysBy, silent as unheard, still, bare, listed, Pays}
+use Rattle.share_laws.proofs.PartShares.{PaysBy, silent as unheard, still, bare, listed, Pays}
 use Rattle.share_laws.proofs.Payouts.{TransferDue, ClaimDue}
 use Rattle.share_laws.proofs.Possible.{possible-final}
 use Rattle.share_laws.proofs.Steps.{Moved-transfer, Moved-claim, Moved-outside}

@@ -2,25 +2,25 @@
 use Rattle.std.proofs.Common.{◌≡◌, ℕ, ◌≤◌, true, false, not, List, refl, ap, subst}
 use Rattle.std.specs.Prelude.{◌==◌, nat_le, length, slice_get, slice_index_or, Option, Some, None, Ok}
 use Rattle.std.specs.Str.{bytes_eq}
-use Rattle.nitro_bytes.specs.declared.value.AssetOutcome.{AssetOutcome}
-use Rattle.nitro_bytes.specs.declared.value.Dest.{Dest}
-use Rattle.nitro_bytes.specs.declared.value.Item.{Item}
-use Rattle.nitro_bytes.specs.declared.value.Shape.{Shape}
-use Rattle.nitro_bytes.specs.declared.value.Shape.TheVariants.{Allocation, Guarantee}
-use Rattle.deadline_clock.specs.Mode.{is_final, mode_at}
-use Rattle.channel_model.specs.Rules.{Rules}
-use Rattle.channel_model.specs.Amounts.{due}
-use Rattle.channel_calls.specs.Dues.{no_item, dest_in, place_of, rest_at, rest_of, shape_in, pay, transfer_of, claim_of, claim_of_items}
-use Rattle.channel_calls.specs.Refusing.{refuse_if}
-use Rattle.channel_calls.specs.Replies as replies
-use Rattle.channel_calls.specs.History.{item_dest, listed_dest, place_in}
-use Rattle.channel_calls.specs.declared.funds.Due.{Due}
-use Rattle.channel_calls.specs.declared.refusal.Refusal.TheVariants.{NotFinal, WrongOutcome, NoItem, NotListed, WrongTarget, NothingDue}
-use Rattle.channel_calls.specs.declared.row.Row.{Row}
-use Rattle.channel_calls.proofs.Names.{same_bytes}
-use Rattle.channel_calls.proofs.Payouts.{IsDueOf, transfer_due_of, claim_due_of}
-use Rattle.chain_laws.proofs.Tests.{not-false}
-use Rattle.history_laws.proofs.Rowing.{passes}
+use Rattle.channel_values.specs.declared.value.AssetOutcome.{AssetOutcome}
+use Rattle.channel_values.specs.declared.value.Dest.{Dest}
+use Rattle.channel_values.specs.declared.value.Item.{Item}
+use Rattle.channel_values.specs.declared.value.Shape.{Shape}
+use Rattle.channel_values.specs.declared.value.Shape.TheVariants.{Allocation, Guarantee}
+use Rattle.call_history.specs.Mode.{is_final, mode_at}
+use Rattle.channel_values.specs.Rules.{Rules}
+use Rattle.channel_values.specs.Amounts.{due}
+use Rattle.call_history.specs.Dues.{no_item, dest_in, place_of, rest_at, rest_of, shape_in, pay, transfer_of, claim_of, claim_of_items}
+use Rattle.call_history.specs.Refusing.{refuse_if}
+use Rattle.call_history.specs.Replies as replies
+use Rattle.call_history.specs.History.{item_dest, listed_dest, place_in}
+use Rattle.call_history.specs.declared.funds.Due.{Due}
+use Rattle.call_history.specs.declared.refusal.Refusal.TheVariants.{NotFinal, WrongOutcome, NoItem, NotListed, WrongTarget, NothingDue}
+use Rattle.call_history.specs.declared.row.Row.{Row}
+use Rattle.call_history.proofs.Names.{same_bytes}
+use Rattle.call_history.proofs.Payouts.{IsDueOf, transfer_due_of, claim_due_of}
+use Rattle.channel_safety.proofs.Tests.{not-false}
+use Rattle.channel_safety.proofs.Rowing.{passes}
 
 paid-amount : (to : Dest) (place held n : ℕ) (d : Due) → pay to place held n ≡ Ok d → d.amount ≡ n
 paid-amount to place held n d e =

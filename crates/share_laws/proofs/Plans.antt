@@ -4,19 +4,19 @@ use Rattle.std.specs.List.{AllByRecursion}
 use Rattle.std.specs.Str.{bytes_eq}
 use Rattle.std.proofs.lemmas.Bool.{false≢true}
 use Rattle.std.proofs.lemmas.List.{append_assoc}
-use Rattle.nitro_bytes.specs.Outcomes.{AreApart}
-use Rattle.channel_calls.proofs.Names.{bytes_eq_self}
-use Rattle.channel_calls.specs.Flows.{is_among}
-use Rattle.net_model.specs.Journals.{In}
-use Rattle.funding_value.specs.Parts.{own_ledger, channels_of, channels}
-use Rattle.funding_value.specs.declared.plan.Part.{Part}
-use Rattle.funding_value.specs.declared.plan.Part.TheVariants.{Root, OnLedger, End, Middle}
-use Rattle.funding_value.specs.declared.plan.Virtual.{Virtual}
-use Rattle.share_model.proofs.Apart.{among-append, or-none, apart-once, apart-rest, apart-front}
-use Rattle.share_model.proofs.Choices.{differ-flip}
-use Rattle.signing_laws.proofs.Counts.{or-left, or-right, part-apart}
-use Rattle.signing_laws.proofs.Funded.{ledger-off}
-use Rattle.signing_laws.specs.Plans.{AllStandOn, IsPlan, ledgers_after}
+use Rattle.channel_values.specs.Outcomes.{AreApart}
+use Rattle.call_history.proofs.Names.{bytes_eq_self}
+use Rattle.call_history.specs.Flows.{is_among}
+use Rattle.channel_safety.specs.Journals.{In}
+use Rattle.funding_plans.specs.Parts.{own_ledger, channels_of, channels}
+use Rattle.funding_plans.specs.declared.plan.Part.{Part}
+use Rattle.funding_plans.specs.declared.plan.Part.TheVariants.{Root, OnLedger, End, Middle}
+use Rattle.funding_plans.specs.declared.plan.Virtual.{Virtual}
+use Rattle.share_laws.proofs.Apart.{among-append, or-none, apart-once, apart-rest, apart-front}
+use Rattle.share_laws.proofs.Choices.{differ-flip}
+use Rattle.share_laws.proofs.Counts.{or-left, or-right, part-apart}
+use Rattle.share_laws.proofs.Funded.{ledger-off}
+use Rattle.share_laws.specs.Plans.{AllStandOn, IsPlan, ledgers_after}
 use Rattle.share_laws.specs.Moved.{payers, all_payers}
 use Rattle.share_laws.specs.Sound.{IsApart}
 

@@ -6,25 +6,25 @@ use Rattle.std.specs.Option.{option_map}
 use Rattle.std.specs.Str.{bytes_eq}
 use Rattle.std.proofs.lemmas.List.Sums.{sum_by-cons}
 use mathlib.Core.Path.{fun_ext}
-use Rattle.nitro_bytes.specs.Parts.{FixedParts}
-use Rattle.nitro_bytes.specs.declared.chain.Signed.{Signed}
-use Rattle.nitro_bytes.specs.declared.value.AssetOutcome.{AssetOutcome}
-use Rattle.deadline_clock.specs.Mode.{is_final}
-use Rattle.channel_model.specs.Rules.{Rules}
-use Rattle.channel_calls.specs.Flows.{pays, paid_of_item}
-use Rattle.channel_calls.specs.Rest.{rest_outcome, lower_outcome}
-use Rattle.channel_calls.specs.History.{mode, settled, payment_of, payments_of, paid_of, rest_of_channel}
-use Rattle.channel_calls.specs.Marked.{Marked}
-use Rattle.channel_calls.specs.declared.funds.Payment.{Payment}
-use Rattle.channel_calls.specs.declared.entry.Entry.{Entry}
-use Rattle.channel_calls.proofs.Names.{same_bytes}
-use Rattle.channel_calls.proofs.Payouts.{rest_more}
-use Rattle.net_model.specs.Journals.{Line}
-use Rattle.net_model.specs.Held.{held}
-use Rattle.share_model.specs.Places.{listed, outcomes_of, possible_after, is_held, last_made, possible}
-use Rattle.share_laws.specs.Laws.{AreSeen}
+use Rattle.channel_values.specs.Parts.{FixedParts}
+use Rattle.channel_values.specs.declared.chain.Signed.{Signed}
+use Rattle.channel_values.specs.declared.value.AssetOutcome.{AssetOutcome}
+use Rattle.call_history.specs.Mode.{is_final}
+use Rattle.channel_values.specs.Rules.{Rules}
+use Rattle.call_history.specs.Flows.{pays, paid_of_item}
+use Rattle.call_history.specs.Rest.{rest_outcome, lower_outcome}
+use Rattle.call_history.specs.History.{mode, settled, payment_of, payments_of, paid_of, rest_of_channel}
+use Rattle.call_history.specs.Marked.{Marked}
+use Rattle.call_history.specs.declared.funds.Payment.{Payment}
+use Rattle.call_history.specs.declared.entry.Entry.{Entry}
+use Rattle.call_history.proofs.Names.{same_bytes}
+use Rattle.call_history.proofs.Payouts.{rest_more}
+use Rattle.channel_safety.specs.Journals.{Line}
+use Rattle.channel_safety.specs.Held.{held}
+use Rattle.share_laws.specs.Places.{listed, outcomes_of, possible_after, is_held, last_made, possible}
+use Rattle.share_laws.specs.ShareLaws.{AreSeen}
 use Rattle.share_laws.proofs.Quiet.{IsQuiet, quiet-mode, quiet-settled, quiet-held}
-use Rattle.chain_laws.proofs.Tests.{clash}
+use Rattle.channel_safety.proofs.Tests.{clash}
 
 map-same : (g : List AssetOutcome → List AssetOutcome) → ((o : List AssetOutcome) → g o ≡ o) → (os : List (List AssetOutcome)) → os ≡ map g os
 map-same g same [] = refl

@@ -1,17 +1,17 @@
 use Rattle.std.proofs.Common.{◌≡◌, ℕ, zero, suc, ◌+◌, ◌-◌, ◌≤◌, Bool, true, false, ◌||◌, List, [], ◌∷◌, refl, sym, ◌∙◌, ap, subst, arith, cond, inl, inr, ◌⊎◌}
 use Rattle.std.proofs.lemmas.Slice.Eq.{bytes_eq-Decides}
-use Rattle.nitro_bytes.specs.declared.value.Dest.{Dest}
-use Rattle.nitro_bytes.specs.declared.value.Dest.TheVariants.{Channel}
-use Rattle.nitro_bytes.specs.declared.value.Item.{Item}
+use Rattle.channel_values.specs.declared.value.Dest.{Dest}
+use Rattle.channel_values.specs.declared.value.Dest.TheVariants.{Channel}
+use Rattle.channel_values.specs.declared.value.Item.{Item}
 use Rattle.std.specs.Str.{bytes_eq}
-use Rattle.nitro_bytes.specs.Outcomes.{is_same}
-use Rattle.channel_model.specs.Amounts.{amt, has, aff}
-use Rattle.channel_calls.specs.Rest.{lower_at}
+use Rattle.channel_values.specs.Outcomes.{is_same}
+use Rattle.channel_values.specs.Amounts.{amt, has, aff}
+use Rattle.call_history.specs.Rest.{lower_at}
 use Rattle.share_laws.specs.Moved.{due_at, gain_at, gain, lost, spent, Moved, IsAt, Transfers, Claims}
-use Rattle.share_model.specs.Books.{Books}
-use Rattle.share_model.proofs.Amounts.{aff-mono}
+use Rattle.share_laws.specs.Books.{Books}
+use Rattle.share_laws.proofs.Amounts.{aff-mono}
 use Rattle.share_laws.proofs.Lowering.{aff-transfer, aff-lower_at}
-use Rattle.channel_calls.proofs.Names.{same_bytes}
+use Rattle.call_history.proofs.Names.{same_bytes}
 
 gain_at-gain : (xs : List Item) (i : ℕ) (to d : Dest) (k : ℕ) → IsAt xs i to → gain_at xs i d k ≡ gain to d k
 gain_at-gain [] i to d k h = absurd h

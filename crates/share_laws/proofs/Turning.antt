@@ -1,20 +1,20 @@
 -- From what each channel can end with to the list of the channels that count.
 use Rattle.std.proofs.Common.{◌≡◌, ℕ, ◌≤◌, Bool, true, false, ◌||◌, List, [], ◌∷◌, ◌++◌, length, refl, sym, ◌∙◌, ap, subst, arith, cond, inl, inr}
 use Rattle.std.specs.Str.{bytes_eq}
-use Rattle.nitro_bytes.specs.Parts.{FixedParts}
-use Rattle.nitro_bytes.specs.declared.value.AssetOutcome.{AssetOutcome}
-use Rattle.channel_model.specs.Rules.{Rules}
-use Rattle.channel_calls.specs.Flows.{is_among}
-use Rattle.channel_calls.specs.declared.entry.Entry.{Entry}
-use Rattle.net_model.specs.Journals.{In, Line}
-use Rattle.share_model.specs.Books.{Counting, counts_in}
-use Rattle.share_model.specs.Places.{possible, counting_of, counting_among}
-use Rattle.nitro_bytes.specs.Outcomes.{AreApart}
-use Rattle.share_model.specs.Bases.{NoWorse}
+use Rattle.channel_values.specs.Parts.{FixedParts}
+use Rattle.channel_values.specs.declared.value.AssetOutcome.{AssetOutcome}
+use Rattle.channel_values.specs.Rules.{Rules}
+use Rattle.call_history.specs.Flows.{is_among}
+use Rattle.call_history.specs.declared.entry.Entry.{Entry}
+use Rattle.channel_safety.specs.Journals.{In, Line}
+use Rattle.share_laws.specs.Books.{Counting, counts_in}
+use Rattle.share_laws.specs.Places.{possible, counting_of, counting_among}
+use Rattle.channel_values.specs.Outcomes.{AreApart}
+use Rattle.share_laws.specs.Bases.{NoWorse}
 use Rattle.share_laws.specs.Turns.{OneOf, Turns, names}
-use Rattle.share_model.proofs.Apart.{or-none}
-use Rattle.share_model.proofs.Choices.{differ-flip}
-use Rattle.share_model.proofs.Follow.{Follows, ends, starts, stays, settles}
+use Rattle.share_laws.proofs.Apart.{or-none}
+use Rattle.share_laws.proofs.Choices.{differ-flip}
+use Rattle.share_laws.proofs.Follow.{Follows, ends, starts, stays, settles}
 
 module _ (r : Rules) (past : List Entry) (front : List Line) where
   -- a name that isn't listed doesn't count

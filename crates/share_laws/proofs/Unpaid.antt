@@ -4,29 +4,29 @@ use Rattle.std.specs.Prelude.{◌==◌, Result, Ok, Err}
 use Rattle.std.specs.Str.{bytes_eq}
 use Rattle.std.proofs.lemmas.List.Sums.{sum_by-cons, sum_by-append}
 use mathlib.Core.Path.{fun_ext}
-use Rattle.nitro_bytes.specs.declared.value.AssetOutcome.{AssetOutcome}
-use Rattle.nitro_bytes.specs.declared.value.Item.{Item}
-use Rattle.nitro_bytes.specs.declared.value.Shape.{Shape}
-use Rattle.nitro_bytes.specs.declared.value.Shape.TheVariants.{Allocation, Guarantee}
-use Rattle.deadline_clock.specs.Mode.{is_final}
-use Rattle.channel_model.specs.Rules.{Rules}
-use Rattle.channel_calls.specs.Dues.{shape_in}
-use Rattle.channel_calls.specs.Flows.{pays, paid_of_item}
-use Rattle.channel_calls.specs.Refusing.{told}
-use Rattle.channel_calls.specs.Rest.{less_paid, rest_shape, rest_outcome}
-use Rattle.channel_calls.specs.Replies as replies
-use Rattle.channel_calls.specs.History.{Legal, now_of, row, mode, held_of, paid_of, payment_of, payments_of, place_in, listed_dest, reply_to}
-use Rattle.channel_calls.specs.declared.call.Call.TheVariants.{Transfer, Claim}
-use Rattle.channel_calls.specs.declared.call.Op.{Op}
-use Rattle.channel_calls.specs.declared.call.Op.TheVariants as ops
-use Rattle.channel_calls.specs.declared.entry.Entry.{Entry}
-use Rattle.channel_calls.specs.declared.funds.Due.{Due}
-use Rattle.channel_calls.specs.declared.funds.Payment.{Payment}
-use Rattle.channel_calls.specs.declared.refusal.Refusal.{Refusal}
-use Rattle.channel_calls.specs.declared.refusal.Reply.{Reply}
-use Rattle.channel_calls.specs.declared.refusal.Reply.TheVariants.{Paid}
-use Rattle.channel_calls.proofs.Names.{same_bytes}
-use Rattle.chain_laws.proofs.Tests.{clash}
+use Rattle.channel_values.specs.declared.value.AssetOutcome.{AssetOutcome}
+use Rattle.channel_values.specs.declared.value.Item.{Item}
+use Rattle.channel_values.specs.declared.value.Shape.{Shape}
+use Rattle.channel_values.specs.declared.value.Shape.TheVariants.{Allocation, Guarantee}
+use Rattle.call_history.specs.Mode.{is_final}
+use Rattle.channel_values.specs.Rules.{Rules}
+use Rattle.call_history.specs.Dues.{shape_in}
+use Rattle.call_history.specs.Flows.{pays, paid_of_item}
+use Rattle.call_history.specs.Refusing.{told}
+use Rattle.call_history.specs.Rest.{less_paid, rest_shape, rest_outcome}
+use Rattle.call_history.specs.Replies as replies
+use Rattle.call_history.specs.History.{Legal, now_of, row, mode, held_of, paid_of, payment_of, payments_of, place_in, listed_dest, reply_to}
+use Rattle.call_history.specs.declared.call.Call.TheVariants.{Transfer, Claim}
+use Rattle.call_history.specs.declared.call.Op.{Op}
+use Rattle.call_history.specs.declared.call.Op.TheVariants as ops
+use Rattle.call_history.specs.declared.entry.Entry.{Entry}
+use Rattle.call_history.specs.declared.funds.Due.{Due}
+use Rattle.call_history.specs.declared.funds.Payment.{Payment}
+use Rattle.call_history.specs.declared.refusal.Refusal.{Refusal}
+use Rattle.call_history.specs.declared.refusal.Reply.{Reply}
+use Rattle.call_history.specs.declared.refusal.Reply.TheVariants.{Paid}
+use Rattle.call_history.proofs.Names.{same_bytes}
+use Rattle.channel_safety.proofs.Tests.{clash}
 use Rattle.share_laws.proofs.Final.{final-stays}
 use Rattle.share_laws.proofs.Payouts.{transfer_ok, claim_ok}
 

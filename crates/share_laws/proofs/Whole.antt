@@ -2,24 +2,24 @@
 use Rattle.std.proofs.Common.{◌≡◌, ℕ, ◌≤◌, Bool, true, false, ◌||◌, not, List, [], ◌∷◌, ◌++◌, refl, sym, ◌∙◌, ap, subst, inl}
 use Rattle.std.proofs.lemmas.List.{append-nil, append_cancel_right, append_assoc}
 use Rattle.std.specs.Str.{bytes_eq}
-use Rattle.nitro_bytes.specs.Parts.{FixedParts}
-use Rattle.channel_model.specs.Rules.{Rules}
-use Rattle.channel_calls.specs.History.{Legal, is_accepted}
-use Rattle.channel_calls.specs.declared.entry.Entry.{Entry}
-use Rattle.net_model.specs.Journals.{In, Line, opened}
-use Rattle.share_model.specs.Places.{Order, channels, share, IsPlace}
-use Rattle.share_model.specs.Kept.{is_signing}
-use Rattle.net_model.specs.Occurring.{NoCollision}
-use Rattle.nitro_bytes.specs.Outcomes.{AreApart}
-use Rattle.share_laws.specs.Laws.{moves_funds}
+use Rattle.channel_values.specs.Parts.{FixedParts}
+use Rattle.channel_values.specs.Rules.{Rules}
+use Rattle.call_history.specs.History.{Legal, is_accepted}
+use Rattle.call_history.specs.declared.entry.Entry.{Entry}
+use Rattle.channel_safety.specs.Journals.{In, Line, opened}
+use Rattle.share_laws.specs.Places.{Order, channels, share, IsPlace}
+use Rattle.share_laws.specs.Kept.{is_signing}
+use Rattle.channel_safety.specs.Occurring.{NoCollision}
+use Rattle.channel_values.specs.Outcomes.{AreApart}
+use Rattle.share_laws.specs.ShareLaws.{moves_funds}
 use Rattle.share_laws.specs.Turns.{names}
 use Rattle.share_laws.specs.Whole.{IsKnown, NobodyLowersShares}
 use Rattle.share_laws.proofs.Fewer.{fewer}
 use Rattle.share_laws.proofs.Law.{flows_keep}
 use Rattle.share_laws.proofs.Keeping.{turns_keep, lines_keep}
-use Rattle.chain_laws.proofs.Lists.{In-append_right}
-use Rattle.history_laws.proofs.Rowing.{legal-suffix}
-use Rattle.share_model.proofs.Apart.{apart-front}
+use Rattle.channel_safety.proofs.Lists.{In-append_right}
+use Rattle.channel_safety.proofs.Rowing.{legal-suffix}
+use Rattle.share_laws.proofs.Apart.{apart-front}
 
 -- channels of a journal's front come first
 channels-later : (newer front : List Line) → (gs : List FixedParts) × (channels (newer ++ front) ≡ channels front ++ gs)

@@ -1,17 +1,17 @@
 -- A virtual channel of A and B through I, after payments: what each of the three is worth, funded, and sound.
 use Rattle.std.specs.Prelude.{◌≡◌, ℕ, Bool, true, false, List, [], ◌∷◌, None, if◌then◌else◌}
 use Rattle.std.specs.Str.{bytes_eq}
-use Rattle.nitro_bytes.specs.declared.value.AssetOutcome.{AssetOutcome}
-use Rattle.nitro_bytes.specs.declared.value.Dest.{Dest}
-use Rattle.nitro_bytes.specs.declared.value.Dest.TheVariants.{Person, Channel}
-use Rattle.nitro_bytes.specs.declared.value.Item.{Item}
-use Rattle.nitro_bytes.specs.declared.value.Shape.TheVariants.{Allocation, Guarantee}
-use Rattle.funding_value.specs.declared.plan.Part.{Part}
-use Rattle.funding_value.specs.declared.plan.Part.TheVariants.{Root, End, Middle}
-use Rattle.funding_value.specs.declared.plan.Virtual.{Virtual}
-use Rattle.share_model.specs.Books.{Counting}
-use Rattle.share_model.specs.Share.{share_of}
-use Rattle.share_model.specs.Funded.{is_funded}
+use Rattle.channel_values.specs.declared.value.AssetOutcome.{AssetOutcome}
+use Rattle.channel_values.specs.declared.value.Dest.{Dest}
+use Rattle.channel_values.specs.declared.value.Dest.TheVariants.{Person, Channel}
+use Rattle.channel_values.specs.declared.value.Item.{Item}
+use Rattle.channel_values.specs.declared.value.Shape.TheVariants.{Allocation, Guarantee}
+use Rattle.funding_plans.specs.declared.plan.Part.{Part}
+use Rattle.funding_plans.specs.declared.plan.Part.TheVariants.{Root, End, Middle}
+use Rattle.funding_plans.specs.declared.plan.Virtual.{Virtual}
+use Rattle.share_laws.specs.Books.{Counting}
+use Rattle.share_laws.specs.Share.{share_of}
+use Rattle.share_laws.specs.Funded.{is_funded}
 use Rattle.share_laws.specs.Sound.{IsSound}
 
 -- the persons, the ledgers of A and of B with I, the guarantors, the joint channel and the payment channel

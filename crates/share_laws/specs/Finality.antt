@@ -2,27 +2,27 @@
 -- signed.
 use Rattle.std.specs.Prelude.{◌≡◌, ◌≢◌, ℕ, ◌<◌, ◌≤◌, true, List, ◌∷◌, length, Some}
 use Rattle.std.specs.List.{slice_get, AllByRecursion}
-use Rattle.nitro_bytes.specs.Parts.{FixedParts, StateParts, IsFixed, IsState}
-use Rattle.nitro_bytes.specs.declared.value.AssetOutcome.{AssetOutcome}
-use Rattle.nitro_bytes.specs.declared.value.Dest.TheVariants.{Person}
-use Rattle.channel_model.specs.Amounts.{aff}
-use Rattle.channel_model.specs.Chains.{mover, last_of}
-use Rattle.channel_model.specs.Rules.{Rules, people, KeepsFinal}
-use Rattle.channel_model.specs.Supported.{AreSteps}
-use Rattle.channel_calls.specs.Flows.{is_among}
-use Rattle.channel_calls.specs.History.{Legal}
-use Rattle.channel_calls.specs.declared.entry.Entry.{Entry}
-use Rattle.net_model.specs.Journals.{In, Line}
-use Rattle.net_model.specs.Honest.{Honest}
-use Rattle.net_model.specs.Premises.{Unforged, InTime}
-use Rattle.net_model.specs.Occurring.{NoCollision, AreValid}
-use Rattle.share_model.specs.Places.{Order, plan, channels, counting, outcomes_of, IsPlace}
-use Rattle.share_model.specs.Kept.{SharesAreKept}
-use Rattle.nitro_bytes.specs.Outcomes.{AreApart}
+use Rattle.channel_values.specs.Parts.{FixedParts, StateParts, IsFixed, IsState}
+use Rattle.channel_values.specs.declared.value.AssetOutcome.{AssetOutcome}
+use Rattle.channel_values.specs.declared.value.Dest.TheVariants.{Person}
+use Rattle.channel_values.specs.Amounts.{aff}
+use Rattle.channel_values.specs.Rows.{mover, last_of}
+use Rattle.channel_values.specs.Rules.{Rules, people, KeepsFinal}
+use Rattle.channel_values.specs.Supported.{AreSteps}
+use Rattle.call_history.specs.Flows.{is_among}
+use Rattle.call_history.specs.History.{Legal}
+use Rattle.call_history.specs.declared.entry.Entry.{Entry}
+use Rattle.channel_safety.specs.Journals.{In, Line}
+use Rattle.channel_safety.specs.Honest.{Honest}
+use Rattle.channel_safety.specs.Premises.{Unforged, InTime}
+use Rattle.channel_safety.specs.Occurring.{NoCollision, AreValid}
+use Rattle.share_laws.specs.Places.{Order, plan, channels, counting, outcomes_of, IsPlace}
+use Rattle.share_laws.specs.Kept.{SharesAreKept}
+use Rattle.channel_values.specs.Outcomes.{AreApart}
 use Rattle.share_laws.specs.Lines.{SignaturesAreFair}
 use Rattle.share_laws.specs.Sound.{IsSound}
-use Rattle.share_model.specs.Bases.{all_bases}
-use Rattle.funding_value.specs.Shapes.{items_in, list_in}
+use Rattle.share_laws.specs.Bases.{all_bases}
+use Rattle.funding_plans.specs.Shapes.{items_in, list_in}
 use Rattle.share_laws.specs.Turns.{OneOf, names}
 use Rattle.share_laws.specs.Whole.{EndsWell}
 use Rattle.std.specs.Str.{bytes_eq}

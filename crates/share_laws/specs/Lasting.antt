@@ -1,12 +1,12 @@
 -- While its person signs nothing a share lasts.
 use Rattle.std.specs.Prelude.{ℕ, ◌≤◌, List, ◌++◌}
-use Rattle.nitro_bytes.specs.Parts.{FixedParts}
-use Rattle.channel_model.specs.Rules.{Rules}
-use Rattle.channel_calls.specs.declared.entry.Entry.{Entry}
-use Rattle.net_model.specs.Journals.{In, Line, opened}
-use Rattle.net_model.specs.Honest.{Honest}
-use Rattle.share_model.specs.Places.{Order, share, IsPlace}
-use Rattle.share_model.specs.Kept.{SharesAreKept}
+use Rattle.channel_values.specs.Parts.{FixedParts}
+use Rattle.channel_values.specs.Rules.{Rules}
+use Rattle.call_history.specs.declared.entry.Entry.{Entry}
+use Rattle.channel_safety.specs.Journals.{In, Line, opened}
+use Rattle.channel_safety.specs.Honest.{Honest}
+use Rattle.share_laws.specs.Places.{Order, share, IsPlace}
+use Rattle.share_laws.specs.Kept.{SharesAreKept}
 use Rattle.share_laws.specs.Lines.{AreInOrder, SignNothing}
 
 -- The journal of an honest participant is in order, once it opens a channel.

@@ -1,10 +1,10 @@
 -- Lines of a person's journal: in order; that sign no state; that sign fairly.
 use Rattle.std.specs.Prelude.{◌≡◌, ℕ, ◌≤◌, true, false, List, [], ◌∷◌}
-use Rattle.channel_model.specs.Rules.{Rules}
-use Rattle.channel_calls.specs.declared.entry.Entry.{Entry}
-use Rattle.net_model.specs.Journals.{In, Line, is_watched}
-use Rattle.share_model.specs.Kept.{is_signing, SignsFairly}
-use Rattle.share_model.specs.Places.{Order, IsPlace}
+use Rattle.channel_values.specs.Rules.{Rules}
+use Rattle.call_history.specs.declared.entry.Entry.{Entry}
+use Rattle.channel_safety.specs.Journals.{In, Line, is_watched}
+use Rattle.share_laws.specs.Kept.{is_signing, SignsFairly}
+use Rattle.share_laws.specs.Places.{Order, IsPlace}
 
 -- lines, but for looks, stand in the order of what they had seen
 abbrev pub AreInOrder : List Line → Type 0

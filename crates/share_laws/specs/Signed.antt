@@ -1,30 +1,30 @@
 -- A plan is sound at each place where the whole plan is, and its person signed guarantees alone in its guarantors.
 use Rattle.std.specs.Prelude.{◌≡◌, ◌≢◌, ℕ, Some, List, [], ◌∷◌}
 use Rattle.std.specs.List.{AllByRecursion}
-use Rattle.nitro_bytes.specs.Parts.{FixedParts}
-use Rattle.nitro_bytes.specs.declared.chain.Signed.{Signed}
-use Rattle.nitro_bytes.specs.declared.value.AssetOutcome.{AssetOutcome}
-use Rattle.nitro_bytes.specs.declared.value.Dest.{Dest}
-use Rattle.nitro_bytes.specs.declared.value.Dest.TheVariants.{Person, Channel}
-use Rattle.channel_model.specs.Rules.{Rules, KeepsFinal}
-use Rattle.channel_calls.specs.Dues.{shape_in}
-use Rattle.channel_calls.specs.History.{Legal}
-use Rattle.channel_calls.specs.declared.entry.Entry.{Entry}
-use Rattle.net_model.specs.Journals.{In, Line, made_in}
-use Rattle.net_model.specs.Honest.{Honest}
-use Rattle.net_model.specs.Premises.{Unforged, InTime}
-use Rattle.net_model.specs.Occurring.{NoCollision, AreValid}
-use Rattle.funding_value.specs.declared.plan.Part.{Part}
-use Rattle.funding_value.specs.declared.plan.Part.TheVariants.{Root, OnLedger, End, Middle}
-use Rattle.funding_value.specs.Parts.{own_guarantor}
-use Rattle.share_model.specs.Places.{Order, plan, channels, counting, outcomes_of, IsPlace}
-use Rattle.share_model.specs.Kept.{SharesAreKept}
-use Rattle.nitro_bytes.specs.Outcomes.{AreApart}
+use Rattle.channel_values.specs.Parts.{FixedParts}
+use Rattle.channel_values.specs.declared.chain.Signed.{Signed}
+use Rattle.channel_values.specs.declared.value.AssetOutcome.{AssetOutcome}
+use Rattle.channel_values.specs.declared.value.Dest.{Dest}
+use Rattle.channel_values.specs.declared.value.Dest.TheVariants.{Person, Channel}
+use Rattle.channel_values.specs.Rules.{Rules, KeepsFinal}
+use Rattle.call_history.specs.Dues.{shape_in}
+use Rattle.call_history.specs.History.{Legal}
+use Rattle.call_history.specs.declared.entry.Entry.{Entry}
+use Rattle.channel_safety.specs.Journals.{In, Line, made_in}
+use Rattle.channel_safety.specs.Honest.{Honest}
+use Rattle.channel_safety.specs.Premises.{Unforged, InTime}
+use Rattle.channel_safety.specs.Occurring.{NoCollision, AreValid}
+use Rattle.funding_plans.specs.declared.plan.Part.{Part}
+use Rattle.funding_plans.specs.declared.plan.Part.TheVariants.{Root, OnLedger, End, Middle}
+use Rattle.funding_plans.specs.Parts.{own_guarantor}
+use Rattle.share_laws.specs.Places.{Order, plan, channels, counting, outcomes_of, IsPlace}
+use Rattle.share_laws.specs.Kept.{SharesAreKept}
+use Rattle.channel_values.specs.Outcomes.{AreApart}
 use Rattle.share_laws.specs.Lines.{SignaturesAreFair}
 use Rattle.share_laws.specs.Turns.{names}
 use Rattle.share_laws.specs.Sound.{IsPromise, Guarantees}
 use Rattle.share_laws.specs.Finality.{StepsKeepPossible, RestsOnNoPayments}
-use Rattle.signing_laws.specs.Plans.{IsPlan}
+use Rattle.share_laws.specs.Plans.{IsPlan}
 use Rattle.std.specs.Str.{bytes_eq}
 
 -- an outcome is a guarantee of the joint channel for these destinations in each asset in which it is anything

@@ -2,17 +2,17 @@
 use Rattle.std.specs.Prelude.{◌≡◌, ℕ, false, List, [], ◌∷◌, Option, Some, None}
 use Rattle.std.specs.List.{AllByRecursion}
 use Rattle.std.specs.Str.{bytes_eq}
-use Rattle.nitro_bytes.specs.declared.value.Dest.{Dest}
-use Rattle.nitro_bytes.specs.declared.value.Dest.TheVariants.{Person, Channel}
-use Rattle.nitro_bytes.specs.declared.value.Shape.{Shape}
-use Rattle.nitro_bytes.specs.declared.value.Shape.TheVariants.{Guarantee}
-use Rattle.channel_calls.specs.Dues.{shape_in}
-use Rattle.funding_value.specs.declared.plan.Part.{Part}
-use Rattle.funding_value.specs.declared.plan.Part.TheVariants.{Root, OnLedger, End, Middle}
-use Rattle.share_model.specs.Books.{Counting, outcome_in}
-use Rattle.funding_value.specs.Parts.{own_ledger, own_guarantor}
+use Rattle.channel_values.specs.declared.value.Dest.{Dest}
+use Rattle.channel_values.specs.declared.value.Dest.TheVariants.{Person, Channel}
+use Rattle.channel_values.specs.declared.value.Shape.{Shape}
+use Rattle.channel_values.specs.declared.value.Shape.TheVariants.{Guarantee}
+use Rattle.call_history.specs.Dues.{shape_in}
+use Rattle.funding_plans.specs.declared.plan.Part.{Part}
+use Rattle.funding_plans.specs.declared.plan.Part.TheVariants.{Root, OnLedger, End, Middle}
+use Rattle.share_laws.specs.Books.{Counting, outcome_in}
+use Rattle.funding_plans.specs.Parts.{own_ledger, own_guarantor}
 use Rattle.share_laws.specs.Moved.{all_payers}
-use Rattle.nitro_bytes.specs.Outcomes.{AreApart}
+use Rattle.channel_values.specs.Outcomes.{AreApart}
 
 -- a guarantee of the joint channel for these destinations, if there is anything
 abbrev pub IsPromise : List ℕ → List Dest → Option Shape → Type 0

@@ -1,9 +1,9 @@
 -- What an entry or a line makes of the outcomes that a channel can end with, where nothing is paid.
 use Rattle.std.specs.Prelude.{◌≡◌, ℕ, ◌≤◌, List, [], ◌∷◌, length, map, ◌⊎◌}
-use Rattle.nitro_bytes.specs.Parts.{FixedParts}
-use Rattle.nitro_bytes.specs.declared.value.AssetOutcome.{AssetOutcome}
-use Rattle.channel_model.specs.Rules.{Rules}
-use Rattle.share_model.specs.Bases.{NoWorse}
+use Rattle.channel_values.specs.Parts.{FixedParts}
+use Rattle.channel_values.specs.declared.value.AssetOutcome.{AssetOutcome}
+use Rattle.channel_values.specs.Rules.{Rules}
+use Rattle.share_laws.specs.Bases.{NoWorse}
 
 abbrev pub OneOf : {X : Type 0} → (X → Type 0) → List X → Type 0
 OneOf P [] = ⊥

@@ -1,19 +1,19 @@
 -- Whose doing may lower a share, over a whole history and journal: from what is known at each place.
 use Rattle.std.specs.Prelude.{◌≡◌, ℕ, ◌≤◌, true, false, List, ◌∷◌, length}
-use Rattle.nitro_bytes.specs.Parts.{FixedParts}
-use Rattle.deadline_clock.specs.Mode.{is_final}
-use Rattle.channel_model.specs.Rules.{Rules}
-use Rattle.channel_calls.specs.History.{Legal, mode}
-use Rattle.channel_calls.specs.declared.entry.Entry.{Entry}
-use Rattle.net_model.specs.Journals.{In, Line, is_watched}
-use Rattle.share_model.specs.Places.{Order, plan, channels, possible, counting, share, IsPlace}
-use Rattle.share_model.specs.Kept.{is_signing, SharesAreKept}
-use Rattle.net_model.specs.Occurring.{NoCollision}
-use Rattle.nitro_bytes.specs.Outcomes.{AreApart}
-use Rattle.share_laws.specs.Laws.{moves_funds, AreSeen}
+use Rattle.channel_values.specs.Parts.{FixedParts}
+use Rattle.call_history.specs.Mode.{is_final}
+use Rattle.channel_values.specs.Rules.{Rules}
+use Rattle.call_history.specs.History.{Legal, mode}
+use Rattle.call_history.specs.declared.entry.Entry.{Entry}
+use Rattle.channel_safety.specs.Journals.{In, Line, is_watched}
+use Rattle.share_laws.specs.Places.{Order, plan, channels, possible, counting, share, IsPlace}
+use Rattle.share_laws.specs.Kept.{is_signing, SharesAreKept}
+use Rattle.channel_safety.specs.Occurring.{NoCollision}
+use Rattle.channel_values.specs.Outcomes.{AreApart}
+use Rattle.share_laws.specs.ShareLaws.{moves_funds, AreSeen}
 use Rattle.share_laws.specs.Lines.{SignaturesAreFair}
 use Rattle.share_laws.specs.Sound.{IsSound}
-use Rattle.share_model.specs.Bases.{all_bases}
+use Rattle.share_laws.specs.Bases.{all_bases}
 use Rattle.share_laws.specs.Turns.{names, Turns}
 use Rattle.std.specs.Str.{bytes_eq}
 

@@ -2,8 +2,8 @@
 
 ghost use Rattle.share_laws.specs.Finality.{FinalsEndWell, HonestSharesAreKept};
 ghost use Rattle.share_laws.specs.Lasting.{HonestJournalsAreInOrder, SharesLast};
-ghost use Rattle.share_laws.specs.Laws.{FlowsKeepShares};
-ghost use Rattle.share_laws.specs.Signing.{SigningsChangeOne};
+ghost use Rattle.share_laws.specs.ShareLaws.{FlowsKeepShares};
+ghost use Rattle.share_laws.specs.SigningLines.{SigningsChangeOne};
 ghost use Rattle.share_laws.specs.Signed.{FairSharesAreKept, SignedGuaranteesStand};
 ghost use Rattle.share_laws.specs.Whole.{LinesKeepShares, NobodyLowersShares, TurnsKeepShares};
 

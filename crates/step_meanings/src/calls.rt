@@ -1,13 +1,14 @@
 //! The calls that steps make.
 
 ghost use Rattle.std.specs.Prelude.{◌≡◌, ◌≤◌, length, IfOk};
-ghost use Rattle.script_rules.specs.declared.step.Step.TheVariants as steps;
-ghost use Rattle.script_names.specs.Meanings.{doing, meaning};
+ghost use Rattle.script_steps.specs.declared.step.Step.TheVariants as steps;
+ghost use Rattle.step_meanings.specs.Meanings.{doing, meaning};
 
-use channel_calls::{Call, Op};
-use named_states::{chain_of, listed};
-use nitro_bytes::{Label, NoMemory};
-use script_names::{Effect, Names, channel_by, digest_or_digits, position_of, sign_challenge};
+use crate::chains::{chain_of, listed};
+use crate::effect::Effect;
+use crate::names::{Names, channel_by, digest_or_digits, position_of, sign_challenge};
+use call_history::{Call, Op};
+use channel_values::{Label, NoMemory};
 
 pub(crate) fn deposit(
     known: &Names,

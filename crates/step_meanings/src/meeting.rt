@@ -1,16 +1,17 @@
 //! What each step asks to be done.
 
 ghost use Rattle.std.specs.Prelude.{◌≡◌, ◌≤◌, ◌+◌, length, IfOk};
-ghost use Rattle.script_rules.specs.Bounds.{Fits, persons};
-ghost use Rattle.script_rules.specs.Conditions.{signer_of};
-ghost use Rattle.script_names.specs.Meanings.{doing, meaning};
+ghost use Rattle.script_steps.specs.Bounds.{Fits, persons};
+ghost use Rattle.script_steps.specs.Conditions.{signer_of};
+ghost use Rattle.step_meanings.specs.Meanings.{doing, meaning};
 
+use crate::effect::Effect;
+use crate::names::{Names, state_with_votes};
 use crate::{calls, telling};
-use channel_calls::Op;
-use nitro_bytes::NoMemory;
-use script_names::{Effect, Names, state_with_votes};
-use script_rules::Step;
-use sign_index::Signer;
+use call_history::Op;
+use channel_values::NoMemory;
+use lms_signatures::Signer;
+use script_steps::Step;
 
 /// What a step asks to be done. What the names stand for is then what they stand for after the step. A person that the
 /// step declares takes the signer.

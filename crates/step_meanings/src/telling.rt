@@ -1,14 +1,15 @@
 //! The messages and the commands of steps.
 
 ghost use Rattle.std.specs.Prelude.{◌≡◌, length, IfOk};
-ghost use Rattle.script_rules.specs.declared.step.Step.TheVariants as steps;
-ghost use Rattle.script_names.specs.Meanings.{doing, telling, meaning, message_by, names_by, both_by};
+ghost use Rattle.script_steps.specs.declared.step.Step.TheVariants as steps;
+ghost use Rattle.step_meanings.specs.Meanings.{doing, telling, meaning, message_by, names_by, both_by};
 
-use channel_calls::write_message;
-use named_states::state_by;
-use net_party::{Command, Route};
-use nitro_bytes::{Fixed, Label, Listed, Name, NoMemory, Outcome};
-use script_names::{Effect, Names};
+use crate::chains::state_by;
+use crate::effect::Effect;
+use crate::names::Names;
+use call_bytes::write_message;
+use channel_values::{Fixed, Label, Listed, Name, NoMemory, Outcome};
+use network::{Command, Route};
 use std::slice;
 
 /// The message of a named state, on its way to a person.

@@ -7,11 +7,11 @@
 mod spelled;
 
 use crate::spelled::{Fixed, conclude_bytes, outcome_bytes};
-use adjudicator_core::Adjudicator;
+use adjudicator::Adjudicator;
 use anyhow::{Context, Result, anyhow, bail};
-use channel_calls::{Call, Op, Reply, read_call};
-use channel_name::channel_name;
-use nitro_bytes::{Name, read_outcome};
+use call_bytes::read_call;
+use call_history::{Call, Op, Reply};
+use channel_values::{Name, channel_name, read_outcome};
 use std::alloc::Global;
 use std::env;
 use std::time::Instant;

@@ -1,8 +1,8 @@
 //! A final channel of two people, in bytes: its fixed part, its outcome, and the call that concludes it.
 
 use anyhow::{Result, anyhow};
-use channel_name::{channel_name, state_digest, state_message};
-use sign_index::Signer;
+use channel_values::{channel_name, state_digest, state_message};
+use lms_signatures::Signer;
 use std::alloc::{AllocError, Global};
 
 /// The fixed part of two people: their number, their keys, a nonce, the application and the duration.

@@ -1,11 +1,11 @@
 -- What a replay is asked by, and what it answers.
 use Rattle.std.specs.Prelude.{ℕ, List, [], fold, codes}
-use Rattle.support_chain.specs.Real.{real}
-use Rattle.record_bytes.specs.declared.run_record.Ending.{Ending}
-use Rattle.record_bytes.specs.declared.run_record.Record.{Record}
-use Rattle.record_answers.specs.Answering.{Asked}
-use Rattle.tower_service.specs.declared.client.Client.{Client}
-use Rattle.tower_replay.specs.Replay.{enrolling, replay_text}
+use Rattle.support_rules.specs.Real.{real}
+use Rattle.run_record.specs.declared.run_record.Ending.{Ending}
+use Rattle.run_record.specs.declared.run_record.Record.{Record}
+use Rattle.record_checker.specs.Answering.{Asked}
+use Rattle.watchtower.specs.declared.client.Client.{Client}
+use Rattle.watchtower.specs.Replay.{enrolling, replay_text}
 
 -- the people of the endings, each with the chains of its endings
 abbrev pub enrolled : List Ending → List Client

@@ -4,9 +4,8 @@
 
 mod replaying;
 
-use byte_sink::StdSink;
-use byte_source::StdSource;
-use nitro_bytes::{Label, NoMemory};
+use byte_streams::{StdSink, StdSource};
+use channel_values::{Label, NoMemory};
 use replaying::run_tower;
 use std::process::ExitCode;
 use std::rt::Env;

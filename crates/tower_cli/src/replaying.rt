@@ -2,22 +2,20 @@
 
 ghost use denote.Param.Send.{IsSync};
 ghost use Rattle.std.specs.Prelude.{◌≡◌, fold, OnOk};
-ghost use Rattle.support_chain.specs.Real.{real};
-ghost use Rattle.record_answers.specs.Answering.{given};
-ghost use Rattle.record_answers.specs.Running.{IsRun, sunk};
-ghost use Rattle.tower_replay.specs.Replay.{enrolling};
+ghost use Rattle.support_rules.specs.Real.{real};
+ghost use Rattle.record_checker.specs.Answering.{given};
+ghost use Rattle.record_checker.specs.Running.{IsRun, sunk};
+ghost use Rattle.watchtower.specs.Replay.{enrolling};
 ghost use Rattle.tower_cli.specs.Replaying.{replay_asked};
 
-use byte_sink::Sink;
-use byte_source::Source;
-use nitro_bytes::{Label, NoMemory};
-use record_answers::{Answering, Status, run_on_record};
-use record_bytes::{Ending, Record};
+use byte_streams::{Sink, Source};
+use channel_values::{Label, NoMemory};
+use record_checker::{Answering, Status, run_on_record};
+use run_record::{Ending, Record};
 use std::alloc::Global;
 use std::sync::Wait;
 use std::thread::Threads;
-use tower_replay::{enroll, replay};
-use tower_service::Tower;
+use watchtower::{Tower, enroll, replay};
 
 /// Answers a sound record with what a tower of its people answers after each entry.
 #[derive(Drop)]

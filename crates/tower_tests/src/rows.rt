@@ -1,12 +1,12 @@
 //! Rows of what a tower is asked and what it answers.
 
-use channel_calls::{Call, Entry, Op, Reply, top_turn};
-use signed_chains::{chain, chain_signed_as, challenge};
+use crate::signed_chains::{chain, chain_signed_as, challenge};
+use call_history::{Call, Entry, Op, Reply, top_turn};
 use std::alloc::Global;
 use std::sync::Wait;
 use std::test::Fail;
 use std::thread::Threads;
-use tower_service::{Answer, HandFault, Tower};
+use watchtower::{Answer, HandFault, Tower};
 
 /// A client, by the byte that its name is made of, and the nonces and turns of its checkpoints.
 pub(super) type Told = (u8, &'static [(u64, u64)]);

@@ -2,13 +2,13 @@
 //! whose channel is challenged below that chain's turn.
 
 use crate::rows::{Row, Seen, Way, handed, holds};
-use nitro_bytes::SupportFault;
+use channel_values::SupportFault;
 use std::alloc::AllocGlobal;
 use std::process::Abort;
 use std::sync::Wait;
 use std::test::Fail;
 use std::thread::Threads;
-use tower_service::{HandFault, Tower};
+use watchtower::{HandFault, Tower};
 
 const P: u8 = 7;
 

@@ -1,6 +1,6 @@
 //! Canonical bytes, read and refused.
 
-use nitro_bytes::{
+use channel_values::{
     AssetOutcome, ByteFault, Dest, Fixed, Item, Label, Listed, Outcome, Shape, State, is_outcome,
     item_in, outcome_is, read_chain, read_fixed, read_outcome, read_signed, read_state,
     write_chain, write_fixed, write_outcome, write_signed, write_state,

@@ -2,27 +2,27 @@
 use Rattle.std.proofs.Common.{◌≡◌, ℕ, ◌*◌, ◌≤◌, Bool, true, false, ◌||◌, List, refl, sym, ◌∙◌, ap, arith}
 use Rattle.std.specs.Prelude.{Some, None}
 use Rattle.std.specs.Str.{bytes_eq}
-use Rattle.nitro_bytes.specs.Parts.{FixedParts, StateParts}
-use Rattle.chain_laws.proofs.Tests.{clash}
-use Rattle.channel_calls.proofs.Names.{bytes_eq_self}
-use Rattle.channel_calls.specs.Flows.{is_among}
-use Rattle.channel_calls.specs.History.{mode}
-use Rattle.channel_calls.specs.declared.entry.Entry.{Entry}
-use Rattle.channel_model.specs.Rules.{people}
+use Rattle.channel_values.specs.Parts.{FixedParts, StateParts}
+use Rattle.channel_safety.proofs.Tests.{clash}
+use Rattle.call_history.proofs.Names.{bytes_eq_self}
+use Rattle.call_history.specs.Flows.{is_among}
+use Rattle.call_history.specs.History.{mode}
+use Rattle.call_history.specs.declared.entry.Entry.{Entry}
+use Rattle.channel_values.specs.Rules.{people}
 use Rattle.channel_store.specs.Storing.{kept_of}
 use Rattle.channel_store.specs.declared.kept.Kept.{Kept}
-use Rattle.deadline_clock.specs.Mode.{is_final}
-use Rattle.funding_value.specs.Parts.{ledgers_of}
-use Rattle.funding_value.specs.declared.plan.Goal.{Goal}
-use Rattle.funding_value.specs.declared.plan.Part.TheVariants.{OnLedger}
+use Rattle.call_history.specs.Mode.{is_final}
+use Rattle.funding_plans.specs.Parts.{ledgers_of}
+use Rattle.funding_plans.specs.declared.plan.Goal.{Goal}
+use Rattle.funding_plans.specs.declared.plan.Part.TheVariants.{OnLedger}
 use Rattle.ledger_channel.specs.OnLedgers as children
 use Rattle.ledger_channel.specs.OnLedgers.{Funded, on_ledger_rows}
-use Rattle.net_model.specs.Journals.{In}
-use Rattle.node_model.specs.Minds.{facts_of}
-use Rattle.node_model.specs.Places.{Told, lines_of, mind_at}
-use Rattle.node_model.specs.Playing.{Signing}
-use Rattle.node_model.specs.Refusing.{not_open}
-use Rattle.node_tables.specs.Stages.{stages}
+use Rattle.channel_safety.specs.Journals.{In}
+use Rattle.channel_node.specs.Minds.{facts_of}
+use Rattle.channel_node.specs.Places.{Told, lines_of, mind_at}
+use Rattle.channel_node.specs.Playing.{Signing}
+use Rattle.channel_node.specs.Refusing.{not_open}
+use Rattle.stage_tables.specs.Stages.{stages}
 use Rattle.fairness_laws.proofs.Children.{first-states, stands-open, channel-open, many, up, down}
 use Rattle.fairness_laws.proofs.Guard.Late.{child-far, closing-over, ledger-over}
 use Rattle.fairness_laws.proofs.Guard.Open.{AllShut, ledger-stands, shut-down}
@@ -36,11 +36,11 @@ use Rattle.fairness_laws.specs.LedgerLending.{of_funded, lent}
 use Rattle.fairness_laws.specs.PaymentLaws.{At}
 use Rattle.fairness_laws.specs.PlanParts.{OnLedgerIs}
 use Rattle.fairness_laws.specs.PlanSettings.{IsFair}
-use Rattle.share_model.specs.Places.{channels}
-use Rattle.stage_rules.specs.Gathered.{goal_in}
-use Rattle.stage_rules.specs.Rows.{wanted_in}
-use Rattle.stage_rules.specs.Seats.{repeats, is_down}
-use Rattle.support_chain.specs.Real.{real}
+use Rattle.share_laws.specs.Places.{channels}
+use Rattle.funding_plans.specs.Gathered.{goal_in}
+use Rattle.funding_plans.specs.Rows.{wanted_in}
+use Rattle.funding_plans.specs.Seats.{repeats, is_down}
+use Rattle.support_rules.specs.Real.{real}
 
 module _ (s : Signing) (h : List Entry) (journal : List Told) (fair : IsFair s h journal) (past : List Entry) (front : List Told) (at : At s h journal past front)
     (f : FixedParts) (own : In f (channels (lines_of s.key front))) (k : Kept) (kept : kept_of (real.named f) (mind_at real s.key past front).kept ≡ Some k) (state : StateParts)

@@ -2,29 +2,29 @@
 use Rattle.std.proofs.Common.{◌≡◌, ℕ, ◌*◌, ◌≤◌, true, false, List, sym, ◌∙◌, arith}
 use Rattle.std.specs.Prelude.{Some, None}
 use Rattle.std.specs.Str.{bytes_eq}
-use Rattle.nitro_bytes.specs.Parts.{FixedParts, StateParts}
-use Rattle.nitro_bytes.specs.declared.value.AssetOutcome.{AssetOutcome}
-use Rattle.chain_laws.proofs.Tests.{clash}
-use Rattle.channel_calls.specs.Flows.{is_among}
-use Rattle.channel_calls.specs.History.{mode}
-use Rattle.channel_calls.specs.declared.entry.Entry.{Entry}
-use Rattle.channel_model.specs.Rules.{people}
-use Rattle.channel_name.specs.Digests.{name_of_person}
+use Rattle.channel_values.specs.Parts.{FixedParts, StateParts}
+use Rattle.channel_values.specs.declared.value.AssetOutcome.{AssetOutcome}
+use Rattle.channel_safety.proofs.Tests.{clash}
+use Rattle.call_history.specs.Flows.{is_among}
+use Rattle.call_history.specs.History.{mode}
+use Rattle.call_history.specs.declared.entry.Entry.{Entry}
+use Rattle.channel_values.specs.Rules.{people}
+use Rattle.channel_values.specs.Digests.{name_of_person}
 use Rattle.channel_store.specs.Storing.{kept_of}
 use Rattle.channel_store.specs.declared.kept.Kept.{Kept}
-use Rattle.deadline_clock.specs.Mode.{is_final}
-use Rattle.funding_value.specs.Parts.{own_ledger, own_guarantor, joined_of, ledgers_of}
-use Rattle.funding_value.specs.declared.plan.Goal.{Goal}
-use Rattle.funding_value.specs.declared.plan.Part.TheVariants as parts
-use Rattle.funding_value.specs.declared.plan.Virtual.{Virtual}
-use Rattle.net_model.specs.Journals.{In}
-use Rattle.node_model.specs.Minds.{facts_of}
-use Rattle.node_model.specs.Places.{Told, lines_of, mind_at}
-use Rattle.node_model.specs.Playing.{Signing}
-use Rattle.node_model.specs.Refusing.{not_open}
-use Rattle.node_tables.specs.Stages.{stages}
-use Rattle.outcome_targets.specs.Targets.{apart, guarantee}
-use Rattle.outcome_targets.specs.declared.terms.Terms.{Terms}
+use Rattle.call_history.specs.Mode.{is_final}
+use Rattle.funding_plans.specs.Parts.{own_ledger, own_guarantor, joined_of, ledgers_of}
+use Rattle.funding_plans.specs.declared.plan.Goal.{Goal}
+use Rattle.funding_plans.specs.declared.plan.Part.TheVariants as parts
+use Rattle.funding_plans.specs.declared.plan.Virtual.{Virtual}
+use Rattle.channel_safety.specs.Journals.{In}
+use Rattle.channel_node.specs.Minds.{facts_of}
+use Rattle.channel_node.specs.Places.{Told, lines_of, mind_at}
+use Rattle.channel_node.specs.Playing.{Signing}
+use Rattle.channel_node.specs.Refusing.{not_open}
+use Rattle.stage_tables.specs.Stages.{stages}
+use Rattle.funding_plans.specs.Targets.{apart, guarantee}
+use Rattle.funding_plans.specs.declared.terms.Terms.{Terms}
 use Rattle.fairness_laws.proofs.EndPart.{stands-open, guarantor-among, joint-among, channel-among, ours, on-ledger, opened, three, many, up, down, join-fits, part-fits}
 use Rattle.fairness_laws.proofs.Guard.Late.{end-joint-far, end-channel-far, holds-over, closing-over, ledger-over}
 use Rattle.fairness_laws.proofs.Guard.Open.{AllShut, ledger-stands, shut-down}
@@ -39,11 +39,11 @@ use Rattle.fairness_laws.specs.PaymentLaws.{At}
 use Rattle.fairness_laws.specs.PlanParts.{EndIs}
 use Rattle.fairness_laws.specs.PlanSeats.{SeatIs}
 use Rattle.fairness_laws.specs.PlanSettings.{IsFair}
-use Rattle.share_model.specs.Places.{channels}
-use Rattle.stage_rules.specs.Gathered.{goal_in}
-use Rattle.stage_rules.specs.Rows.{wanted_in}
-use Rattle.stage_rules.specs.Seats.{Seat, is_down}
-use Rattle.support_chain.specs.Real.{real}
+use Rattle.share_laws.specs.Places.{channels}
+use Rattle.funding_plans.specs.Gathered.{goal_in}
+use Rattle.funding_plans.specs.Rows.{wanted_in}
+use Rattle.funding_plans.specs.Seats.{Seat, is_down}
+use Rattle.support_rules.specs.Real.{real}
 use Rattle.virtual_channel.specs.Ends as ends
 use Rattle.virtual_channel.specs.Ends.{End, end_rows}
 

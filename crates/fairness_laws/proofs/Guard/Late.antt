@@ -1,32 +1,32 @@
 -- The set-up of a channel is over where Close was commanded of its part, and of a ledger on which a part stands.
 use Rattle.std.proofs.Common.{◌≡◌, ℕ, ◌+◌, ◌*◌, ◌-◌, ◌≤◌, ◌<◌, Bool, true, false, cond, List, refl, sym, ◌∙◌, ap, subst, arith}
 use Rattle.std.specs.Prelude.{Option, Some, None, nat_le}
-use Rattle.nitro_bytes.specs.Parts.{FixedParts, StateParts}
-use Rattle.nitro_bytes.specs.declared.value.AssetOutcome.{AssetOutcome}
-use Rattle.chain_laws.proofs.Lists.{In-get, get-within}
-use Rattle.chain_laws.proofs.Tests.{some-eq, none-eq, le-true, eqb-true}
-use Rattle.channel_calls.proofs.Names.{same_bytes}
-use Rattle.channel_calls.specs.Flows.{is_among}
-use Rattle.channel_calls.specs.Marked.{Marked, marked_of, next_after}
-use Rattle.channel_calls.specs.declared.entry.Entry.{Entry}
-use Rattle.channel_model.specs.Rules.{people, newest}
+use Rattle.channel_values.specs.Parts.{FixedParts, StateParts}
+use Rattle.channel_values.specs.declared.value.AssetOutcome.{AssetOutcome}
+use Rattle.channel_safety.proofs.Lists.{In-get, get-within}
+use Rattle.channel_safety.proofs.Tests.{some-eq, none-eq, le-true, eqb-true}
+use Rattle.call_history.proofs.Names.{same_bytes}
+use Rattle.call_history.specs.Flows.{is_among}
+use Rattle.call_history.specs.Marked.{Marked, marked_of, next_after}
+use Rattle.call_history.specs.declared.entry.Entry.{Entry}
+use Rattle.channel_values.specs.Rules.{people, newest}
 use Rattle.channel_store.specs.Keeping.{is_held, next_of}
 use Rattle.channel_store.specs.Storing.{kept_of}
-use Rattle.funding_value.specs.Parts.{own_channel, channels_of, ledgers_of}
-use Rattle.funding_value.specs.declared.plan.Goal.{Goal}
-use Rattle.funding_value.specs.declared.plan.Part.{Part}
-use Rattle.funding_value.specs.declared.plan.Part.TheVariants as parts
-use Rattle.funding_value.specs.declared.plan.Virtual.{Virtual}
+use Rattle.funding_plans.specs.Parts.{own_channel, channels_of, ledgers_of}
+use Rattle.funding_plans.specs.declared.plan.Goal.{Goal}
+use Rattle.funding_plans.specs.declared.plan.Part.{Part}
+use Rattle.funding_plans.specs.declared.plan.Part.TheVariants as parts
+use Rattle.funding_plans.specs.declared.plan.Virtual.{Virtual}
 use Rattle.ledger_channel.specs.OnLedgers.{Funded}
 use Rattle.ledger_channel.specs.Stages.{funded_in, stage_on_ledger}
-use Rattle.net_model.specs.Held.{held}
-use Rattle.net_model.specs.Journals.{In, Line}
-use Rattle.node_laws.proofs.Reaching.{Reaches}
-use Rattle.node_model.specs.Minds.{Mind, facts_of}
-use Rattle.node_model.specs.Openings.{are_apart}
-use Rattle.node_model.specs.Places.{Told, lines_of, mind_at}
-use Rattle.node_model.specs.Playing.{Signing, Plays}
-use Rattle.node_tables.specs.Stages.{stages}
+use Rattle.channel_safety.specs.Held.{held}
+use Rattle.channel_safety.specs.Journals.{In, Line}
+use Rattle.channel_node.proofs.Reaching.{Reaches}
+use Rattle.channel_node.specs.Minds.{Mind, facts_of}
+use Rattle.channel_node.specs.Openings.{are_apart}
+use Rattle.channel_node.specs.Places.{Told, lines_of, mind_at}
+use Rattle.channel_node.specs.Playing.{Signing, Plays}
+use Rattle.stage_tables.specs.Stages.{stages}
 use Rattle.fairness_laws.proofs.Stages.{end-runs, middle-runs}
 use Rattle.fairness_laws.proofs.Ledger.Wanting.{funded_runs}
 use Rattle.fairness_laws.proofs.Ledger.Full.{ledger-reaches}
@@ -42,17 +42,17 @@ use Rattle.fairness_laws.specs.PaymentLaws.{At}
 use Rattle.fairness_laws.specs.PlanParts.{LedgerIs}
 use Rattle.fairness_laws.specs.PlanSeats.{SeatIs}
 use Rattle.fairness_laws.specs.PlanSettings.{IsFair}
-use Rattle.outcome_targets.specs.Targets as targets
-use Rattle.share_model.specs.Places.{channels}
-use Rattle.stage_rules.specs.Gathered.{goal_in}
-use Rattle.stage_rules.specs.Seats.{Seat, state_is, holds}
-use Rattle.support_chain.specs.Real.{real}
+use Rattle.funding_plans.specs.Targets as targets
+use Rattle.share_laws.specs.Places.{channels}
+use Rattle.funding_plans.specs.Gathered.{goal_in}
+use Rattle.funding_plans.specs.Seats.{Seat, state_is, holds}
+use Rattle.support_rules.specs.Real.{real}
 use Rattle.virtual_channel.specs.Ends.{End}
 use Rattle.virtual_channel.specs.Middles.{Middle}
 use Rattle.virtual_channel.specs.Stages.{end_in, stage_of_end, middle_in, stage_of_middle}
-use Rattle.wish_laws.proofs.Closing.{RunsAt, RunsTo, fixed-is, goal-found, late}
-use Rattle.wish_laws.proofs.Finding.{names}
-use Rattle.wish_laws.proofs.Planned.{is-planned, own-among, one-part}
+use Rattle.fairness_laws.proofs.Closing.{RunsAt, RunsTo, fixed-is, goal-found, late}
+use Rattle.fairness_laws.proofs.Finding.{names}
+use Rattle.fairness_laws.proofs.Planned.{is-planned, own-among, one-part}
 
 -- ---- what is held where a part runs
 

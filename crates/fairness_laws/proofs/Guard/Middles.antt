@@ -2,30 +2,30 @@
 use Rattle.std.proofs.Common.{◌≡◌, ℕ, ◌≤◌, true, false, List, sym, ◌∙◌, refl, arith}
 use Rattle.std.specs.Prelude.{Option, Some, None}
 use Rattle.std.specs.Str.{bytes_eq}
-use Rattle.nitro_bytes.specs.Outcomes.{IsOutcome}
-use Rattle.nitro_bytes.specs.Parts.{FixedParts, StateParts}
-use Rattle.nitro_bytes.specs.declared.value.AssetOutcome.{AssetOutcome}
-use Rattle.chain_laws.proofs.Tests.{clash, and-both}
-use Rattle.channel_calls.specs.Flows.{is_among}
-use Rattle.channel_calls.specs.History.{mode}
-use Rattle.channel_calls.specs.declared.entry.Entry.{Entry}
-use Rattle.channel_model.specs.Rules.{people}
+use Rattle.channel_values.specs.Outcomes.{IsOutcome}
+use Rattle.channel_values.specs.Parts.{FixedParts, StateParts}
+use Rattle.channel_values.specs.declared.value.AssetOutcome.{AssetOutcome}
+use Rattle.channel_safety.proofs.Tests.{clash, and-both}
+use Rattle.call_history.specs.Flows.{is_among}
+use Rattle.call_history.specs.History.{mode}
+use Rattle.call_history.specs.declared.entry.Entry.{Entry}
+use Rattle.channel_values.specs.Rules.{people}
 use Rattle.channel_store.specs.Storing.{kept_of}
 use Rattle.channel_store.specs.declared.kept.Kept.{Kept}
-use Rattle.deadline_clock.specs.Mode.{is_final}
-use Rattle.funding_value.specs.Parts.{joined_of, ledgers_of}
-use Rattle.funding_value.specs.declared.plan.Goal.{Goal}
-use Rattle.funding_value.specs.declared.plan.Part.TheVariants as parts
-use Rattle.funding_value.specs.declared.plan.Virtual.{Virtual}
-use Rattle.net_model.specs.Journals.{In, Line}
-use Rattle.node_model.specs.Minds.{facts_of}
-use Rattle.node_model.specs.Places.{Told, lines_of, mind_at}
-use Rattle.node_model.specs.Playing.{Signing}
-use Rattle.node_model.specs.Refusing.{not_open}
-use Rattle.node_tables.specs.Stages.{stages}
-use Rattle.outcome_targets.specs.Limits.{is_valid}
-use Rattle.outcome_targets.specs.Targets.{apart, together, guarantee}
-use Rattle.outcome_targets.specs.declared.terms.Terms.{Terms}
+use Rattle.call_history.specs.Mode.{is_final}
+use Rattle.funding_plans.specs.Parts.{joined_of, ledgers_of}
+use Rattle.funding_plans.specs.declared.plan.Goal.{Goal}
+use Rattle.funding_plans.specs.declared.plan.Part.TheVariants as parts
+use Rattle.funding_plans.specs.declared.plan.Virtual.{Virtual}
+use Rattle.channel_safety.specs.Journals.{In, Line}
+use Rattle.channel_node.specs.Minds.{facts_of}
+use Rattle.channel_node.specs.Places.{Told, lines_of, mind_at}
+use Rattle.channel_node.specs.Playing.{Signing}
+use Rattle.channel_node.specs.Refusing.{not_open}
+use Rattle.stage_tables.specs.Stages.{stages}
+use Rattle.funding_plans.specs.Limits.{is_valid}
+use Rattle.funding_plans.specs.Targets.{apart, together, guarantee}
+use Rattle.funding_plans.specs.declared.terms.Terms.{Terms}
 use Rattle.fairness_laws.proofs.Guard.Late.{middle-joint-far, holds-over, closing-over, ledger-over}
 use Rattle.fairness_laws.proofs.Guard.Open.{AllShut, ledger-stands, shut-down}
 use Rattle.fairness_laws.proofs.Guard.Seats.{Stands, stands-as, several, repeated-comes, passed-comes, moved-comes, going-there}
@@ -41,14 +41,14 @@ use Rattle.fairness_laws.specs.PaymentLaws.{At}
 use Rattle.fairness_laws.specs.PlanParts.{LedgerIs, GuarantorIs, MiddleIs}
 use Rattle.fairness_laws.specs.PlanSeats.{SeatIs}
 use Rattle.fairness_laws.specs.PlanSettings.{IsFair}
-use Rattle.share_model.specs.Places.{channels}
-use Rattle.stage_rules.specs.Gathered.{goal_in}
-use Rattle.stage_rules.specs.Rows.{wanted_in}
-use Rattle.stage_rules.specs.Seats.{Seat, repeats, toward, up_in, down_in, is_down}
-use Rattle.support_chain.specs.Real.{real}
+use Rattle.share_laws.specs.Places.{channels}
+use Rattle.funding_plans.specs.Gathered.{goal_in}
+use Rattle.funding_plans.specs.Rows.{wanted_in}
+use Rattle.funding_plans.specs.Seats.{Seat, repeats, toward, up_in, down_in, is_down}
+use Rattle.support_rules.specs.Real.{real}
 use Rattle.virtual_channel.specs.Middles as middles
 use Rattle.virtual_channel.specs.Middles.{Middle, middle_rows, back_to}
-use Rattle.wish_laws.specs.Carried.{OpensWith}
+use Rattle.fairness_laws.specs.Carried.{OpensWith}
 
 module _ (s : Signing) (h : List Entry) (journal : List Told) (fair : IsFair s h journal) (past : List Entry) (front : List Told) (at : At s h journal past front)
     (f : FixedParts) (own : In f (channels (lines_of s.key front))) (k : Kept) (kept : kept_of (real.named f) (mind_at real s.key past front).kept ≡ Some k) (state : StateParts)

@@ -1,20 +1,20 @@
 -- A channel in which a part wants something is open, while every live channel is: so is a ledger that a part moves.
 use Rattle.std.proofs.Common.{◌≡◌, ℕ, Bool, true, false, not, List, inr, refl, ◌∙◌, ap}
 use Rattle.std.specs.Prelude.{Some, None}
-use Rattle.nitro_bytes.specs.Parts.{StateParts}
-use Rattle.channel_calls.specs.Flows.{is_among}
-use Rattle.channel_calls.specs.declared.entry.Entry.{Entry}
-use Rattle.funding_value.specs.Known.{FactsOf}
-use Rattle.funding_value.specs.Parts.{ledgers_of}
-use Rattle.funding_value.specs.declared.plan.Goal.{Goal}
-use Rattle.funding_value.specs.declared.plan.Part.{Part}
-use Rattle.net_model.specs.Journals.{In}
-use Rattle.node_model.specs.Minds.{Mind, facts_of}
-use Rattle.node_model.specs.Places.{Told, lines_of, mind_at}
-use Rattle.node_model.specs.Playing.{Signing}
-use Rattle.node_model.specs.Refusing.{not_open}
-use Rattle.node_tables.specs.Stages.{stages}
-use Rattle.outcome_targets.specs.Outcomes.{names}
+use Rattle.channel_values.specs.Parts.{StateParts}
+use Rattle.call_history.specs.Flows.{is_among}
+use Rattle.call_history.specs.declared.entry.Entry.{Entry}
+use Rattle.funding_plans.specs.Known.{FactsOf}
+use Rattle.funding_plans.specs.Parts.{ledgers_of}
+use Rattle.funding_plans.specs.declared.plan.Goal.{Goal}
+use Rattle.funding_plans.specs.declared.plan.Part.{Part}
+use Rattle.channel_safety.specs.Journals.{In}
+use Rattle.channel_node.specs.Minds.{Mind, facts_of}
+use Rattle.channel_node.specs.Places.{Told, lines_of, mind_at}
+use Rattle.channel_node.specs.Playing.{Signing}
+use Rattle.channel_node.specs.Refusing.{not_open}
+use Rattle.stage_tables.specs.Stages.{stages}
+use Rattle.funding_plans.specs.Outcomes.{names}
 use Rattle.fairness_laws.proofs.Guard.Seats.{Stands}
 use Rattle.fairness_laws.proofs.Joint.EndsKeep.{ends_keep}
 use Rattle.fairness_laws.proofs.Joint.MiddlesKeep.{middles_keep}
@@ -31,9 +31,9 @@ use Rattle.fairness_laws.specs.LedgerPlaces.{own_at}
 use Rattle.fairness_laws.specs.PaymentLaws.{At}
 use Rattle.fairness_laws.specs.PlanParts.{LedgerIs}
 use Rattle.fairness_laws.specs.PlanSettings.{IsFair}
-use Rattle.stage_rules.specs.Gathered.{goal_in}
-use Rattle.stage_rules.specs.Seats.{state_is, is_down}
-use Rattle.support_chain.specs.Real.{real}
+use Rattle.funding_plans.specs.Gathered.{goal_in}
+use Rattle.funding_plans.specs.Seats.{state_is, is_down}
+use Rattle.support_rules.specs.Real.{real}
 
 module _ (s : Signing) (h : List Entry) (journal : List Told) (fair : IsFair s h journal) (past : List Entry) (front : List Told) (at : At s h journal past front)
     (p : Part) (there : In p (mind_at real s.key past front).parts) where

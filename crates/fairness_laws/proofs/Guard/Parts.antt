@@ -2,25 +2,25 @@
 use Rattle.std.proofs.Common.{◌≡◌, ℕ, Bool, true, false, cond, ◌&&◌, List, ◌==◌, refl, sym, ◌∙◌, ap, subst, arith}
 use Rattle.std.proofs.lemmas.Bool.Decides.{nat_tests}
 use Rattle.std.specs.Prelude.{is_none, Option, Some, None}
-use Rattle.nitro_bytes.specs.Parts.{FixedParts, StateParts}
-use Rattle.chain_laws.proofs.Tests.{none-eq, and-both, cond-true}
-use Rattle.channel_calls.specs.declared.entry.Entry.{Entry}
-use Rattle.channel_calls.specs.declared.event.NodeRefusal.{NodeRefusal}
-use Rattle.channel_model.specs.Chains.{mover}
-use Rattle.channel_model.specs.Rules.{people}
+use Rattle.channel_values.specs.Parts.{FixedParts, StateParts}
+use Rattle.channel_safety.proofs.Tests.{none-eq, and-both, cond-true}
+use Rattle.call_history.specs.declared.entry.Entry.{Entry}
+use Rattle.call_history.specs.declared.event.NodeRefusal.{NodeRefusal}
+use Rattle.channel_values.specs.Rows.{mover}
+use Rattle.channel_values.specs.Rules.{people}
 use Rattle.channel_store.specs.Keeping.{next_of}
 use Rattle.channel_store.specs.Storing.{kept_of}
 use Rattle.channel_store.specs.declared.kept.Kept.{Kept}
-use Rattle.funding_value.specs.Known.{FactsOf}
-use Rattle.funding_value.specs.declared.plan.Part.{Part}
-use Rattle.funding_value.specs.declared.plan.Part.TheVariants.{Root, OnLedger, End, Middle}
+use Rattle.funding_plans.specs.Known.{FactsOf}
+use Rattle.funding_plans.specs.declared.plan.Part.{Part}
+use Rattle.funding_plans.specs.declared.plan.Part.TheVariants.{Root, OnLedger, End, Middle}
 use Rattle.ledger_channel.specs.Stages.{wanted_on_ledger}
-use Rattle.net_model.specs.Journals.{In}
-use Rattle.node_model.specs.Minds.{Mind, facts_of}
-use Rattle.node_model.specs.Places.{Told, lines_of, mind_at}
-use Rattle.node_model.specs.Playing.{Signing}
-use Rattle.node_model.specs.Refusing.{is_open, stands_in, not_open, wish_staying, wish, follows, can_sign, if_signable, signs_of, signs_in}
-use Rattle.node_tables.specs.Stages.{stages}
+use Rattle.channel_safety.specs.Journals.{In}
+use Rattle.channel_node.specs.Minds.{Mind, facts_of}
+use Rattle.channel_node.specs.Places.{Told, lines_of, mind_at}
+use Rattle.channel_node.specs.Playing.{Signing}
+use Rattle.channel_node.specs.Refusing.{is_open, stands_in, not_open, wish_staying, wish, follows, can_sign, if_signable, signs_of, signs_in}
+use Rattle.stage_tables.specs.Stages.{stages}
 use Rattle.fairness_laws.proofs.Channels.{channel-of}
 use Rattle.fairness_laws.proofs.Guard.Children.{child-open, child-comes}
 use Rattle.fairness_laws.proofs.Guard.Ends.{end-open, end-comes}
@@ -40,13 +40,13 @@ use Rattle.fairness_laws.specs.LedgerLaws.{LedgersKeep, LedgersStand}
 use Rattle.fairness_laws.specs.PaymentLaws.{At}
 use Rattle.fairness_laws.specs.PlanLaws.{PartAt}
 use Rattle.fairness_laws.specs.PlanSettings.{IsFair}
-use Rattle.plan_stages.specs.Asked.{wanted_of, asked_in, wanted_in}
-use Rattle.share_model.specs.Places.{channels}
-use Rattle.stage_rules.specs.Gathered.{goal_in}
-use Rattle.support_chain.specs.Real.{real}
+use Rattle.stage_tables.specs.Asked.{wanted_of, asked_in, wanted_in}
+use Rattle.share_laws.specs.Places.{channels}
+use Rattle.funding_plans.specs.Gathered.{goal_in}
+use Rattle.support_rules.specs.Real.{real}
 use Rattle.virtual_channel.specs.Stages.{wanted_of_end, wanted_of_middle}
-use Rattle.wish_laws.proofs.Finding.{asked-there}
-use Rattle.wish_laws.proofs.Places.{at_places}
+use Rattle.fairness_laws.proofs.Finding.{asked-there}
+use Rattle.fairness_laws.proofs.Places.{at_places}
 
 -- what is wished while no payment waits is wanted, and every live channel is open
 record Wishes (m : Mind) (channel : List ℕ) (state : StateParts) : Type 0 where

@@ -3,26 +3,26 @@ use Rattle.std.proofs.Common.{◌≡◌, ℕ, ◌*◌, ◌≤◌, true, false, L
 use Rattle.std.specs.Prelude.{Option, Some}
 use Rattle.std.specs.List.{slice_get}
 use Rattle.std.specs.Str.{bytes_eq}
-use Rattle.nitro_bytes.specs.Outcomes.{IsOutcome}
-use Rattle.nitro_bytes.specs.Parts.{FixedParts, StateParts, IsFixed}
-use Rattle.nitro_bytes.specs.declared.value.AssetOutcome.{AssetOutcome}
-use Rattle.chain_laws.proofs.Lists.{one-place}
-use Rattle.chain_laws.proofs.Tests.{some-eq}
-use Rattle.channel_calls.proofs.Names.{same_bytes}
-use Rattle.channel_calls.specs.History.{mode}
-use Rattle.channel_calls.specs.Marked.{Marked, marked_of, chain_of}
-use Rattle.channel_calls.specs.declared.entry.Entry.{Entry}
-use Rattle.channel_model.specs.Rules.{people}
+use Rattle.channel_values.specs.Outcomes.{IsOutcome}
+use Rattle.channel_values.specs.Parts.{FixedParts, StateParts, IsFixed}
+use Rattle.channel_values.specs.declared.value.AssetOutcome.{AssetOutcome}
+use Rattle.channel_safety.proofs.Lists.{one-place}
+use Rattle.channel_safety.proofs.Tests.{some-eq}
+use Rattle.call_history.proofs.Names.{same_bytes}
+use Rattle.call_history.specs.History.{mode}
+use Rattle.call_history.specs.Marked.{Marked, marked_of, chain_of}
+use Rattle.call_history.specs.declared.entry.Entry.{Entry}
+use Rattle.channel_values.specs.Rules.{people}
 use Rattle.channel_store.specs.Keeping.{next_of}
 use Rattle.channel_store.specs.Storing.{kept_of}
 use Rattle.channel_store.specs.declared.kept.Kept.{Kept}
-use Rattle.deadline_clock.specs.Mode.{is_final}
-use Rattle.funding_value.specs.Known.{FactsOf}
-use Rattle.net_model.specs.Journals.{In, Line}
-use Rattle.node_model.specs.Minds.{Mind, facts_of}
-use Rattle.node_model.specs.Places.{Told, lines_of, mind_at}
-use Rattle.node_model.specs.Playing.{Signing}
-use Rattle.node_model.specs.Refusing.{is_open, stands_in}
+use Rattle.call_history.specs.Mode.{is_final}
+use Rattle.funding_plans.specs.Known.{FactsOf}
+use Rattle.channel_safety.specs.Journals.{In, Line}
+use Rattle.channel_node.specs.Minds.{Mind, facts_of}
+use Rattle.channel_node.specs.Places.{Told, lines_of, mind_at}
+use Rattle.channel_node.specs.Playing.{Signing}
+use Rattle.channel_node.specs.Refusing.{is_open, stands_in}
 use Rattle.fairness_laws.proofs.Channels.{one-named, channel-of, carried}
 use Rattle.fairness_laws.proofs.Guard.Steps.{Comes, repeat-comes, final-comes, pass-comes, move-comes}
 use Rattle.fairness_laws.proofs.Seat.Past.{occurs}
@@ -31,13 +31,13 @@ use Rattle.fairness_laws.proofs.Signing.{kept-of, owns}
 use Rattle.fairness_laws.specs.PaymentLaws.{At}
 use Rattle.fairness_laws.specs.PlanSeats.{seat_of, SeatIs}
 use Rattle.fairness_laws.specs.PlanSettings.{IsFair}
-use Rattle.outcome_targets.specs.Limits.{is_valid}
-use Rattle.share_model.specs.Places.{channels}
-use Rattle.signing_laws.specs.Signatures.{IsOwn}
-use Rattle.stage_rules.specs.Seats.{Seat, repeats, final_state, pass_on, toward}
-use Rattle.support_chain.specs.Real.{real}
-use Rattle.view_laws.specs.Laws.{IsKeptAt}
-use Rattle.wish_laws.specs.Carried.{OpensWith, IsRepeatedIfAny}
+use Rattle.funding_plans.specs.Limits.{is_valid}
+use Rattle.share_laws.specs.Places.{channels}
+use Rattle.share_laws.specs.Signatures.{IsOwn}
+use Rattle.funding_plans.specs.Seats.{Seat, repeats, final_state, pass_on, toward}
+use Rattle.support_rules.specs.Real.{real}
+use Rattle.node_guarantees.specs.ViewLaws.{IsKeptAt}
+use Rattle.fairness_laws.specs.Carried.{OpensWith, IsRepeatedIfAny}
 
 -- the channel is open
 abbrev pub Stands : FactsOf → List ℕ → Type 0

@@ -6,42 +6,42 @@ use Rattle.std.specs.Prelude.{nat_le, nat_lt, Option, Some, None, is_none}
 use Rattle.std.specs.List.{list_all}
 use Rattle.std.specs.Option.{option_map}
 use Rattle.std.specs.Str.{bytes_eq}
-use Rattle.nitro_bytes.specs.Outcomes.{IsOutcome}
-use Rattle.nitro_bytes.specs.Parts.{FixedParts, StateParts, state_with}
-use Rattle.nitro_bytes.specs.Spelling.{outcome}
-use Rattle.nitro_bytes.specs.declared.fault.StepFault.{StepFault}
-use Rattle.nitro_bytes.specs.declared.fault.StepFault.TheVariants as faults
-use Rattle.nitro_bytes.specs.declared.value.AssetOutcome.{AssetOutcome}
-use Rattle.channel_name.specs.Digests.{name_of_person}
-use Rattle.app_rules.specs.Ballots.{ballot_of}
-use Rattle.app_rules.specs.Rules.{is_same_outcome, is_final_vote, consensus_fault, app_fault}
-use Rattle.app_rules.specs.Toward.{Move, no_votes, moved, wanted_on, is_settled, wanted_toward}
-use Rattle.app_rules.proofs.TowardSteps.{wanted_is_step}
-use Rattle.chain_laws.proofs.Chains.{newest-in}
-use Rattle.chain_laws.proofs.Tests.{some-eq, none-eq, and-left, and-right, and-both, cond-true, lt-true}
-use Rattle.channel_calls.proofs.Names.{bytes_eq_self}
-use Rattle.channel_calls.specs.Marked.{marked_of, next_after}
-use Rattle.channel_model.specs.Chains.{mover, last_of}
-use Rattle.channel_model.specs.Rules.{people, newest}
-use Rattle.channel_model.specs.Words.{fault_if, ◌⊳◌}
+use Rattle.channel_values.specs.Outcomes.{IsOutcome}
+use Rattle.channel_values.specs.Parts.{FixedParts, StateParts, state_with}
+use Rattle.channel_values.specs.Spelling.{outcome}
+use Rattle.channel_values.specs.declared.fault.StepFault.{StepFault}
+use Rattle.channel_values.specs.declared.fault.StepFault.TheVariants as faults
+use Rattle.channel_values.specs.declared.value.AssetOutcome.{AssetOutcome}
+use Rattle.channel_values.specs.Digests.{name_of_person}
+use Rattle.support_rules.specs.Ballots.{ballot_of}
+use Rattle.support_rules.specs.Rules.{is_same_outcome, is_final_vote, consensus_fault, app_fault}
+use Rattle.support_rules.specs.Toward.{Move, no_votes, moved, wanted_on, is_settled, wanted_toward}
+use Rattle.support_rules.proofs.TowardSteps.{wanted_is_step}
+use Rattle.channel_safety.proofs.Chains.{newest-in}
+use Rattle.channel_safety.proofs.Tests.{some-eq, none-eq, and-left, and-right, and-both, cond-true, lt-true}
+use Rattle.call_history.proofs.Names.{bytes_eq_self}
+use Rattle.call_history.specs.Marked.{marked_of, next_after}
+use Rattle.channel_values.specs.Rows.{mover, last_of}
+use Rattle.channel_values.specs.Rules.{people, newest}
+use Rattle.channel_values.specs.Words.{fault_if, ◌⊳◌}
 use Rattle.channel_store.specs.Keeping.{is_held, is_ended, next_of, step_after, step_of}
 use Rattle.channel_store.specs.Good.{IsGoodKept}
 use Rattle.channel_store.specs.declared.kept.Kept.{Kept}
-use Rattle.funding_value.specs.declared.plan.Goal.{Goal}
-use Rattle.net_model.specs.Journals.{In}
+use Rattle.funding_plans.specs.declared.plan.Goal.{Goal}
+use Rattle.channel_safety.specs.Journals.{In}
 use Rattle.fairness_laws.proofs.Joint.Moves.{toward-is, next-turn}
 use Rattle.fairness_laws.proofs.Payment.Sharing.{no-bytes}
 use Rattle.fairness_laws.specs.PlanSeats.{seat_of}
-use Rattle.node_model.specs.Refusing.{follows}
-use Rattle.outcome_targets.specs.Limits.{is_valid}
-use Rattle.stage_rules.specs.Seats.{Seat, has_no_data, is_turn, repeats, final_after, final_state, pass_after, pass_on, toward}
-use Rattle.support_chain.specs.Real.{real}
-use Rattle.support_chain.specs.Steps.{persons, step_fault}
-use Rattle.wish_laws.proofs.Finding.{not-true}
-use Rattle.wish_laws.proofs.Guarding.{opening-follows, final-follows}
-use Rattle.wish_laws.proofs.Roots.{Whens, when-some}
-use Rattle.wish_laws.specs.Carried.{IsRepeatedIfAny}
-use Rattle.wish_laws.specs.Roots.{SetsUp}
+use Rattle.channel_node.specs.Refusing.{follows}
+use Rattle.funding_plans.specs.Limits.{is_valid}
+use Rattle.funding_plans.specs.Seats.{Seat, has_no_data, is_turn, repeats, final_after, final_state, pass_after, pass_on, toward}
+use Rattle.support_rules.specs.Real.{real}
+use Rattle.support_rules.specs.Steps.{persons, step_fault}
+use Rattle.fairness_laws.proofs.Finding.{not-true}
+use Rattle.fairness_laws.proofs.Guarding.{opening-follows, final-follows}
+use Rattle.fairness_laws.proofs.RootWishes.{Whens, when-some}
+use Rattle.fairness_laws.specs.Carried.{IsRepeatedIfAny}
+use Rattle.fairness_laws.specs.Roots.{SetsUp}
 
 -- the state comes next, at the participant's own turn, and follows
 pub record Comes (k : Kept) (s : StateParts) : Type 0 where

@@ -1,16 +1,16 @@
 -- What a joint channel can end with until Close, and from then on, by the state that was signed last there; and what keeps it so.
 use Rattle.std.proofs.Common.{◌≡◌, ℕ, ◌<◌, ◌≤◌, Bool, true, false, List, [], ◌∷◌, ◌⊎◌, inl, inr, refl, sym, ◌∙◌, subst}
 use Rattle.std.specs.Prelude.{Option, Some, None}
-use Rattle.nitro_bytes.specs.Parts.{StateParts}
-use Rattle.nitro_bytes.specs.declared.value.AssetOutcome.{AssetOutcome}
-use Rattle.app_rules.specs.Ballots.{ballot_of}
-use Rattle.app_rules.specs.Rules.{is_same_outcome}
-use Rattle.app_rules.specs.Toward.{is_settled, has_no_votes}
-use Rattle.chain_laws.proofs.Tests.{some-eq, none-eq, clash, and-left, and-right, le_or_lt}
-use Rattle.net_model.specs.Journals.{In}
-use Rattle.outcome_targets.specs.Targets.{apart, together}
-use Rattle.outcome_targets.specs.declared.terms.Terms.{Terms}
-use Rattle.share_model.specs.Places.{outcomes_of}
+use Rattle.channel_values.specs.Parts.{StateParts}
+use Rattle.channel_values.specs.declared.value.AssetOutcome.{AssetOutcome}
+use Rattle.support_rules.specs.Ballots.{ballot_of}
+use Rattle.support_rules.specs.Rules.{is_same_outcome}
+use Rattle.support_rules.specs.Toward.{is_settled, has_no_votes}
+use Rattle.channel_safety.proofs.Tests.{some-eq, none-eq, clash, and-left, and-right, le_or_lt}
+use Rattle.channel_safety.specs.Journals.{In}
+use Rattle.funding_plans.specs.Targets.{apart, together}
+use Rattle.funding_plans.specs.declared.terms.Terms.{Terms}
+use Rattle.share_laws.specs.Places.{outcomes_of}
 use Rattle.fairness_laws.proofs.Joint.Outcomes.{spelled-together, together-not-apart}
 use Rattle.fairness_laws.proofs.Outcomes.{alone, bare-data}
 

@@ -2,25 +2,25 @@
 use Rattle.std.proofs.Common.{◌≡◌, ℕ, ◌≤◌, true, false, ◌⊎◌, inl, inr, List, [], ◌∷◌, ◌++◌, length, refl, sym, ◌∙◌, ap, subst}
 use Rattle.std.specs.Prelude.{◌==◌, Option, Some, None}
 use Rattle.std.specs.Option.{option_map}
-use Rattle.nitro_bytes.specs.Parts.{FixedParts, StateParts}
-use Rattle.nitro_bytes.specs.declared.chain.Signed.{Signed}
-use Rattle.chain_laws.proofs.Tests.{some-eq, none-eq, clash}
-use Rattle.channel_calls.specs.Flows.{is_among}
-use Rattle.channel_calls.specs.declared.entry.Entry.{Entry}
-use Rattle.funding_value.specs.Parts.{channels_of_virtual, ledgers_of, running}
-use Rattle.funding_value.specs.declared.plan.Goal.{Goal}
-use Rattle.funding_value.specs.declared.plan.Part.{Part}
-use Rattle.funding_value.specs.declared.plan.Part.TheVariants as kinds
-use Rattle.funding_value.specs.declared.plan.Virtual.{Virtual}
-use Rattle.net_model.specs.Journals.{In, Line, made_in}
-use Rattle.net_party.specs.declared.command.Command.{Command}
-use Rattle.net_party.specs.declared.command.Command.TheVariants as commands
-use Rattle.node_laws.proofs.Places.{mind-watched, mind-entry}
-use Rattle.node_model.specs.Minds.{Mind, facts_of}
-use Rattle.node_model.specs.Places.{Told, lines_of, mind_at}
-use Rattle.node_model.specs.Playing.{Signing, pending}
-use Rattle.node_share_laws.proofs.Telling.{places_tell_shares}
-use Rattle.node_tables.specs.Stages.{stages}
+use Rattle.channel_values.specs.Parts.{FixedParts, StateParts}
+use Rattle.channel_values.specs.declared.chain.Signed.{Signed}
+use Rattle.channel_safety.proofs.Tests.{some-eq, none-eq, clash}
+use Rattle.call_history.specs.Flows.{is_among}
+use Rattle.call_history.specs.declared.entry.Entry.{Entry}
+use Rattle.funding_plans.specs.Parts.{channels_of_virtual, ledgers_of, running}
+use Rattle.funding_plans.specs.declared.plan.Goal.{Goal}
+use Rattle.funding_plans.specs.declared.plan.Part.{Part}
+use Rattle.funding_plans.specs.declared.plan.Part.TheVariants as kinds
+use Rattle.funding_plans.specs.declared.plan.Virtual.{Virtual}
+use Rattle.channel_safety.specs.Journals.{In, Line, made_in}
+use Rattle.network.specs.declared.command.Command.{Command}
+use Rattle.network.specs.declared.command.Command.TheVariants as commands
+use Rattle.channel_node.proofs.Places.{mind-watched, mind-entry}
+use Rattle.channel_node.specs.Minds.{Mind, facts_of}
+use Rattle.channel_node.specs.Places.{Told, lines_of, mind_at}
+use Rattle.channel_node.specs.Playing.{Signing, pending}
+use Rattle.node_guarantees.proofs.Telling.{places_tell_shares}
+use Rattle.stage_tables.specs.Stages.{stages}
 use Rattle.fairness_laws.proofs.Plan.Places.{kept-there}
 use Rattle.fairness_laws.specs.JointKeeping.{IsOver}
 use Rattle.fairness_laws.specs.PaymentLaws.{At}
@@ -39,13 +39,13 @@ use Rattle.fairness_laws.proofs.Joint.Seats.{opens}
 use Rattle.fairness_laws.proofs.Joint.Terms.{joint-among, channel-among}
 use Rattle.fairness_laws.proofs.Plan.Goals.{goal-stays}
 use Rattle.fairness_laws.proofs.Opening.Ends.{EndAt, end-at}
-use Rattle.share_model.specs.Places.{channels, last_made}
-use Rattle.stage_rules.specs.Seats.{holds}
-use Rattle.support_chain.specs.Real.{real}
+use Rattle.share_laws.specs.Places.{channels, last_made}
+use Rattle.funding_plans.specs.Seats.{holds}
+use Rattle.support_rules.specs.Real.{real}
 use Rattle.virtual_channel.specs.Ends as ends
-use Rattle.wish_laws.proofs.Firsts.{joined-among}
-use Rattle.wish_laws.proofs.Noting.{IsWished}
-use Rattle.wish_laws.proofs.Over.{AtEvent, IsKept, looked}
+use Rattle.fairness_laws.proofs.FirstRounds.{joined-among}
+use Rattle.fairness_laws.proofs.Noting.{IsWished}
+use Rattle.fairness_laws.proofs.Over.{AtEvent, IsKept, looked}
 
 module _ (s : Signing) (h : List Entry) (journal : List Told) (fair : IsFair s h journal) where
   abbrev EndsAt : List Entry → List Told → Type 0

@@ -3,26 +3,26 @@ use Rattle.std.proofs.Common.{◌≡◌, ℕ, ◌+◌, ◌*◌, ◌^◌, ◌<◌
 use Rattle.std.specs.Prelude.{◌==◌, nat_le, nat_lt, Option, Some, None}
 use Rattle.std.specs.Option.{option_map}
 use Rattle.std.specs.Str.{bytes_eq}
-use Rattle.nitro_bytes.specs.Outcomes.{IsName}
-use Rattle.nitro_bytes.specs.Parts.{StateParts, state_with}
-use Rattle.nitro_bytes.specs.declared.value.AssetOutcome.{AssetOutcome}
-use Rattle.nitro_bytes.specs.declared.value.Dest.TheVariants.{Person}
-use Rattle.chain_laws.proofs.Tests.{some-eq, none-eq, clash, and-left, and-right, eqb-true, lt-true}
-use Rattle.channel_calls.proofs.Names.{same_bytes, bytes_eq_self}
-use Rattle.channel_calls.specs.Flows.{is_among}
-use Rattle.channel_calls.specs.declared.entry.Entry.{Entry}
-use Rattle.channel_model.specs.Rules.{people}
-use Rattle.funding_value.specs.Parts.{own_ledger, own_guarantor, channels_of_virtual, ledgers_of, running}
-use Rattle.funding_value.specs.declared.plan.Goal.{Goal}
-use Rattle.funding_value.specs.declared.plan.Part.{Part}
-use Rattle.funding_value.specs.declared.plan.Part.TheVariants as kinds
-use Rattle.funding_value.specs.declared.plan.Virtual.{Virtual}
-use Rattle.net_model.specs.Journals.{In, Line}
-use Rattle.net_party.specs.declared.command.Command.{Command}
-use Rattle.node_model.specs.Minds.{Mind, facts_of}
-use Rattle.node_model.specs.Places.{Told, lines_of, mind_at}
-use Rattle.node_model.specs.Playing.{Signing}
-use Rattle.node_tables.specs.Stages.{stages}
+use Rattle.channel_values.specs.Outcomes.{IsName}
+use Rattle.channel_values.specs.Parts.{StateParts, state_with}
+use Rattle.channel_values.specs.declared.value.AssetOutcome.{AssetOutcome}
+use Rattle.channel_values.specs.declared.value.Dest.TheVariants.{Person}
+use Rattle.channel_safety.proofs.Tests.{some-eq, none-eq, clash, and-left, and-right, eqb-true, lt-true}
+use Rattle.call_history.proofs.Names.{same_bytes, bytes_eq_self}
+use Rattle.call_history.specs.Flows.{is_among}
+use Rattle.call_history.specs.declared.entry.Entry.{Entry}
+use Rattle.channel_values.specs.Rules.{people}
+use Rattle.funding_plans.specs.Parts.{own_ledger, own_guarantor, channels_of_virtual, ledgers_of, running}
+use Rattle.funding_plans.specs.declared.plan.Goal.{Goal}
+use Rattle.funding_plans.specs.declared.plan.Part.{Part}
+use Rattle.funding_plans.specs.declared.plan.Part.TheVariants as kinds
+use Rattle.funding_plans.specs.declared.plan.Virtual.{Virtual}
+use Rattle.channel_safety.specs.Journals.{In, Line}
+use Rattle.network.specs.declared.command.Command.{Command}
+use Rattle.channel_node.specs.Minds.{Mind, facts_of}
+use Rattle.channel_node.specs.Places.{Told, lines_of, mind_at}
+use Rattle.channel_node.specs.Playing.{Signing}
+use Rattle.stage_tables.specs.Stages.{stages}
 use Rattle.fairness_laws.specs.JointKeeping.{IsOver}
 use Rattle.fairness_laws.specs.PaymentLaws.{At}
 use Rattle.fairness_laws.specs.PlanParts.{EndIs}
@@ -46,18 +46,18 @@ use Rattle.fairness_laws.proofs.Joint.Rows.{EndWants, end-wants}
 use Rattle.fairness_laws.proofs.Joint.Seats.{other-apps as apps, opens, three, consensus, no-ledger, has-name, terms-are, core-named, settled-here, settled-there, late-settled}
 use Rattle.fairness_laws.proofs.NamesAreNames.{names_are_names}
 use Rattle.fairness_laws.proofs.Stages.{EndRuns, end-runs}
-use Rattle.outcome_targets.specs.Limits.{is_valid}
-use Rattle.outcome_targets.specs.Outcomes.{amounts_in}
-use Rattle.outcome_targets.specs.Targets.{apart}
-use Rattle.plan_stages.specs.Asked as asked
-use Rattle.stage_rules.specs.Rows.{stage_in}
-use Rattle.stage_rules.specs.Seats.{Seat, holds, repeats, toward, is_turn, settled_on, amounts_after}
-use Rattle.support_chain.specs.Real.{real}
+use Rattle.funding_plans.specs.Limits.{is_valid}
+use Rattle.funding_plans.specs.Outcomes.{amounts_in}
+use Rattle.funding_plans.specs.Targets.{apart}
+use Rattle.stage_tables.specs.Asked as asked
+use Rattle.funding_plans.specs.Rows.{stage_in}
+use Rattle.funding_plans.specs.Seats.{Seat, holds, repeats, toward, is_turn, settled_on, amounts_after}
+use Rattle.support_rules.specs.Real.{real}
 use Rattle.virtual_channel.specs.Ends as ends
 use Rattle.virtual_channel.specs.Ends.{End, end_rows}
 use Rattle.virtual_channel.specs.Stages.{stage_of_end, wanted_of_end}
-use Rattle.wish_laws.proofs.Finding.{flips}
-use Rattle.wish_laws.proofs.Roots.{when-some}
+use Rattle.fairness_laws.proofs.Finding.{flips}
+use Rattle.fairness_laws.proofs.RootWishes.{when-some}
 
 -- ---- at a place
 

@@ -1,18 +1,18 @@
 -- The joint channel at an end, from one place to the next.
 use Rattle.std.proofs.Common.{◌≡◌, ℕ, Bool, true, false, ◌&&◌, List, ◌++◌, length, refl, sym, ◌∙◌, ap, subst}
 use Rattle.std.specs.Prelude.{Option, Some, None}
-use Rattle.nitro_bytes.specs.Parts.{StateParts}
-use Rattle.nitro_bytes.specs.declared.value.AssetOutcome.{AssetOutcome}
-use Rattle.chain_laws.proofs.Tests.{none-eq, and-left, and-right, and-both}
-use Rattle.channel_calls.specs.declared.entry.Entry.{Entry}
-use Rattle.funding_value.specs.declared.plan.Goal.{Goal}
-use Rattle.funding_value.specs.declared.plan.Virtual.{Virtual}
-use Rattle.net_model.specs.Journals.{Line}
-use Rattle.net_party.specs.declared.command.Command.{Command}
-use Rattle.net_party.specs.declared.command.Command.TheVariants as commands
-use Rattle.node_model.specs.Minds.{Mind, facts_of}
-use Rattle.node_model.specs.Places.{Told, lines_of, mind_at}
-use Rattle.node_model.specs.Playing.{Signing}
+use Rattle.channel_values.specs.Parts.{StateParts}
+use Rattle.channel_values.specs.declared.value.AssetOutcome.{AssetOutcome}
+use Rattle.channel_safety.proofs.Tests.{none-eq, and-left, and-right, and-both}
+use Rattle.call_history.specs.declared.entry.Entry.{Entry}
+use Rattle.funding_plans.specs.declared.plan.Goal.{Goal}
+use Rattle.funding_plans.specs.declared.plan.Virtual.{Virtual}
+use Rattle.channel_safety.specs.Journals.{Line}
+use Rattle.network.specs.declared.command.Command.{Command}
+use Rattle.network.specs.declared.command.Command.TheVariants as commands
+use Rattle.channel_node.specs.Minds.{Mind, facts_of}
+use Rattle.channel_node.specs.Places.{Told, lines_of, mind_at}
+use Rattle.channel_node.specs.Playing.{Signing}
 use Rattle.fairness_laws.specs.JointKeeping.{IsOver}
 use Rattle.fairness_laws.specs.PaymentLaws.{At}
 use Rattle.fairness_laws.specs.PlanParts.{EndIs}
@@ -23,11 +23,11 @@ use Rattle.fairness_laws.proofs.Joint.Places.{set-up-grows, ended-stays}
 use Rattle.fairness_laws.proofs.Joint.Stays.{terms-same, joint-set, core-stays}
 use Rattle.fairness_laws.proofs.Opening.Ends.{end-at}
 use Rattle.fairness_laws.proofs.Opening.Seated.{seated}
-use Rattle.outcome_targets.specs.Outcomes.{amounts_in}
-use Rattle.outcome_targets.specs.Targets.{apart}
-use Rattle.outcome_targets.specs.declared.terms.Terms.{Terms}
-use Rattle.stage_rules.specs.Seats.{Seat, holds, is_set_up, amounts_after}
-use Rattle.support_chain.specs.Real.{real}
+use Rattle.funding_plans.specs.Outcomes.{amounts_in}
+use Rattle.funding_plans.specs.Targets.{apart}
+use Rattle.funding_plans.specs.declared.terms.Terms.{Terms}
+use Rattle.funding_plans.specs.Seats.{Seat, holds, is_set_up, amounts_after}
+use Rattle.support_rules.specs.Real.{real}
 use Rattle.virtual_channel.specs.Ends as ends
 use Rattle.virtual_channel.specs.Ends.{End}
 

@@ -2,26 +2,26 @@
 use Rattle.std.proofs.Common.{◌≡◌, ℕ, Bool, true, false, not, ◌&&◌, ◌⊎◌, inl, inr, List, [], ◌∷◌, length, refl, sym, ◌∙◌, ap, subst}
 use Rattle.std.specs.Prelude.{Option, Some, None}
 use Rattle.std.specs.Option.{option_map}
-use Rattle.nitro_bytes.specs.Parts.{StateParts}
-use Rattle.nitro_bytes.specs.Spelling.{outcome}
-use Rattle.nitro_bytes.specs.declared.value.AssetOutcome.{AssetOutcome}
-use Rattle.nitro_bytes.specs.declared.value.Dest.TheVariants.{Channel}
-use Rattle.app_rules.specs.Ballots.{ballot_of}
-use Rattle.app_rules.specs.Rules.{is_same_outcome}
-use Rattle.app_rules.specs.Toward.{is_settled, has_no_votes}
-use Rattle.chain_laws.proofs.Tests.{clash, and-left, and-right}
-use Rattle.channel_calls.proofs.Names.{bytes_eq_self}
-use Rattle.channel_calls.specs.declared.entry.Entry.{Entry}
-use Rattle.channel_model.specs.Amounts.{has}
-use Rattle.channel_model.specs.Rules.{people}
-use Rattle.funding_value.specs.Shapes.{items_in}
-use Rattle.funding_value.specs.declared.plan.Goal.{Goal}
-use Rattle.funding_value.specs.declared.plan.Part.TheVariants as kinds
-use Rattle.funding_value.specs.declared.plan.Virtual.{Virtual}
-use Rattle.net_model.specs.Journals.{In, Line}
-use Rattle.node_model.specs.Minds.{facts_of}
-use Rattle.node_model.specs.Places.{Told, lines_of, mind_at}
-use Rattle.node_model.specs.Playing.{Signing, pending}
+use Rattle.channel_values.specs.Parts.{StateParts}
+use Rattle.channel_values.specs.Spelling.{outcome}
+use Rattle.channel_values.specs.declared.value.AssetOutcome.{AssetOutcome}
+use Rattle.channel_values.specs.declared.value.Dest.TheVariants.{Channel}
+use Rattle.support_rules.specs.Ballots.{ballot_of}
+use Rattle.support_rules.specs.Rules.{is_same_outcome}
+use Rattle.support_rules.specs.Toward.{is_settled, has_no_votes}
+use Rattle.channel_safety.proofs.Tests.{clash, and-left, and-right}
+use Rattle.call_history.proofs.Names.{bytes_eq_self}
+use Rattle.call_history.specs.declared.entry.Entry.{Entry}
+use Rattle.channel_values.specs.Amounts.{has}
+use Rattle.channel_values.specs.Rules.{people}
+use Rattle.funding_plans.specs.Shapes.{items_in}
+use Rattle.funding_plans.specs.declared.plan.Goal.{Goal}
+use Rattle.funding_plans.specs.declared.plan.Part.TheVariants as kinds
+use Rattle.funding_plans.specs.declared.plan.Virtual.{Virtual}
+use Rattle.channel_safety.specs.Journals.{In, Line}
+use Rattle.channel_node.specs.Minds.{facts_of}
+use Rattle.channel_node.specs.Places.{Told, lines_of, mind_at}
+use Rattle.channel_node.specs.Playing.{Signing, pending}
 use Rattle.fairness_laws.proofs.Seat.Past.{two-people}
 use Rattle.fairness_laws.specs.JointKeeping.{IsOver, EndKeeps, EndsKeep}
 use Rattle.fairness_laws.specs.PaymentLaws.{At}
@@ -35,10 +35,10 @@ use Rattle.fairness_laws.proofs.Joint.Late.{data-votes, late-of}
 use Rattle.fairness_laws.proofs.Joint.Outcomes.{spelled-apart, together-has, apart-has-not}
 use Rattle.fairness_laws.proofs.Outcomes.{alone, bare-data}
 use Rattle.fairness_laws.proofs.Joint.Seats.{seat-late, own-is, late-settled, settled-there, sets, opens-with, joins, joined, parts}
-use Rattle.outcome_targets.specs.Targets.{apart, together}
-use Rattle.share_model.specs.Places.{outcomes_of}
-use Rattle.stage_rules.specs.Seats.{state_is, has_no_data, holds, has_signed_past, settled_on}
-use Rattle.support_chain.specs.Real.{real}
+use Rattle.funding_plans.specs.Targets.{apart, together}
+use Rattle.share_laws.specs.Places.{outcomes_of}
+use Rattle.funding_plans.specs.Seats.{state_is, has_no_data, holds, has_signed_past, settled_on}
+use Rattle.support_rules.specs.Real.{real}
 use Rattle.virtual_channel.specs.Ends as ends
 use Rattle.virtual_channel.specs.Ends.{End}
 use Rattle.virtual_channel.specs.Middles.{is_without}

@@ -4,35 +4,35 @@ use Rattle.std.specs.Prelude.{◌==◌, Option, Some, None, is_some, map}
 use Rattle.std.specs.Str.{bytes_eq}
 use Rattle.std.specs.List.{list_all, slice_get}
 use Rattle.std.specs.Option.{option_map, option_or}
-use Rattle.nitro_bytes.specs.Parts.{FixedParts}
-use Rattle.nitro_bytes.specs.declared.chain.Signed.{Signed}
-use Rattle.chain_laws.proofs.Lists.{In-get, get-some, get-append, In-append_cases}
-use Rattle.chain_laws.proofs.Tests.{some-eq, none-eq, clash, and-right, eqb-true}
-use Rattle.channel_calls.proofs.Names.{same_bytes}
-use Rattle.channel_calls.specs.Flows.{is_among}
-use Rattle.channel_calls.specs.declared.entry.Entry.{Entry}
-use Rattle.channel_calls.specs.declared.event.Deed.{Deed}
-use Rattle.channel_calls.specs.declared.event.Deed.TheVariants as deeds
+use Rattle.channel_values.specs.Parts.{FixedParts}
+use Rattle.channel_values.specs.declared.chain.Signed.{Signed}
+use Rattle.channel_safety.proofs.Lists.{In-get, get-some, get-append, In-append_cases}
+use Rattle.channel_safety.proofs.Tests.{some-eq, none-eq, clash, and-right, eqb-true}
+use Rattle.call_history.proofs.Names.{same_bytes}
+use Rattle.call_history.specs.Flows.{is_among}
+use Rattle.call_history.specs.declared.entry.Entry.{Entry}
+use Rattle.call_history.specs.declared.event.Deed.{Deed}
+use Rattle.call_history.specs.declared.event.Deed.TheVariants as deeds
 use Rattle.channel_store.specs.Storing.{kept_of}
 use Rattle.channel_store.specs.declared.kept.Kept.{Kept}
-use Rattle.funding_value.specs.Parts.{own_channel, channels_of, joined_of, running}
-use Rattle.funding_value.specs.Parts as parts-of
-use Rattle.funding_value.specs.declared.plan.Goal.{Goal}
-use Rattle.funding_value.specs.declared.plan.Part.{Part}
-use Rattle.net_model.specs.Journals.{In, some_if, is_watched, is_followed, made_in}
-use Rattle.net_party.specs.declared.command.Command.{Command}
-use Rattle.net_party.specs.declared.command.Command.TheVariants as commands
-use Rattle.node_laws.proofs.Bridging.{plays-at}
-use Rattle.node_laws.proofs.Places.{mind-event}
-use Rattle.node_model.specs.Minds.{Mind, facts_of, did, place_with, close_if}
-use Rattle.node_model.specs.Openings.{opened_by, parts_of, goals_of, are_apart}
-use Rattle.node_model.specs.Places.{Told, lines_of, mind_at}
-use Rattle.node_model.specs.Playing.{Signing, Plays, pending, payment_in, signings, Allowed}
-use Rattle.node_model.specs.Refusing.{open_refusal, is_planned}
-use Rattle.node_tables.specs.Stages.{stages}
-use Rattle.funding_value.specs.declared.plan.Virtual.{Virtual}
-use Rattle.outcome_targets.specs.declared.terms.Terms.{Terms}
-use Rattle.stage_rules.specs.Seats.{Seat}
+use Rattle.funding_plans.specs.Parts.{own_channel, channels_of, joined_of, running}
+use Rattle.funding_plans.specs.Parts as parts-of
+use Rattle.funding_plans.specs.declared.plan.Goal.{Goal}
+use Rattle.funding_plans.specs.declared.plan.Part.{Part}
+use Rattle.channel_safety.specs.Journals.{In, some_if, is_watched, is_followed, made_in}
+use Rattle.network.specs.declared.command.Command.{Command}
+use Rattle.network.specs.declared.command.Command.TheVariants as commands
+use Rattle.channel_node.proofs.Bridging.{plays-at}
+use Rattle.channel_node.proofs.Places.{mind-event}
+use Rattle.channel_node.specs.Minds.{Mind, facts_of, did, place_with, close_if}
+use Rattle.channel_node.specs.Openings.{opened_by, parts_of, goals_of, are_apart}
+use Rattle.channel_node.specs.Places.{Told, lines_of, mind_at}
+use Rattle.channel_node.specs.Playing.{Signing, Plays, pending, payment_in, signings, Allowed}
+use Rattle.channel_node.specs.Refusing.{open_refusal, is_planned}
+use Rattle.stage_tables.specs.Stages.{stages}
+use Rattle.funding_plans.specs.declared.plan.Virtual.{Virtual}
+use Rattle.funding_plans.specs.declared.terms.Terms.{Terms}
+use Rattle.funding_plans.specs.Seats.{Seat}
 use Rattle.fairness_laws.specs.PlanParts.{JointIs}
 use Rattle.fairness_laws.proofs.Apps.{no-payments}
 use Rattle.fairness_laws.specs.PaymentLaws.{At}
@@ -40,21 +40,21 @@ use Rattle.fairness_laws.specs.PlanSettings.{IsFair}
 use Rattle.fairness_laws.proofs.Plan.Goals.{goal-stays, goal-opens, goal-closes}
 use Rattle.fairness_laws.proofs.Seat.Past.{honest, unkept-unsigned}
 use Rattle.fairness_laws.proofs.Accepted.{Closed, closed, paid-by, Paid, paid-so}
-use Rattle.share_model.specs.Places.{channels, last_made}
-use Rattle.stage_rules.specs.Gathered.{goal_in}
-use Rattle.store_laws.proofs.Places.{found_at_place}
-use Rattle.support_chain.specs.Real.{real}
-use Rattle.wish_laws.proofs.Apart.{accepted-new}
-use Rattle.wish_laws.proofs.Closing.{FoundGoal, goal-found}
-use Rattle.wish_laws.proofs.Commanded.{fresh-name, all-at}
-use Rattle.wish_laws.proofs.Finding.{or-left, not-true}
-use Rattle.wish_laws.proofs.Planned.{Change, stays, opens, closes, event-changes, opened-channels, own-among, among-channels, new-goal}
+use Rattle.share_laws.specs.Places.{channels, last_made}
+use Rattle.funding_plans.specs.Gathered.{goal_in}
+use Rattle.channel_store.proofs.Places.{found_at_place}
+use Rattle.support_rules.specs.Real.{real}
+use Rattle.fairness_laws.proofs.Apart.{accepted-new}
+use Rattle.fairness_laws.proofs.Closing.{FoundGoal, goal-found}
+use Rattle.fairness_laws.proofs.Commanded.{fresh-name, all-at}
+use Rattle.fairness_laws.proofs.Finding.{or-left, not-true}
+use Rattle.fairness_laws.proofs.Planned.{Change, stays, opens, closes, event-changes, opened-channels, own-among, among-channels, new-goal}
 use Rattle.fairness_laws.proofs.Seat.Held.{last-of}
 use Rattle.fairness_laws.proofs.Plan.Asked.{planned, one-of-parts}
 use Rattle.fairness_laws.proofs.Payment.Made.{made-deed}
 use Rattle.fairness_laws.proofs.Plan.Holding.{Holds}
 use Rattle.fairness_laws.proofs.Signing.{kept-of}
-use Rattle.wish_laws.proofs.Noting.{IsPaid, IsMade, why-made}
+use Rattle.fairness_laws.proofs.Noting.{IsPaid, IsMade, why-made}
 
 -- ---- one more event
 

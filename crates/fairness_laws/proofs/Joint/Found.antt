@@ -2,16 +2,16 @@
 use Rattle.std.proofs.Common.{◌≡◌, ℕ, ◌+◌, Bool, true, false, cond, List, refl, subst}
 use Rattle.std.specs.Prelude.{◌==◌, Option, Some, None, Result, Ok, Err}
 use Rattle.std.specs.Option.{option_or}
-use Rattle.nitro_bytes.specs.Parts.{StateParts}
-use Rattle.nitro_bytes.specs.Reading.{outcome_of}
-use Rattle.nitro_bytes.specs.Spelling.{outcome}
-use Rattle.nitro_bytes.specs.declared.fault.ByteFault.{ByteFault}
-use Rattle.nitro_bytes.specs.declared.value.AssetOutcome.{AssetOutcome}
-use Rattle.nitro_bytes.specs.declared.value.Item.{Item}
-use Rattle.app_rules.specs.Ballots.{Ballot, ballot_of}
-use Rattle.chain_laws.proofs.Tests.{some-eq, none-eq, and-left, eqb-true}
-use Rattle.outcome_targets.specs.Targets.{is_apart, amounts_if, apart_with, apart_read, apart_spelled}
-use Rattle.outcome_targets.specs.declared.terms.Terms.{Terms}
+use Rattle.channel_values.specs.Parts.{StateParts}
+use Rattle.channel_values.specs.Reading.{outcome_of}
+use Rattle.channel_values.specs.Spelling.{outcome}
+use Rattle.channel_values.specs.declared.fault.ByteFault.{ByteFault}
+use Rattle.channel_values.specs.declared.value.AssetOutcome.{AssetOutcome}
+use Rattle.channel_values.specs.declared.value.Item.{Item}
+use Rattle.support_rules.specs.Ballots.{Ballot, ballot_of}
+use Rattle.channel_safety.proofs.Tests.{some-eq, none-eq, and-left, eqb-true}
+use Rattle.funding_plans.specs.Targets.{is_apart, amounts_if, apart_with, apart_read, apart_spelled}
+use Rattle.funding_plans.specs.declared.terms.Terms.{Terms}
 use Rattle.virtual_channel.specs.Apart.{apart_proposed, apart_at}
 
 -- amounts for the ends that an outcome of a joint channel spells do

@@ -2,17 +2,17 @@
 use Rattle.std.proofs.Common.{◌≡◌, ℕ, ◌<◌, ◌≤◌, Bool, true, false, List, length, refl, sym, ◌∙◌, ap, subst}
 use Rattle.std.specs.Prelude.{◌==◌, nat_le, Option, Some, None}
 use Rattle.std.specs.Option.{option_map}
-use Rattle.nitro_bytes.specs.Parts.{FixedParts, StateParts}
-use Rattle.nitro_bytes.specs.declared.chain.Signed.{Signed}
-use Rattle.nitro_bytes.specs.declared.value.AssetOutcome.{AssetOutcome}
-use Rattle.app_rules.specs.Ballots.{ballot_of}
-use Rattle.app_rules.specs.Toward.{has_no_votes}
-use Rattle.chain_laws.proofs.Tests.{some-eq, none-eq, clash, le-false}
-use Rattle.channel_calls.specs.declared.entry.Entry.{Entry}
-use Rattle.channel_model.specs.Rules.{people}
-use Rattle.net_model.specs.Journals.{Line}
-use Rattle.node_model.specs.Places.{Told, lines_of}
-use Rattle.node_model.specs.Playing as playing
+use Rattle.channel_values.specs.Parts.{FixedParts, StateParts}
+use Rattle.channel_values.specs.declared.chain.Signed.{Signed}
+use Rattle.channel_values.specs.declared.value.AssetOutcome.{AssetOutcome}
+use Rattle.support_rules.specs.Ballots.{ballot_of}
+use Rattle.support_rules.specs.Toward.{has_no_votes}
+use Rattle.channel_safety.proofs.Tests.{some-eq, none-eq, clash, le-false}
+use Rattle.call_history.specs.declared.entry.Entry.{Entry}
+use Rattle.channel_values.specs.Rules.{people}
+use Rattle.channel_safety.specs.Journals.{Line}
+use Rattle.channel_node.specs.Places.{Told, lines_of}
+use Rattle.channel_node.specs.Playing as playing
 use Rattle.fairness_laws.specs.PaymentLaws.{At}
 use Rattle.fairness_laws.specs.PlanSeats.{SeatIs}
 use Rattle.fairness_laws.specs.PlanSettings.{IsFair}
@@ -21,9 +21,9 @@ use Rattle.fairness_laws.proofs.Seat.Held.{last-of, own-last-of}
 use Rattle.fairness_laws.proofs.Seat.Past.{past-of, of-past, people-are}
 use Rattle.fairness_laws.proofs.Outcomes.{bare-data}
 use Rattle.fairness_laws.proofs.Payment.Sharing.{no-bytes}
-use Rattle.share_model.specs.Places.{last_made}
-use Rattle.stage_rules.specs.Seats.{Seat, state_is, has_no_data, has_signed_past}
-use Rattle.support_chain.specs.Real.{real}
+use Rattle.share_laws.specs.Places.{last_made}
+use Rattle.funding_plans.specs.Seats.{Seat, state_is, has_no_data, has_signed_past}
+use Rattle.support_rules.specs.Real.{real}
 
 -- no data, no votes
 pub data-votes : (n : ℕ) (s : StateParts) → has_no_data s ≡ has_no_votes (ballot_of n s.app_bytes)

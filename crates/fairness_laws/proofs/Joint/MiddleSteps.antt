@@ -2,22 +2,22 @@
 use Rattle.std.proofs.Common.{◌≡◌, ℕ, ◌^◌, ◌<◌, ◌≤◌, true, false, List, ◌⊎◌, inl, inr, refl, sym, ◌∙◌, ap, subst}
 use Rattle.std.specs.Prelude.{◌==◌, Option, Some, None}
 use Rattle.std.specs.Str.{bytes_eq}
-use Rattle.nitro_bytes.specs.Parts.{FixedParts, StateParts}
-use Rattle.nitro_bytes.specs.declared.value.AssetOutcome.{AssetOutcome}
-use Rattle.chain_laws.proofs.Tests.{none-eq, eqb-true}
-use Rattle.channel_calls.proofs.Names.{same_bytes}
-use Rattle.channel_calls.specs.declared.entry.Entry.{Entry}
-use Rattle.funding_value.specs.Parts.{running}
-use Rattle.funding_value.specs.declared.plan.Goal.{Goal}
-use Rattle.funding_value.specs.declared.plan.Part.{Part}
-use Rattle.funding_value.specs.declared.plan.Part.TheVariants as kinds
-use Rattle.funding_value.specs.declared.plan.Virtual.{Virtual}
-use Rattle.net_model.specs.Journals.{In, Line}
-use Rattle.net_party.specs.declared.command.Command.{Command}
-use Rattle.node_model.specs.Minds.{Mind, facts_of}
-use Rattle.node_model.specs.Places.{Told, lines_of, mind_at}
-use Rattle.node_model.specs.Playing.{Signing}
-use Rattle.node_tables.specs.Stages.{stages}
+use Rattle.channel_values.specs.Parts.{FixedParts, StateParts}
+use Rattle.channel_values.specs.declared.value.AssetOutcome.{AssetOutcome}
+use Rattle.channel_safety.proofs.Tests.{none-eq, eqb-true}
+use Rattle.call_history.proofs.Names.{same_bytes}
+use Rattle.call_history.specs.declared.entry.Entry.{Entry}
+use Rattle.funding_plans.specs.Parts.{running}
+use Rattle.funding_plans.specs.declared.plan.Goal.{Goal}
+use Rattle.funding_plans.specs.declared.plan.Part.{Part}
+use Rattle.funding_plans.specs.declared.plan.Part.TheVariants as kinds
+use Rattle.funding_plans.specs.declared.plan.Virtual.{Virtual}
+use Rattle.channel_safety.specs.Journals.{In, Line}
+use Rattle.network.specs.declared.command.Command.{Command}
+use Rattle.channel_node.specs.Minds.{Mind, facts_of}
+use Rattle.channel_node.specs.Places.{Told, lines_of, mind_at}
+use Rattle.channel_node.specs.Playing.{Signing}
+use Rattle.stage_tables.specs.Stages.{stages}
 use Rattle.fairness_laws.specs.JointKeeping.{IsSplit}
 use Rattle.fairness_laws.specs.PaymentLaws.{At}
 use Rattle.fairness_laws.specs.PlanParts.{MiddleIs}
@@ -36,12 +36,12 @@ use Rattle.fairness_laws.proofs.Joint.Seats.{other-apps as apps, opens, three, c
 use Rattle.fairness_laws.proofs.Joint.Terms.{joint-among}
 use Rattle.fairness_laws.proofs.Stages.{MiddleRuns, middle-runs}
 use Rattle.fairness_laws.proofs.OpenedVirtuals.{middle-opened}
-use Rattle.outcome_targets.specs.Targets.{apart}
-use Rattle.plan_stages.specs.Asked as asked
-use Rattle.share_model.specs.Places.{channels}
-use Rattle.stage_rules.specs.Rows.{stage_in}
-use Rattle.stage_rules.specs.Seats.{Seat, holds}
-use Rattle.support_chain.specs.Real.{real}
+use Rattle.funding_plans.specs.Targets.{apart}
+use Rattle.stage_tables.specs.Asked as asked
+use Rattle.share_laws.specs.Places.{channels}
+use Rattle.funding_plans.specs.Rows.{stage_in}
+use Rattle.funding_plans.specs.Seats.{Seat, holds}
+use Rattle.support_rules.specs.Real.{real}
 use Rattle.virtual_channel.specs.Middles as middles
 use Rattle.virtual_channel.specs.Middles.{Middle, middle_rows, back_to}
 use Rattle.virtual_channel.specs.Stages.{stage_of_middle, wanted_of_middle}

@@ -1,20 +1,20 @@
 -- What the joint channel at the intermediary keeps.
 use Rattle.std.proofs.Common.{◌≡◌, ℕ, Bool, true, false, not, ◌⊎◌, inl, inr, List, [], ◌∷◌, refl, sym, ◌∙◌, ap, subst}
 use Rattle.std.specs.Prelude.{Option, Some}
-use Rattle.nitro_bytes.specs.Parts.{StateParts}
-use Rattle.nitro_bytes.specs.declared.value.AssetOutcome.{AssetOutcome}
-use Rattle.nitro_bytes.specs.declared.value.Dest.TheVariants.{Channel}
-use Rattle.chain_laws.proofs.Tests.{some-eq, clash, and-left, and-right}
-use Rattle.channel_calls.specs.declared.entry.Entry.{Entry}
-use Rattle.channel_model.specs.Amounts.{has}
-use Rattle.funding_value.specs.Shapes.{items_in}
-use Rattle.funding_value.specs.declared.plan.Goal.{Goal}
-use Rattle.funding_value.specs.declared.plan.Part.TheVariants as kinds
-use Rattle.funding_value.specs.declared.plan.Virtual.{Virtual}
-use Rattle.net_model.specs.Journals.{In, Line}
-use Rattle.node_model.specs.Minds.{facts_of}
-use Rattle.node_model.specs.Places.{Told, lines_of, mind_at}
-use Rattle.node_model.specs.Playing.{Signing}
+use Rattle.channel_values.specs.Parts.{StateParts}
+use Rattle.channel_values.specs.declared.value.AssetOutcome.{AssetOutcome}
+use Rattle.channel_values.specs.declared.value.Dest.TheVariants.{Channel}
+use Rattle.channel_safety.proofs.Tests.{some-eq, clash, and-left, and-right}
+use Rattle.call_history.specs.declared.entry.Entry.{Entry}
+use Rattle.channel_values.specs.Amounts.{has}
+use Rattle.funding_plans.specs.Shapes.{items_in}
+use Rattle.funding_plans.specs.declared.plan.Goal.{Goal}
+use Rattle.funding_plans.specs.declared.plan.Part.TheVariants as kinds
+use Rattle.funding_plans.specs.declared.plan.Virtual.{Virtual}
+use Rattle.channel_safety.specs.Journals.{In, Line}
+use Rattle.channel_node.specs.Minds.{facts_of}
+use Rattle.channel_node.specs.Places.{Told, lines_of, mind_at}
+use Rattle.channel_node.specs.Playing.{Signing}
 use Rattle.fairness_laws.specs.JointKeeping.{IsSplit, MiddleKeeps, MiddlesKeep}
 use Rattle.fairness_laws.specs.PaymentLaws.{At}
 use Rattle.fairness_laws.specs.PlanParts.{MiddleIs}
@@ -26,10 +26,10 @@ use Rattle.fairness_laws.proofs.Joint.Outcomes.{together-has, found-apart}
 use Rattle.fairness_laws.proofs.Outcomes.{alone, only}
 use Rattle.fairness_laws.proofs.Joint.Seats.{consensus, seat-late, own-is, late-settled, settled-here, sets, opens-with, joins, joined, parts}
 use Rattle.fairness_laws.proofs.Payment.Sharing.{no-bytes}
-use Rattle.outcome_targets.specs.Targets.{apart, together}
-use Rattle.share_model.specs.Places.{outcomes_of}
-use Rattle.stage_rules.specs.Seats.{state_is, has_no_data, holds, has_signed_past, settled_on}
-use Rattle.support_chain.specs.Real.{real}
+use Rattle.funding_plans.specs.Targets.{apart, together}
+use Rattle.share_laws.specs.Places.{outcomes_of}
+use Rattle.funding_plans.specs.Seats.{state_is, has_no_data, holds, has_signed_past, settled_on}
+use Rattle.support_rules.specs.Real.{real}
 use Rattle.virtual_channel.specs.Apart.{apart_at}
 use Rattle.virtual_channel.specs.Middles as middles
 use Rattle.virtual_channel.specs.Middles.{Middle, is_without}

@@ -2,18 +2,18 @@
 use Rattle.std.proofs.Common.{◌≡◌, ◌≢◌, ℕ, ◌+◌, ◌-◌, ◌^◌, ◌<◌, ◌≤◌, Bool, true, false, cond, not, ◌&&◌, ◌||◌, List, [], ◌∷◌, ◌⊎◌, inl, inr, length, refl, sym, ◌∙◌, ap, subst, arith}
 use Rattle.std.specs.Prelude.{◌==◌, nat_le, nat_lt, Option, Some, None}
 use Rattle.std.specs.Option.{option_map}
-use Rattle.nitro_bytes.specs.Outcomes.{IsOutcome}
-use Rattle.nitro_bytes.specs.Parts.{FixedParts, StateParts, state_with}
-use Rattle.nitro_bytes.specs.declared.value.AssetOutcome.{AssetOutcome}
-use Rattle.app_rules.specs.Ballots.{ballot_of}
-use Rattle.app_rules.specs.Rules.{is_same_outcome}
-use Rattle.app_rules.specs.Toward.{Move, moved, wanted_on, is_settled, wanted_toward}
-use Rattle.chain_laws.proofs.Tests.{some-eq, none-eq, clash, and-left, and-right, lt-true}
-use Rattle.channel_calls.specs.declared.entry.Entry.{Entry}
-use Rattle.channel_model.specs.Rules.{people}
-use Rattle.net_model.specs.Journals.{In}
-use Rattle.node_model.specs.Places.{Told, lines_of}
-use Rattle.node_model.specs.Playing as playing
+use Rattle.channel_values.specs.Outcomes.{IsOutcome}
+use Rattle.channel_values.specs.Parts.{FixedParts, StateParts, state_with}
+use Rattle.channel_values.specs.declared.value.AssetOutcome.{AssetOutcome}
+use Rattle.support_rules.specs.Ballots.{ballot_of}
+use Rattle.support_rules.specs.Rules.{is_same_outcome}
+use Rattle.support_rules.specs.Toward.{Move, moved, wanted_on, is_settled, wanted_toward}
+use Rattle.channel_safety.proofs.Tests.{some-eq, none-eq, clash, and-left, and-right, lt-true}
+use Rattle.call_history.specs.declared.entry.Entry.{Entry}
+use Rattle.channel_values.specs.Rules.{people}
+use Rattle.channel_safety.specs.Journals.{In}
+use Rattle.channel_node.specs.Places.{Told, lines_of}
+use Rattle.channel_node.specs.Playing as playing
 use Rattle.fairness_laws.specs.PaymentLaws.{At}
 use Rattle.fairness_laws.specs.PlanSeats.{SeatIs}
 use Rattle.fairness_laws.specs.PlanSettings.{IsFair}
@@ -22,14 +22,14 @@ use Rattle.fairness_laws.proofs.Joint.Core.{Core, Signing}
 use Rattle.fairness_laws.proofs.Seat.Held.{last-of, Tops, tops, top-could, top-valid, top-last, top-far}
 use Rattle.fairness_laws.proofs.Joint.Outcomes.{together-asset, apart-asset}
 use Rattle.fairness_laws.proofs.Outcomes.{alone, only}
-use Rattle.outcome_targets.specs.Limits.{is_valid}
-use Rattle.outcome_targets.specs.Targets.{apart, together}
-use Rattle.outcome_targets.specs.declared.terms.Terms.{Terms}
-use Rattle.share_model.specs.Places.{outcomes_of}
-use Rattle.signing_laws.proofs.Voting.{moves_end}
-use Rattle.stage_rules.specs.Seats.{Seat, is_turn, has_no_data, repeats, toward, toward_after, pass_after, pass_on}
-use Rattle.support_chain.specs.Real.{real}
-use Rattle.wish_laws.proofs.Roots.{Whens, when-some}
+use Rattle.funding_plans.specs.Limits.{is_valid}
+use Rattle.funding_plans.specs.Targets.{apart, together}
+use Rattle.funding_plans.specs.declared.terms.Terms.{Terms}
+use Rattle.share_laws.specs.Places.{outcomes_of}
+use Rattle.share_laws.proofs.Voting.{moves_end}
+use Rattle.funding_plans.specs.Seats.{Seat, is_turn, has_no_data, repeats, toward, toward_after, pass_after, pass_on}
+use Rattle.support_rules.specs.Real.{real}
+use Rattle.fairness_laws.proofs.RootWishes.{Whens, when-some}
 
 -- ---- moves
 

@@ -4,24 +4,24 @@ use Rattle.std.specs.Prelude.{Option, Some, None, slice_index}
 use Rattle.std.specs.List.{AllByRecursion}
 use Rattle.std.specs.Option.{option_or}
 use Rattle.std.specs.Str.{bytes_eq}
-use Rattle.nitro_bytes.proofs.Format.{valid_again}
-use Rattle.nitro_bytes.proofs.Formats.{outcome_format}
-use Rattle.nitro_bytes.specs.Outcomes.{IsName, IsOutcome}
-use Rattle.nitro_bytes.specs.Parts.{FixedParts, StateParts}
-use Rattle.nitro_bytes.specs.Spelling.{outcome}
-use Rattle.nitro_bytes.specs.declared.value.AssetOutcome.{AssetOutcome}
-use Rattle.nitro_bytes.specs.declared.value.Dest.TheVariants.{Person, Channel}
-use Rattle.nitro_bytes.specs.declared.value.Shape.TheVariants.{Allocation}
-use Rattle.app_rules.specs.Ballots.{ballot_of}
-use Rattle.app_rules.specs.Rules.{is_same_outcome}
-use Rattle.channel_calls.proofs.Names.{same_bytes, bytes_eq_self}
-use Rattle.channel_model.specs.Amounts.{has}
-use Rattle.funding_value.specs.Shapes.{items_of, items_in}
-use Rattle.outcome_targets.specs.Targets.{pays, apart, together, apart_in, apart_read, apart_spelled}
-use Rattle.outcome_targets.proofs.Found.{found}
+use Rattle.channel_values.proofs.Format.{valid_again}
+use Rattle.channel_values.proofs.Formats.{outcome_format}
+use Rattle.channel_values.specs.Outcomes.{IsName, IsOutcome}
+use Rattle.channel_values.specs.Parts.{FixedParts, StateParts}
+use Rattle.channel_values.specs.Spelling.{outcome}
+use Rattle.channel_values.specs.declared.value.AssetOutcome.{AssetOutcome}
+use Rattle.channel_values.specs.declared.value.Dest.TheVariants.{Person, Channel}
+use Rattle.channel_values.specs.declared.value.Shape.TheVariants.{Allocation}
+use Rattle.support_rules.specs.Ballots.{ballot_of}
+use Rattle.support_rules.specs.Rules.{is_same_outcome}
+use Rattle.call_history.proofs.Names.{same_bytes, bytes_eq_self}
+use Rattle.channel_values.specs.Amounts.{has}
+use Rattle.funding_plans.specs.Shapes.{items_of, items_in}
+use Rattle.funding_plans.specs.Targets.{pays, apart, together, apart_in, apart_read, apart_spelled}
+use Rattle.funding_plans.proofs.Found.{found}
 use Rattle.virtual_channel.specs.Apart.{apart_proposed, apart_of}
-use Rattle.outcome_targets.specs.declared.terms.Terms.{Terms}
-use Rattle.support_chain.specs.Steps.{persons}
+use Rattle.funding_plans.specs.declared.terms.Terms.{Terms}
+use Rattle.support_rules.specs.Steps.{persons}
 use Rattle.std.proofs.lemmas.Bool.{eq-eqb}
 use Rattle.fairness_laws.proofs.Joint.Pays.{AreTerms, asset-small}
 use Rattle.fairness_laws.proofs.NamesAreNames.{people_are_names}

@@ -3,29 +3,29 @@ use Rattle.std.proofs.Common.{◌≡◌, ◌≢◌, ℕ, ◌+◌, ◌^◌, ◌<�
 use Rattle.std.proofs.lemmas.Bool.Decides.{nat_tests}
 use Rattle.std.specs.Prelude.{◌==◌, Some, None}
 use Rattle.std.specs.Str.{bytes_eq}
-use Rattle.nitro_bytes.specs.Outcomes.{IsName, IsOutcome}
-use Rattle.nitro_bytes.specs.declared.value.AssetOutcome.{AssetOutcome}
-use Rattle.nitro_bytes.specs.declared.value.Dest.{Dest}
-use Rattle.nitro_bytes.specs.declared.value.Dest.TheVariants.{Person, Channel}
-use Rattle.nitro_bytes.specs.declared.value.Shape.{Shape}
-use Rattle.nitro_bytes.specs.declared.value.Shape.TheVariants.{Allocation, Guarantee}
-use Rattle.chain_laws.proofs.Tests.{clash}
-use Rattle.channel_calls.proofs.Names.{bytes_eq_self}
-use Rattle.channel_calls.specs.Dues.{shape_in}
-use Rattle.channel_model.specs.Amounts.{amt}
-use Rattle.funding_value.specs.Shapes.{items_of, list_of, items_in, list_in}
-use Rattle.funding_value.specs.declared.plan.Virtual.{Virtual}
+use Rattle.channel_values.specs.Outcomes.{IsName, IsOutcome}
+use Rattle.channel_values.specs.declared.value.AssetOutcome.{AssetOutcome}
+use Rattle.channel_values.specs.declared.value.Dest.{Dest}
+use Rattle.channel_values.specs.declared.value.Dest.TheVariants.{Person, Channel}
+use Rattle.channel_values.specs.declared.value.Shape.{Shape}
+use Rattle.channel_values.specs.declared.value.Shape.TheVariants.{Allocation, Guarantee}
+use Rattle.channel_safety.proofs.Tests.{clash}
+use Rattle.call_history.proofs.Names.{bytes_eq_self}
+use Rattle.call_history.specs.Dues.{shape_in}
+use Rattle.channel_values.specs.Amounts.{amt}
+use Rattle.funding_plans.specs.Shapes.{items_of, list_of, items_in, list_in}
+use Rattle.funding_plans.specs.declared.plan.Virtual.{Virtual}
 use Rattle.std.proofs.lemmas.Bool.{eq-eqb}
 use Rattle.fairness_laws.specs.LedgerMoving.{IsUp}
-use Rattle.outcome_targets.specs.Limits.{is_valid}
-use Rattle.outcome_targets.specs.Targets.{only, apart, together, guarantee}
-use Rattle.outcome_targets.specs.declared.child.Child.{Child}
-use Rattle.outcome_targets.specs.declared.terms.Terms.{Terms}
-use Rattle.share_model.specs.Books.{Books}
-use Rattle.share_model.specs.Funded.{up_to}
-use Rattle.signing_laws.specs.Moves.{owing, SetsAside, IsApart, PaysApart, PaysTogether, IsApartBetween, IsTogetherBetween}
-use Rattle.signing_laws.specs.Items as targets
-use Rattle.signing_laws.proofs.Fits.{apart_fits, joint_fits}
+use Rattle.funding_plans.specs.Limits.{is_valid}
+use Rattle.funding_plans.specs.Targets.{only, apart, together, guarantee}
+use Rattle.funding_plans.specs.declared.child.Child.{Child}
+use Rattle.funding_plans.specs.declared.terms.Terms.{Terms}
+use Rattle.share_laws.specs.Books.{Books}
+use Rattle.share_laws.specs.Funded.{up_to}
+use Rattle.share_laws.specs.Moves.{owing, SetsAside, IsApart, PaysApart, PaysTogether, IsApartBetween, IsTogetherBetween}
+use Rattle.share_laws.specs.Items as targets
+use Rattle.share_laws.proofs.Fits.{apart_fits, joint_fits}
 use Rattle.fairness_laws.proofs.Ledger.Spelled.{read-is}
 use Rattle.fairness_laws.proofs.Shared.{two, amt-first, amt-second, up-first, up-second}
 

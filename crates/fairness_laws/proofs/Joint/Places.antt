@@ -2,20 +2,20 @@
 use Rattle.std.proofs.Common.{◌≡◌, ℕ, ◌-◌, ◌≤◌, Bool, true, false, cond, List, ◌++◌, inr, length, sym, ◌∙◌, ap, subst, arith}
 use Rattle.std.proofs.lemmas.List.{append_cancel_right, append_assoc}
 use Rattle.std.specs.Prelude.{nat_le, Some, None}
-use Rattle.nitro_bytes.specs.Parts.{FixedParts, StateParts}
-use Rattle.nitro_bytes.specs.declared.value.AssetOutcome.{AssetOutcome}
-use Rattle.chain_laws.proofs.Lists.{In-append_right}
-use Rattle.chain_laws.proofs.Tests.{some-eq, true-le}
-use Rattle.channel_calls.specs.Marked.{Marked, marked_of}
-use Rattle.channel_calls.specs.declared.entry.Entry.{Entry}
-use Rattle.channel_model.specs.Rules.{newest}
+use Rattle.channel_values.specs.Parts.{FixedParts, StateParts}
+use Rattle.channel_values.specs.declared.value.AssetOutcome.{AssetOutcome}
+use Rattle.channel_safety.proofs.Lists.{In-append_right}
+use Rattle.channel_safety.proofs.Tests.{some-eq, true-le}
+use Rattle.call_history.specs.Marked.{Marked, marked_of}
+use Rattle.call_history.specs.declared.entry.Entry.{Entry}
+use Rattle.channel_values.specs.Rules.{newest}
 use Rattle.channel_store.specs.Keeping.{is_held}
-use Rattle.net_model.specs.Held.{held}
-use Rattle.net_model.specs.Journals.{In, Line, is_watched}
-use Rattle.node_laws.proofs.Bridging.{lines-append}
-use Rattle.node_laws.proofs.Reaching.{Reaches, reaches-later}
-use Rattle.node_model.specs.Places.{Told, lines_of}
-use Rattle.node_model.specs.Playing.{Signing}
+use Rattle.channel_safety.specs.Held.{held}
+use Rattle.channel_safety.specs.Journals.{In, Line, is_watched}
+use Rattle.channel_node.proofs.Bridging.{lines-append}
+use Rattle.channel_node.proofs.Reaching.{Reaches, reaches-later}
+use Rattle.channel_node.specs.Places.{Told, lines_of}
+use Rattle.channel_node.specs.Playing.{Signing}
 use Rattle.fairness_laws.proofs.Seat.Past.{one-fixed, supported}
 use Rattle.fairness_laws.specs.PaymentLaws.{At}
 use Rattle.fairness_laws.specs.PlanSeats.{SeatIs}
@@ -23,8 +23,8 @@ use Rattle.fairness_laws.specs.PlanSettings.{IsFair}
 use Rattle.fairness_laws.proofs.Seat.Held.{tops, top-far, holds-it, final-top}
 use Rattle.fairness_laws.proofs.Paying.{reaches-held}
 use Rattle.fairness_laws.proofs.Payment.Ended.{ended_stay}
-use Rattle.stage_rules.specs.Seats.{Seat, state_is, holds, is_set_up}
-use Rattle.support_chain.specs.Real.{real}
+use Rattle.funding_plans.specs.Seats.{Seat, state_is, holds, is_set_up}
+use Rattle.support_rules.specs.Real.{real}
 
 -- ---- two places
 

@@ -2,10 +2,10 @@
 use Rattle.std.proofs.Common.{◌≡◌, ℕ, ◌≤◌, Bool, true, false, cond, ◌||◌, ◌⊎◌, inl, inr, List, refl, arith}
 use Rattle.std.specs.Prelude.{Some, None}
 use Rattle.std.specs.Str.{bytes_eq}
-use Rattle.nitro_bytes.specs.Parts.{StateParts}
-use Rattle.chain_laws.proofs.Tests.{none-eq}
-use Rattle.stage_rules.specs.Rows.{wanted_in}
-use Rattle.stage_rules.specs.Seats.{holds, repeats, final_state, toward, settled_on, up_in, down_in, is_down}
+use Rattle.channel_values.specs.Parts.{StateParts}
+use Rattle.channel_safety.proofs.Tests.{none-eq}
+use Rattle.funding_plans.specs.Rows.{wanted_in}
+use Rattle.funding_plans.specs.Seats.{holds, repeats, final_state, toward, settled_on, up_in, down_in, is_down}
 use Rattle.virtual_channel.specs.Ends as ends
 use Rattle.virtual_channel.specs.Ends.{End, end_rows}
 use Rattle.virtual_channel.specs.Middles as middles

@@ -3,23 +3,23 @@ use Rattle.std.proofs.Common.{◌≡◌, ◌≢◌, ℕ, ◌+◌, ◌*◌, ◌-�
 use Rattle.std.specs.Prelude.{Option, Some, None}
 use Rattle.std.specs.Option.{option_map}
 use Rattle.std.specs.Str.{bytes_eq}
-use Rattle.nitro_bytes.specs.Outcomes.{IsName}
-use Rattle.nitro_bytes.specs.Parts.{FixedParts, StateParts}
-use Rattle.nitro_bytes.specs.Spelling.{outcome}
-use Rattle.nitro_bytes.specs.declared.chain.Signed.{Signed}
-use Rattle.nitro_bytes.specs.declared.value.AssetOutcome.{AssetOutcome}
-use Rattle.app_rules.specs.Ballots.{ballot_of}
-use Rattle.app_rules.specs.Rules.{is_same_outcome}
-use Rattle.app_rules.specs.Toward.{is_settled, has_no_votes}
-use Rattle.chain_laws.proofs.Tests.{some-eq, none-eq, clash}
-use Rattle.channel_calls.proofs.Names.{same_bytes, bytes_eq_self}
-use Rattle.channel_calls.specs.declared.entry.Entry.{Entry}
-use Rattle.channel_model.specs.Rules.{people}
-use Rattle.funding_value.specs.declared.plan.Goal.{Goal}
-use Rattle.funding_value.specs.declared.plan.Virtual.{Virtual}
-use Rattle.net_model.specs.Journals.{In, Line}
-use Rattle.node_model.specs.Places.{Told, lines_of}
-use Rattle.node_model.specs.Playing.{Signing}
+use Rattle.channel_values.specs.Outcomes.{IsName}
+use Rattle.channel_values.specs.Parts.{FixedParts, StateParts}
+use Rattle.channel_values.specs.Spelling.{outcome}
+use Rattle.channel_values.specs.declared.chain.Signed.{Signed}
+use Rattle.channel_values.specs.declared.value.AssetOutcome.{AssetOutcome}
+use Rattle.support_rules.specs.Ballots.{ballot_of}
+use Rattle.support_rules.specs.Rules.{is_same_outcome}
+use Rattle.support_rules.specs.Toward.{is_settled, has_no_votes}
+use Rattle.channel_safety.proofs.Tests.{some-eq, none-eq, clash}
+use Rattle.call_history.proofs.Names.{same_bytes, bytes_eq_self}
+use Rattle.call_history.specs.declared.entry.Entry.{Entry}
+use Rattle.channel_values.specs.Rules.{people}
+use Rattle.funding_plans.specs.declared.plan.Goal.{Goal}
+use Rattle.funding_plans.specs.declared.plan.Virtual.{Virtual}
+use Rattle.channel_safety.specs.Journals.{In, Line}
+use Rattle.channel_node.specs.Places.{Told, lines_of}
+use Rattle.channel_node.specs.Playing.{Signing}
 use Rattle.fairness_laws.proofs.Apps.{no-payments}
 use Rattle.fairness_laws.specs.PaymentLaws.{At}
 use Rattle.fairness_laws.specs.PlanParts.{JointIs}
@@ -33,12 +33,12 @@ use Rattle.fairness_laws.proofs.Joint.Outcomes.{terms-of}
 use Rattle.fairness_laws.proofs.Outcomes.{alone}
 use Rattle.fairness_laws.proofs.Seat.Past.{one-fixed, own-late}
 use Rattle.fairness_laws.proofs.Joint.Terms.{three-people}
-use Rattle.outcome_targets.specs.Targets.{apart, together}
-use Rattle.outcome_targets.specs.declared.terms.Terms.{Terms}
-use Rattle.share_model.specs.Places.{channels, last_made, outcomes_of}
-use Rattle.stage_rules.specs.Seats.{Seat, has_signed_past, settled_on}
-use Rattle.support_chain.specs.Real.{real}
-use Rattle.support_chain.specs.Steps.{persons}
+use Rattle.funding_plans.specs.Targets.{apart, together}
+use Rattle.funding_plans.specs.declared.terms.Terms.{Terms}
+use Rattle.share_laws.specs.Places.{channels, last_made, outcomes_of}
+use Rattle.funding_plans.specs.Seats.{Seat, has_signed_past, settled_on}
+use Rattle.support_rules.specs.Real.{real}
+use Rattle.support_rules.specs.Steps.{persons}
 
 module _ (s : Signing) (h : List Entry) (journal : List Told) (fair : IsFair s h journal) (past : List Entry) (front : List Told) (at : At s h journal past front) where
   abbrev L : List Line

@@ -2,18 +2,18 @@
 use Rattle.std.proofs.Common.{◌≡◌, ℕ, ◌+◌, Bool, true, false, List, [], ◌∷◌, ◌⊎◌, inl, inr, refl, sym, ◌∙◌, ap, subst}
 use Rattle.std.specs.Prelude.{Option, Some, None}
 use Rattle.std.specs.Option.{option_map, option_or}
-use Rattle.nitro_bytes.specs.Parts.{FixedParts, StateParts}
-use Rattle.nitro_bytes.specs.declared.chain.Signed.{Signed}
-use Rattle.nitro_bytes.specs.declared.value.AssetOutcome.{AssetOutcome}
-use Rattle.chain_laws.proofs.Tests.{some-eq, none-eq}
-use Rattle.channel_calls.specs.Flows.{is_among}
-use Rattle.channel_calls.specs.declared.entry.Entry.{Entry}
-use Rattle.funding_value.specs.Parts.{channels_of}
-use Rattle.funding_value.specs.declared.plan.Goal.{Goal}
-use Rattle.funding_value.specs.declared.plan.Part.{Part}
-use Rattle.funding_value.specs.declared.plan.Part.TheVariants as kinds
-use Rattle.funding_value.specs.declared.plan.Virtual.{Virtual}
-use Rattle.net_model.specs.Journals.{In, Line, made_in}
+use Rattle.channel_values.specs.Parts.{FixedParts, StateParts}
+use Rattle.channel_values.specs.declared.chain.Signed.{Signed}
+use Rattle.channel_values.specs.declared.value.AssetOutcome.{AssetOutcome}
+use Rattle.channel_safety.proofs.Tests.{some-eq, none-eq}
+use Rattle.call_history.specs.Flows.{is_among}
+use Rattle.call_history.specs.declared.entry.Entry.{Entry}
+use Rattle.funding_plans.specs.Parts.{channels_of}
+use Rattle.funding_plans.specs.declared.plan.Goal.{Goal}
+use Rattle.funding_plans.specs.declared.plan.Part.{Part}
+use Rattle.funding_plans.specs.declared.plan.Part.TheVariants as kinds
+use Rattle.funding_plans.specs.declared.plan.Virtual.{Virtual}
+use Rattle.channel_safety.specs.Journals.{In, Line, made_in}
 use Rattle.fairness_laws.proofs.Plan.Places.{kept-there}
 use Rattle.fairness_laws.proofs.Plan.Asked.{part-at}
 use Rattle.fairness_laws.proofs.Joint.EndKept.{ends-core}
@@ -32,20 +32,20 @@ use Rattle.fairness_laws.specs.PaymentLaws.{At, IsShared, SharesOver}
 use Rattle.fairness_laws.specs.PlanLaws.{PartAt}
 use Rattle.fairness_laws.specs.PlanParts.{JointIs, EndIs}
 use Rattle.fairness_laws.specs.PlanSettings.{IsFair}
-use Rattle.node_laws.proofs.Places.{mind-watched, mind-entry}
-use Rattle.node_model.specs.Minds.{Mind, facts_of}
-use Rattle.node_model.specs.Openings.{shared}
-use Rattle.node_model.specs.Places.{Told, lines_of, mind_at}
-use Rattle.node_model.specs.Playing.{Signing, pending}
-use Rattle.node_tables.specs.Stages.{stages}
-use Rattle.outcome_targets.specs.Outcomes.{amounts_in}
-use Rattle.outcome_targets.specs.Targets.{apart, together}
-use Rattle.outcome_targets.specs.declared.terms.Terms.{Terms}
-use Rattle.share_model.specs.Places.{channels, last_made, outcomes_of}
-use Rattle.stage_rules.specs.Seats.{Seat, holds, amounts_after}
-use Rattle.stage_rules.specs.Gathered.{goal_in}
-use Rattle.support_chain.specs.Real.{real}
-use Rattle.wish_laws.proofs.Over.{AtEvent, IsKept, looked}
+use Rattle.channel_node.proofs.Places.{mind-watched, mind-entry}
+use Rattle.channel_node.specs.Minds.{Mind, facts_of}
+use Rattle.channel_node.specs.Openings.{shared}
+use Rattle.channel_node.specs.Places.{Told, lines_of, mind_at}
+use Rattle.channel_node.specs.Playing.{Signing, pending}
+use Rattle.stage_tables.specs.Stages.{stages}
+use Rattle.funding_plans.specs.Outcomes.{amounts_in}
+use Rattle.funding_plans.specs.Targets.{apart, together}
+use Rattle.funding_plans.specs.declared.terms.Terms.{Terms}
+use Rattle.share_laws.specs.Places.{channels, last_made, outcomes_of}
+use Rattle.funding_plans.specs.Seats.{Seat, holds, amounts_after}
+use Rattle.funding_plans.specs.Gathered.{goal_in}
+use Rattle.support_rules.specs.Real.{real}
+use Rattle.fairness_laws.proofs.Over.{AtEvent, IsKept, looked}
 
 -- where no state was signed last, none was signed
 none-made : (c : List ℕ) (lines : List Line) (x : Line) (n : Signed) → last_made c lines ≡ None → In x lines → made_in c x.deed ≡ Some n → ⊥

@@ -1,14 +1,14 @@
 -- The joint channel of a virtual one, from one place of a journal to a later one.
 use Rattle.std.proofs.Common.{◌≡◌, ℕ, Bool, true, List, ◌++◌, sym, ◌∙◌, ap, subst}
 use Rattle.std.specs.Prelude.{Option, Some}
-use Rattle.nitro_bytes.specs.declared.value.AssetOutcome.{AssetOutcome}
-use Rattle.channel_calls.specs.declared.entry.Entry.{Entry}
-use Rattle.funding_value.specs.declared.plan.Goal.{Goal}
-use Rattle.funding_value.specs.declared.plan.Virtual.{Virtual}
-use Rattle.nitro_bytes.specs.Parts.{StateParts}
-use Rattle.node_model.specs.Minds.{Mind, facts_of}
-use Rattle.node_model.specs.Places.{Told, lines_of, mind_at}
-use Rattle.node_model.specs.Playing.{Signing}
+use Rattle.channel_values.specs.declared.value.AssetOutcome.{AssetOutcome}
+use Rattle.call_history.specs.declared.entry.Entry.{Entry}
+use Rattle.funding_plans.specs.declared.plan.Goal.{Goal}
+use Rattle.funding_plans.specs.declared.plan.Virtual.{Virtual}
+use Rattle.channel_values.specs.Parts.{StateParts}
+use Rattle.channel_node.specs.Minds.{Mind, facts_of}
+use Rattle.channel_node.specs.Places.{Told, lines_of, mind_at}
+use Rattle.channel_node.specs.Playing.{Signing}
 use Rattle.fairness_laws.specs.PaymentLaws.{At}
 use Rattle.fairness_laws.specs.PlanParts.{JointIs}
 use Rattle.fairness_laws.specs.PlanSettings.{IsFair}
@@ -16,11 +16,11 @@ use Rattle.fairness_laws.proofs.Joint.Core.{Core, core-grows}
 use Rattle.fairness_laws.proofs.Joint.Places.{holds-grows, set-up-grows}
 use Rattle.fairness_laws.proofs.Joint.Terms.{terms-one}
 use Rattle.fairness_laws.proofs.Opening.Seated.{seated}
-use Rattle.outcome_targets.specs.Targets.{apart}
-use Rattle.outcome_targets.specs.declared.terms.Terms.{Terms}
-use Rattle.stage_rules.specs.Gathered.{seat_with}
-use Rattle.stage_rules.specs.Seats.{Seat, holds, is_set_up}
-use Rattle.support_chain.specs.Real.{real}
+use Rattle.funding_plans.specs.Targets.{apart}
+use Rattle.funding_plans.specs.declared.terms.Terms.{Terms}
+use Rattle.funding_plans.specs.Gathered.{seat_with}
+use Rattle.funding_plans.specs.Seats.{Seat, holds, is_set_up}
+use Rattle.support_rules.specs.Real.{real}
 
 module _ (s : Signing) (h : List Entry) (journal : List Told) (fair : IsFair s h journal) (later past : List Entry) (newer front : List Told)
     (pa : At s h journal past front) (qa : At s h journal (later ++ past) (newer ++ front)) (v : Virtual) (g k : Goal) (t u : Terms) (c d : Seat)

@@ -1,27 +1,27 @@
 -- The terms of a virtual channel, and the people of its joint channel.
 use Rattle.std.proofs.Common.{◌≡◌, ℕ, Bool, List, [], ◌∷◌, length, true, false, cond, refl, sym, ◌∙◌, ap, subst, inl, inr}
 use Rattle.std.specs.Str.{bytes_eq}
-use Rattle.channel_calls.proofs.Names.{same_bytes, bytes_eq_self}
-use Rattle.channel_calls.specs.Flows.{is_among}
-use Rattle.channel_calls.specs.declared.entry.Entry.{Entry}
-use Rattle.channel_model.specs.Rules.{people}
-use Rattle.funding_value.specs.Parts.{channels_of_virtual, own_ledger}
-use Rattle.funding_value.specs.declared.plan.Goal.{Goal}
-use Rattle.funding_value.specs.declared.plan.Virtual.{Virtual}
-use Rattle.net_model.specs.Journals.{Line}
-use Rattle.chain_laws.proofs.Tests.{clash}
-use Rattle.funding_value.specs.Known.{FactsOf}
-use Rattle.node_model.specs.Places.{Told, lines_of}
-use Rattle.node_model.specs.Playing.{Signing}
-use Rattle.node_share_laws.specs.Laws.{IsFront}
+use Rattle.call_history.proofs.Names.{same_bytes, bytes_eq_self}
+use Rattle.call_history.specs.Flows.{is_among}
+use Rattle.call_history.specs.declared.entry.Entry.{Entry}
+use Rattle.channel_values.specs.Rules.{people}
+use Rattle.funding_plans.specs.Parts.{channels_of_virtual, own_ledger}
+use Rattle.funding_plans.specs.declared.plan.Goal.{Goal}
+use Rattle.funding_plans.specs.declared.plan.Virtual.{Virtual}
+use Rattle.channel_safety.specs.Journals.{Line}
+use Rattle.channel_safety.proofs.Tests.{clash}
+use Rattle.funding_plans.specs.Known.{FactsOf}
+use Rattle.channel_node.specs.Places.{Told, lines_of}
+use Rattle.channel_node.specs.Playing.{Signing}
+use Rattle.node_guarantees.specs.NodeShareLaws.{IsFront}
 use Rattle.fairness_laws.proofs.Plan.Names.{in-among}
 use Rattle.fairness_laws.specs.PlanSettings.{IsFair}
 use Rattle.fairness_laws.specs.PlanParts.{JointIs, EndIs, MiddleIs}
 use Rattle.fairness_laws.proofs.Seat.Past.{as-many, one-fixed}
-use Rattle.outcome_targets.specs.declared.child.Child.{Child}
-use Rattle.outcome_targets.specs.declared.terms.Terms.{Terms}
-use Rattle.stage_rules.specs.Seats.{Seat}
-use Rattle.support_chain.specs.Steps.{persons}
+use Rattle.funding_plans.specs.declared.child.Child.{Child}
+use Rattle.funding_plans.specs.declared.terms.Terms.{Terms}
+use Rattle.funding_plans.specs.Seats.{Seat}
+use Rattle.support_rules.specs.Steps.{persons}
 
 -- ---- the channels of a virtual one
 

@@ -2,37 +2,37 @@
 use Rattle.std.proofs.Common.{◌≡◌, ℕ, ◌≤◌, Bool, true, false, cond, ◌&&◌, ◌||◌, List, [], ◌∷◌, length, refl, sym, ◌∙◌, ap, subst}
 use Rattle.std.specs.Prelude.{◌==◌, nat_le, nat_lt, Option, Some, None, map, slice_index_or}
 use Rattle.std.specs.Option.{option_map}
-use Rattle.nitro_bytes.specs.Parts.{FixedParts, StateParts}
-use Rattle.nitro_bytes.specs.declared.value.AssetOutcome.{AssetOutcome}
-use Rattle.nitro_bytes.specs.declared.value.Dest.{Dest}
-use Rattle.nitro_bytes.specs.declared.value.Dest.TheVariants.{Person, Channel}
-use Rattle.chain_laws.proofs.Tests.{some-eq, none-eq, clash, and-left, and-right, le-true}
-use Rattle.channel_calls.specs.declared.entry.Entry.{Entry}
-use Rattle.channel_calls.specs.declared.held_chain.HeldChain.{HeldChain}
-use Rattle.channel_model.specs.Amounts.{amt, has}
-use Rattle.channel_model.specs.Rules.{newest}
+use Rattle.channel_values.specs.Parts.{FixedParts, StateParts}
+use Rattle.channel_values.specs.declared.value.AssetOutcome.{AssetOutcome}
+use Rattle.channel_values.specs.declared.value.Dest.{Dest}
+use Rattle.channel_values.specs.declared.value.Dest.TheVariants.{Person, Channel}
+use Rattle.channel_safety.proofs.Tests.{some-eq, none-eq, clash, and-left, and-right, le-true}
+use Rattle.call_history.specs.declared.entry.Entry.{Entry}
+use Rattle.call_history.specs.declared.held_chain.HeldChain.{HeldChain}
+use Rattle.channel_values.specs.Amounts.{amt, has}
+use Rattle.channel_values.specs.Rules.{newest}
 use Rattle.channel_store.specs.Keeping.{is_held}
-use Rattle.funding_value.specs.Known.{FactsOf}
-use Rattle.funding_value.specs.Shapes.{items_of, items_in}
-use Rattle.net_model.specs.Journals.{In}
-use Rattle.node_model.specs.Minds.{facts_of}
-use Rattle.node_model.specs.Places.{Told, lines_of, mind_at}
-use Rattle.node_model.specs.Playing.{Signing}
-use Rattle.node_tables.specs.Fitting.{stake, is_running_end, lends_virtual, either_lends}
-use Rattle.node_tables.specs.declared.stake.Stake.{Stake}
-use Rattle.node_tables.specs.Ledgers.{covers, affords_after, affords_in, is_between, is_running_root, lends}
+use Rattle.funding_plans.specs.Known.{FactsOf}
+use Rattle.funding_plans.specs.Shapes.{items_of, items_in}
+use Rattle.channel_safety.specs.Journals.{In}
+use Rattle.channel_node.specs.Minds.{facts_of}
+use Rattle.channel_node.specs.Places.{Told, lines_of, mind_at}
+use Rattle.channel_node.specs.Playing.{Signing}
+use Rattle.stage_tables.specs.Fitting.{stake, is_running_end, lends_virtual, either_lends}
+use Rattle.stage_tables.specs.declared.stake.Stake.{Stake}
+use Rattle.stage_tables.specs.Ledgers.{covers, affords_after, affords_in, is_between, is_running_root, lends}
 use Rattle.fairness_laws.proofs.Apps.{no-payments}
 use Rattle.fairness_laws.proofs.Outcomes.{only}
 use Rattle.fairness_laws.specs.PlanLaws.{PartsAreKnown}
 use Rattle.fairness_laws.specs.PlanSeats.{SeatIs, seat_of}
 use Rattle.fairness_laws.specs.PlanSettings.{IsFair}
-use Rattle.share_model.specs.Places.{channels, last_made, outcomes_of}
-use Rattle.stage_rules.specs.Gathered.{place_in, chain_in, top_of}
-use Rattle.stage_rules.specs.Seats.{Seat}
-use Rattle.support_chain.specs.Real.{real}
-use Rattle.support_chain.specs.Steps.{persons}
-use Rattle.node_model.specs.Openings.{shared}
-use Rattle.outcome_targets.specs.declared.child.Child.{Child}
+use Rattle.share_laws.specs.Places.{channels, last_made, outcomes_of}
+use Rattle.funding_plans.specs.Gathered.{place_in, chain_in, top_of}
+use Rattle.funding_plans.specs.Seats.{Seat}
+use Rattle.support_rules.specs.Real.{real}
+use Rattle.support_rules.specs.Steps.{persons}
+use Rattle.channel_node.specs.Openings.{shared}
+use Rattle.funding_plans.specs.declared.child.Child.{Child}
 use Rattle.fairness_laws.specs.LedgerMoving.{HaveItems, Afford}
 use Rattle.fairness_laws.proofs.Plan.Holding.{Holds, chain-holds, seat-is}
 use Rattle.fairness_laws.proofs.Plan.Known.{OfLedger}

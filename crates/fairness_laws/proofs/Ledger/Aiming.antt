@@ -1,14 +1,14 @@
 -- What is wanted on a ledger of two people moves it.
 use Rattle.std.proofs.Common.{◌≡◌, ℕ, Bool, true, false, cond, ◌&&◌, List, length, refl, subst}
 use Rattle.std.specs.Prelude.{Option, Some, None}
-use Rattle.nitro_bytes.specs.Outcomes.{IsOutcome}
-use Rattle.nitro_bytes.specs.Parts.{StateParts}
-use Rattle.nitro_bytes.specs.declared.value.AssetOutcome.{AssetOutcome}
-use Rattle.app_rules.specs.Toward.{wanted_toward}
-use Rattle.chain_laws.proofs.Tests.{none-eq, and-right}
-use Rattle.outcome_targets.specs.Limits.{is_valid}
-use Rattle.outcome_targets.specs.Outcomes as outcomes
-use Rattle.stage_rules.specs.Seats.{Seat, is_turn, toward, toward_after, up_in, up_after, down_in, down_after}
+use Rattle.channel_values.specs.Outcomes.{IsOutcome}
+use Rattle.channel_values.specs.Parts.{StateParts}
+use Rattle.channel_values.specs.declared.value.AssetOutcome.{AssetOutcome}
+use Rattle.support_rules.specs.Toward.{wanted_toward}
+use Rattle.channel_safety.proofs.Tests.{none-eq, and-right}
+use Rattle.funding_plans.specs.Limits.{is_valid}
+use Rattle.funding_plans.specs.Outcomes as outcomes
+use Rattle.funding_plans.specs.Seats.{Seat, is_turn, toward, toward_after, up_in, up_after, down_in, down_after}
 use Rattle.fairness_laws.specs.LedgerKeeping.{Moves, up, down, Follows}
 use Rattle.fairness_laws.specs.LedgerLending.{Lent}
 use Rattle.fairness_laws.specs.LedgerWanting.{WantsOn, WantsMove}

@@ -3,28 +3,28 @@
 use Rattle.std.proofs.Common.{◌≡◌, ℕ, ◌+◌, true, false, List, [], ◌∷◌, ◌⊎◌, inl, inr, refl, sym, ◌∙◌, ap, subst, arith}
 use Rattle.std.specs.Prelude.{Some, None}
 use Rattle.std.specs.Option.{option_map}
-use Rattle.nitro_bytes.specs.Outcomes.{total}
-use Rattle.nitro_bytes.specs.Parts.{FixedParts, StateParts}
-use Rattle.chain_laws.proofs.Tests.{some-eq, none-eq, cond-false}
-use Rattle.channel_calls.specs.declared.entry.Entry.{Entry}
-use Rattle.funding_value.specs.declared.plan.Goal.{Goal}
-use Rattle.funding_value.specs.declared.plan.Part.{Part}
-use Rattle.funding_value.specs.declared.plan.Part.TheVariants as kinds
-use Rattle.funding_value.specs.declared.plan.Virtual.{Virtual}
-use Rattle.net_model.specs.Journals.{In, is_watched}
-use Rattle.node_laws.proofs.Places.{mind-entry, mind-watched}
-use Rattle.node_model.specs.Minds.{Mind, facts_of}
-use Rattle.node_model.specs.Openings.{shared}
-use Rattle.node_model.specs.Places.{Told, lines_of, mind_at}
-use Rattle.node_model.specs.Playing.{Signing}
-use Rattle.node_share_laws.proofs.Telling.{places_tell_shares}
-use Rattle.node_share_laws.specs.Orders.{orders_of}
-use Rattle.node_tables.specs.Stages.{stages}
-use Rattle.share_model.specs.Places.{last_made, plan}
-use Rattle.signing_laws.proofs.Counts.{part-once}
-use Rattle.support_chain.specs.Real.{real}
-use Rattle.wish_laws.proofs.Over.{AtEvent, IsKept, looked}
-use Rattle.wish_laws.proofs.Planned.{own-among}
+use Rattle.channel_values.specs.Outcomes.{total}
+use Rattle.channel_values.specs.Parts.{FixedParts, StateParts}
+use Rattle.channel_safety.proofs.Tests.{some-eq, none-eq, cond-false}
+use Rattle.call_history.specs.declared.entry.Entry.{Entry}
+use Rattle.funding_plans.specs.declared.plan.Goal.{Goal}
+use Rattle.funding_plans.specs.declared.plan.Part.{Part}
+use Rattle.funding_plans.specs.declared.plan.Part.TheVariants as kinds
+use Rattle.funding_plans.specs.declared.plan.Virtual.{Virtual}
+use Rattle.channel_safety.specs.Journals.{In, is_watched}
+use Rattle.channel_node.proofs.Places.{mind-entry, mind-watched}
+use Rattle.channel_node.specs.Minds.{Mind, facts_of}
+use Rattle.channel_node.specs.Openings.{shared}
+use Rattle.channel_node.specs.Places.{Told, lines_of, mind_at}
+use Rattle.channel_node.specs.Playing.{Signing}
+use Rattle.node_guarantees.proofs.Telling.{places_tell_shares}
+use Rattle.node_guarantees.specs.Orders.{orders_of}
+use Rattle.stage_tables.specs.Stages.{stages}
+use Rattle.share_laws.specs.Places.{last_made, plan}
+use Rattle.share_laws.proofs.Counts.{part-once}
+use Rattle.support_rules.specs.Real.{real}
+use Rattle.fairness_laws.proofs.Over.{AtEvent, IsKept, looked}
+use Rattle.fairness_laws.proofs.Planned.{own-among}
 use Rattle.fairness_laws.proofs.EventPlaces.{at-before, before-event, before-entry}
 use Rattle.fairness_laws.proofs.Ledger.AtPlaces.{steps_keep, none-signed, own-looked, begins, looks}
 use Rattle.fairness_laws.proofs.Ledger.Closes.{ShutIn, ShutAt, same-plan, event-shut}

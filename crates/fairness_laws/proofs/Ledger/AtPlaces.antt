@@ -3,32 +3,32 @@ use Rattle.std.proofs.Common.{◌≡◌, ℕ, Bool, true, false, cond, ◌⊎◌
 use Rattle.std.specs.Prelude.{Option, Some, None}
 use Rattle.std.specs.Option.{option_map, option_or}
 use Rattle.std.specs.Str.{bytes_eq}
-use Rattle.nitro_bytes.specs.Parts.{StateParts}
-use Rattle.nitro_bytes.specs.declared.chain.Signed.{Signed}
-use Rattle.nitro_bytes.specs.declared.value.AssetOutcome.{AssetOutcome}
-use Rattle.nitro_bytes.specs.declared.value.Dest.TheVariants.{Channel}
-use Rattle.chain_laws.proofs.Tests.{some-eq, none-eq, clash}
-use Rattle.channel_calls.proofs.Names.{same_bytes}
-use Rattle.channel_calls.specs.declared.entry.Entry.{Entry}
-use Rattle.channel_model.specs.Amounts.{has}
-use Rattle.funding_value.specs.Shapes.{items_in}
-use Rattle.funding_value.specs.declared.plan.Part.{Part}
-use Rattle.net_model.specs.Journals.{In, is_watched}
-use Rattle.node_laws.proofs.Places.{mind-watched}
-use Rattle.node_model.specs.Minds.{Mind, facts_of}
-use Rattle.node_model.specs.Places.{Told, lines_of, mind_at}
-use Rattle.node_model.specs.Playing.{Signing}
-use Rattle.node_share_laws.proofs.Telling.{places_tell_shares}
-use Rattle.node_tables.specs.Stages.{stages}
+use Rattle.channel_values.specs.Parts.{StateParts}
+use Rattle.channel_values.specs.declared.chain.Signed.{Signed}
+use Rattle.channel_values.specs.declared.value.AssetOutcome.{AssetOutcome}
+use Rattle.channel_values.specs.declared.value.Dest.TheVariants.{Channel}
+use Rattle.channel_safety.proofs.Tests.{some-eq, none-eq, clash}
+use Rattle.call_history.proofs.Names.{same_bytes}
+use Rattle.call_history.specs.declared.entry.Entry.{Entry}
+use Rattle.channel_values.specs.Amounts.{has}
+use Rattle.funding_plans.specs.Shapes.{items_in}
+use Rattle.funding_plans.specs.declared.plan.Part.{Part}
+use Rattle.channel_safety.specs.Journals.{In, is_watched}
+use Rattle.channel_node.proofs.Places.{mind-watched}
+use Rattle.channel_node.specs.Minds.{Mind, facts_of}
+use Rattle.channel_node.specs.Places.{Told, lines_of, mind_at}
+use Rattle.channel_node.specs.Playing.{Signing}
+use Rattle.node_guarantees.proofs.Telling.{places_tell_shares}
+use Rattle.stage_tables.specs.Stages.{stages}
 use Rattle.fairness_laws.proofs.Truths.{either}
 use Rattle.fairness_laws.proofs.Outcomes.{only}
 use Rattle.fairness_laws.proofs.Plan.Places.{kept-there}
 use Rattle.fairness_laws.proofs.EventPlaces.{before-event, before-entry, watched-made}
 use Rattle.fairness_laws.specs.PaymentLaws.{At}
 use Rattle.fairness_laws.specs.PlanSettings.{IsFair}
-use Rattle.share_model.specs.Places.{outcomes_of, last_made}
-use Rattle.support_chain.specs.Real.{real}
-use Rattle.wish_laws.proofs.Over.{AtEvent, IsKept, looked}
+use Rattle.share_laws.specs.Places.{outcomes_of, last_made}
+use Rattle.support_rules.specs.Real.{real}
+use Rattle.fairness_laws.proofs.Over.{AtEvent, IsKept, looked}
 use Rattle.fairness_laws.specs.LedgerKeeping.{Lends, LedgerKeeps, PendingOn, AllKeep}
 use Rattle.fairness_laws.specs.LedgerLending.{Lent, lent}
 use Rattle.fairness_laws.specs.LedgerPlaces.{is_ledger, own_at, parts_at, lends_at, KeepAt, drifts, opens, closes, moves, starts, StepsKeep, StepsAtPlaces, LedgersKeepAtPlaces}

@@ -3,49 +3,49 @@ use Rattle.std.proofs.Common.{◌≡◌, ℕ, Bool, true, false, cond, ◌&&◌,
 use Rattle.std.specs.Str.{bytes_eq}
 use Rattle.std.specs.Prelude.{◌==◌, Option, Some, None, map}
 use Rattle.std.specs.List.{list_any, slice_get}
-use Rattle.nitro_bytes.specs.Parts.{StateParts}
-use Rattle.chain_laws.proofs.Lists.{In-append_cases}
-use Rattle.chain_laws.proofs.Tests.{some-eq, eqb-true, clash, and-left, and-right}
-use Rattle.channel_calls.proofs.Names.{same_bytes}
-use Rattle.channel_calls.specs.Flows.{is_among}
-use Rattle.channel_calls.specs.declared.entry.Entry.{Entry}
-use Rattle.channel_calls.specs.declared.event.Deed.{Deed}
-use Rattle.channel_calls.specs.declared.event.Deed.TheVariants as deeds
-use Rattle.channel_calls.specs.declared.event.NodeRefusal.TheVariants.{NotWanted}
-use Rattle.funding_value.specs.Known.{FactsOf}
-use Rattle.funding_value.specs.Parts.{own_channel, channels_of, ledgers_of, running, closed as closed-stage}
-use Rattle.funding_value.specs.declared.plan.Goal.{Goal}
-use Rattle.funding_value.specs.declared.plan.Part.{Part}
-use Rattle.funding_value.specs.declared.plan.Part.TheVariants as kinds
-use Rattle.funding_value.specs.declared.plan.Virtual.{Virtual}
+use Rattle.channel_values.specs.Parts.{StateParts}
+use Rattle.channel_safety.proofs.Lists.{In-append_cases}
+use Rattle.channel_safety.proofs.Tests.{some-eq, eqb-true, clash, and-left, and-right}
+use Rattle.call_history.proofs.Names.{same_bytes}
+use Rattle.call_history.specs.Flows.{is_among}
+use Rattle.call_history.specs.declared.entry.Entry.{Entry}
+use Rattle.call_history.specs.declared.event.Deed.{Deed}
+use Rattle.call_history.specs.declared.event.Deed.TheVariants as deeds
+use Rattle.call_history.specs.declared.event.NodeRefusal.TheVariants.{NotWanted}
+use Rattle.funding_plans.specs.Known.{FactsOf}
+use Rattle.funding_plans.specs.Parts.{own_channel, channels_of, ledgers_of, running, closed as closed-stage}
+use Rattle.funding_plans.specs.declared.plan.Goal.{Goal}
+use Rattle.funding_plans.specs.declared.plan.Part.{Part}
+use Rattle.funding_plans.specs.declared.plan.Part.TheVariants as kinds
+use Rattle.funding_plans.specs.declared.plan.Virtual.{Virtual}
 use Rattle.ledger_channel.specs.OnLedgers.{Funded, on_ledger_rows}
 use Rattle.ledger_channel.specs.Roots.{Direct, root_rows}
 use Rattle.ledger_channel.specs.Stages.{stage_on_ledger, stage_of_root}
-use Rattle.net_model.specs.Journals.{In, is_followed}
-use Rattle.net_party.specs.declared.command.Command.{Command}
-use Rattle.net_party.specs.declared.command.Command.TheVariants as commands
-use Rattle.node_laws.proofs.Allowing.{holds_not}
-use Rattle.node_laws.proofs.Bridging.{plays-at}
-use Rattle.node_laws.proofs.Places.{mind-event}
-use Rattle.node_model.specs.Minds.{Mind, facts_of, place_with, close_if}
-use Rattle.node_model.specs.Openings.{takes_part, virtual, parts_of, goals_of}
-use Rattle.node_model.specs.Places.{Told, mind_at}
-use Rattle.node_model.specs.Playing.{Signing, Plays, pending, signings, Allowed}
-use Rattle.node_model.specs.Refusing.{open_refusal, close_part, part_with}
-use Rattle.node_tables.specs.Fitting.{stake, runs_at_end, is_running_end, lends_virtual, either_lends}
-use Rattle.node_tables.specs.Ledgers.{is_root_of, is_running_root, is_between, affords_in, lends}
-use Rattle.node_tables.specs.declared.stake.Stake.{Stake}
-use Rattle.node_tables.specs.Stages.{stages}
-use Rattle.stage_rules.specs.Gathered.{goal_in, place_in, chain_in}
-use Rattle.stage_rules.specs.Rows.{stage_in}
-use Rattle.store_laws.proofs.Places.{found_at_place}
-use Rattle.support_chain.specs.Real.{real}
-use Rattle.support_chain.specs.Steps.{persons}
+use Rattle.channel_safety.specs.Journals.{In, is_followed}
+use Rattle.network.specs.declared.command.Command.{Command}
+use Rattle.network.specs.declared.command.Command.TheVariants as commands
+use Rattle.channel_node.proofs.Allowing.{holds_not}
+use Rattle.channel_node.proofs.Bridging.{plays-at}
+use Rattle.channel_node.proofs.Places.{mind-event}
+use Rattle.channel_node.specs.Minds.{Mind, facts_of, place_with, close_if}
+use Rattle.channel_node.specs.Openings.{takes_part, virtual, parts_of, goals_of}
+use Rattle.channel_node.specs.Places.{Told, mind_at}
+use Rattle.channel_node.specs.Playing.{Signing, Plays, pending, signings, Allowed}
+use Rattle.channel_node.specs.Refusing.{open_refusal, close_part, part_with}
+use Rattle.stage_tables.specs.Fitting.{stake, runs_at_end, is_running_end, lends_virtual, either_lends}
+use Rattle.stage_tables.specs.Ledgers.{is_root_of, is_running_root, is_between, affords_in, lends}
+use Rattle.stage_tables.specs.declared.stake.Stake.{Stake}
+use Rattle.stage_tables.specs.Stages.{stages}
+use Rattle.funding_plans.specs.Gathered.{goal_in, place_in, chain_in}
+use Rattle.funding_plans.specs.Rows.{stage_in}
+use Rattle.channel_store.proofs.Places.{found_at_place}
+use Rattle.support_rules.specs.Real.{real}
+use Rattle.support_rules.specs.Steps.{persons}
 use Rattle.virtual_channel.specs.Ends.{End, end_rows}
 use Rattle.virtual_channel.specs.Middles.{Middle, middle_rows}
 use Rattle.virtual_channel.specs.Stages.{stage_of_end, stage_of_middle}
-use Rattle.wish_laws.proofs.Closing.{FoundGoal, goal-found}
-use Rattle.wish_laws.proofs.Planned.{Change, stays, opens, closes, event-changes}
+use Rattle.fairness_laws.proofs.Closing.{FoundGoal, goal-found}
+use Rattle.fairness_laws.proofs.Planned.{Change, stays, opens, closes, event-changes}
 use Rattle.fairness_laws.specs.JointKeeping.{EndsKeep, MiddlesKeep}
 use Rattle.fairness_laws.specs.LedgerLending.{Lent, lent}
 use Rattle.fairness_laws.specs.LedgerPlaces.{own_at, parts_at, lends_at, KeepAt, StepAt}

@@ -4,42 +4,42 @@ use Rattle.std.proofs.lemmas.Bool.Decides.{nat_tests}
 use Rattle.std.specs.Prelude.{◌==◌, nat_lt, Option, Some, None, map}
 use Rattle.std.specs.List.{find, position_or_len, slice_get}
 use Rattle.std.specs.Option.{option_map}
-use Rattle.nitro_bytes.specs.Parts.{FixedParts, StateParts}
-use Rattle.nitro_bytes.specs.declared.value.AssetOutcome.{AssetOutcome}
-use Rattle.chain_laws.proofs.Tests.{some-eq, none-eq, clash, eqb-true}
-use Rattle.channel_calls.proofs.Names.{same_bytes}
-use Rattle.channel_calls.specs.Flows.{is_among}
-use Rattle.channel_calls.specs.declared.entry.Entry.{Entry}
-use Rattle.channel_calls.specs.declared.event.NodeRefusal.TheVariants.{NotWanted}
+use Rattle.channel_values.specs.Parts.{FixedParts, StateParts}
+use Rattle.channel_values.specs.declared.value.AssetOutcome.{AssetOutcome}
+use Rattle.channel_safety.proofs.Tests.{some-eq, none-eq, clash, eqb-true}
+use Rattle.call_history.proofs.Names.{same_bytes}
+use Rattle.call_history.specs.Flows.{is_among}
+use Rattle.call_history.specs.declared.entry.Entry.{Entry}
+use Rattle.call_history.specs.declared.event.NodeRefusal.TheVariants.{NotWanted}
 use Rattle.channel_store.specs.Keeping.{is_held}
-use Rattle.funding_value.specs.Parts.{own_channel, channels_of, own_ledger, running}
-use Rattle.funding_value.specs.declared.plan.Goal.{Goal}
-use Rattle.funding_value.specs.declared.plan.Part.{Part}
-use Rattle.funding_value.specs.declared.plan.Part.TheVariants as kinds
-use Rattle.funding_value.specs.declared.plan.Virtual.{Virtual}
+use Rattle.funding_plans.specs.Parts.{own_channel, channels_of, own_ledger, running}
+use Rattle.funding_plans.specs.declared.plan.Goal.{Goal}
+use Rattle.funding_plans.specs.declared.plan.Part.{Part}
+use Rattle.funding_plans.specs.declared.plan.Part.TheVariants as kinds
+use Rattle.funding_plans.specs.declared.plan.Virtual.{Virtual}
 use Rattle.ledger_channel.specs.OnLedgers.{Funded, on_ledger_rows}
 use Rattle.ledger_channel.specs.Stages.{stage_on_ledger, funded_in}
-use Rattle.net_model.specs.Journals.{In, made_in}
-use Rattle.node_laws.proofs.Allowing.{holds_not}
-use Rattle.node_model.specs.Minds.{Mind, facts_of, place_with, close_if}
-use Rattle.node_model.specs.Places.{Told, line_of, lines_of, mind_at}
-use Rattle.node_model.specs.Playing.{Signing}
-use Rattle.node_model.specs.Refusing.{unfinished, unfinished_part, part_with, close_part}
-use Rattle.node_tables.specs.Stages.{stages}
-use Rattle.outcome_targets.specs.Outcomes.{names}
-use Rattle.outcome_targets.specs.declared.child.Child.{Child}
-use Rattle.plan_stages.specs.Asked.{is_unfinished, is_unfinished_at, is_closing}
-use Rattle.share_model.specs.Places.{last_made}
-use Rattle.stage_rules.specs.Gathered.{goal_at, goal_in}
-use Rattle.stage_rules.specs.Rows.{stage_in}
-use Rattle.stage_rules.specs.Seats.{Seat, state_is, holds, has_signed_past, is_down}
-use Rattle.store_laws.proofs.Places.{found_at_place, found_passes}
-use Rattle.support_chain.specs.Real.{real}
-use Rattle.support_chain.specs.Steps.{persons}
+use Rattle.channel_safety.specs.Journals.{In, made_in}
+use Rattle.channel_node.proofs.Allowing.{holds_not}
+use Rattle.channel_node.specs.Minds.{Mind, facts_of, place_with, close_if}
+use Rattle.channel_node.specs.Places.{Told, line_of, lines_of, mind_at}
+use Rattle.channel_node.specs.Playing.{Signing}
+use Rattle.channel_node.specs.Refusing.{unfinished, unfinished_part, part_with, close_part}
+use Rattle.stage_tables.specs.Stages.{stages}
+use Rattle.funding_plans.specs.Outcomes.{names}
+use Rattle.funding_plans.specs.declared.child.Child.{Child}
+use Rattle.stage_tables.specs.Asked.{is_unfinished, is_unfinished_at, is_closing}
+use Rattle.share_laws.specs.Places.{last_made}
+use Rattle.funding_plans.specs.Gathered.{goal_at, goal_in}
+use Rattle.funding_plans.specs.Rows.{stage_in}
+use Rattle.funding_plans.specs.Seats.{Seat, state_is, holds, has_signed_past, is_down}
+use Rattle.channel_store.proofs.Places.{found_at_place, found_passes}
+use Rattle.support_rules.specs.Real.{real}
+use Rattle.support_rules.specs.Steps.{persons}
 use Rattle.virtual_channel.specs.Ends.{End, end_rows}
 use Rattle.virtual_channel.specs.Middles.{Middle, middle_rows}
 use Rattle.virtual_channel.specs.Stages.{stage_of_end, stage_of_middle, end_in, middle_in}
-use Rattle.wish_laws.proofs.Planned.{own-among}
+use Rattle.fairness_laws.proofs.Planned.{own-among}
 use Rattle.fairness_laws.specs.JointKeeping.{EndsKeep, MiddlesKeep}
 use Rattle.fairness_laws.proofs.Truths.{both-ways, untrue}
 use Rattle.fairness_laws.proofs.Seat.Past.{two-people, own-is, past-before}
@@ -53,7 +53,7 @@ use Rattle.fairness_laws.specs.PlanSeats.{SeatIs}
 use Rattle.fairness_laws.specs.PlanSettings.{IsFair}
 use Rattle.fairness_laws.proofs.Ledger.Drifting.{child-same, up-stays, up-before, done-same, falls-same}
 use Rattle.fairness_laws.proofs.Plan.Goals.{about, goal-closes}
-use Rattle.wish_laws.proofs.Closing.{find-in}
+use Rattle.fairness_laws.proofs.Closing.{find-in}
 use Rattle.fairness_laws.proofs.Accepted.{Closed, closed}
 use Rattle.fairness_laws.proofs.Plan.Asked.{one-of-parts}
 use Rattle.fairness_laws.proofs.Live.{each-none}

@@ -1,28 +1,28 @@
 -- Each event and each entry of a node is a step of its ledgers, so they back what stands on them at each place.
 use Rattle.std.proofs.Common.{◌≡◌, ℕ, true, List, ◌∷◌, refl, sym, ◌∙◌, ap, subst}
 use Rattle.std.specs.Prelude.{Option, Some, None, Result, Ok, Err}
-use Rattle.nitro_bytes.specs.declared.fault.ByteFault.{ByteFault}
-use Rattle.chain_laws.proofs.Tests.{clash, none-eq}
-use Rattle.channel_calls.specs.Reading.{message_of}
-use Rattle.channel_calls.specs.Spelling.{Message}
-use Rattle.channel_calls.specs.declared.entry.Entry.{Entry}
-use Rattle.channel_calls.specs.declared.event.Deed.{Deed}
-use Rattle.channel_calls.specs.declared.event.Deed.TheVariants as deeds
-use Rattle.channel_calls.specs.declared.event.NodeRefusal.{NodeRefusal}
-use Rattle.net_model.specs.Journals.{made_in, is_watched}
-use Rattle.net_party.specs.declared.command.Command.{Command}
-use Rattle.net_party.specs.declared.command.Command.TheVariants as commands
-use Rattle.node_laws.proofs.Bridging.{plays-at}
-use Rattle.nitro_bytes.specs.Parts.{StateParts}
-use Rattle.node_model.specs.Minds.{Mind, facts_of, did, noted_message}
-use Rattle.node_model.specs.Places.{Told, mind_at}
-use Rattle.node_model.specs.Playing.{Signing, Plays, pending, signings, Allowed}
-use Rattle.node_tables.specs.Stages.{stages}
+use Rattle.channel_values.specs.declared.fault.ByteFault.{ByteFault}
+use Rattle.channel_safety.proofs.Tests.{clash, none-eq}
+use Rattle.call_history.specs.Reading.{message_of}
+use Rattle.call_history.specs.Spelling.{Message}
+use Rattle.call_history.specs.declared.entry.Entry.{Entry}
+use Rattle.call_history.specs.declared.event.Deed.{Deed}
+use Rattle.call_history.specs.declared.event.Deed.TheVariants as deeds
+use Rattle.call_history.specs.declared.event.NodeRefusal.{NodeRefusal}
+use Rattle.channel_safety.specs.Journals.{made_in, is_watched}
+use Rattle.network.specs.declared.command.Command.{Command}
+use Rattle.network.specs.declared.command.Command.TheVariants as commands
+use Rattle.channel_node.proofs.Bridging.{plays-at}
+use Rattle.channel_values.specs.Parts.{StateParts}
+use Rattle.channel_node.specs.Minds.{Mind, facts_of, did, noted_message}
+use Rattle.channel_node.specs.Places.{Told, mind_at}
+use Rattle.channel_node.specs.Playing.{Signing, Plays, pending, signings, Allowed}
+use Rattle.stage_tables.specs.Stages.{stages}
 use Rattle.fairness_laws.specs.JointKeeping.{EndsKeep, MiddlesKeep}
 use Rattle.fairness_laws.specs.PaymentLaws.{ActsNext}
 use Rattle.fairness_laws.specs.PlanLaws.{PartsAreKnown, PlansAreWhole}
 use Rattle.fairness_laws.specs.PlanSettings.{IsFair}
-use Rattle.support_chain.specs.Real.{real}
+use Rattle.support_rules.specs.Real.{real}
 use Rattle.fairness_laws.specs.LedgerEvents.{SetUpsStart}
 use Rattle.fairness_laws.specs.LedgerLaws.{GivesBack}
 use Rattle.fairness_laws.specs.LedgerPlaces.{is_ledger, own_at, KeepAt, StepAt}

@@ -1,23 +1,23 @@
 -- What a part wants on a ledger, up or down, moves it by what the part has there.
 use Rattle.std.proofs.Common.{◌≡◌, ℕ, ◌+◌, ◌≤◌, Bool, true, false, cond, List, ◌⊎◌, inl, inr, refl, sym, ◌∙◌, ap, subst}
 use Rattle.std.specs.Prelude.{Option, Some}
-use Rattle.nitro_bytes.specs.Outcomes.{IsOutcome}
-use Rattle.nitro_bytes.specs.Parts.{StateParts}
-use Rattle.nitro_bytes.specs.declared.value.AssetOutcome.{AssetOutcome}
-use Rattle.nitro_bytes.specs.declared.value.Dest.TheVariants.{Person}
-use Rattle.chain_laws.proofs.Tests.{some-eq, clash}
-use Rattle.channel_calls.specs.History.{mode}
-use Rattle.channel_calls.specs.declared.entry.Entry.{Entry}
-use Rattle.channel_model.specs.Amounts.{amt}
-use Rattle.channel_name.specs.Digests.{name_of_person}
-use Rattle.deadline_clock.specs.Mode.{is_final}
-use Rattle.funding_value.specs.Shapes.{items_in}
-use Rattle.funding_value.specs.declared.plan.Part.{Part}
-use Rattle.net_model.specs.Journals.{In, Line}
-use Rattle.node_model.specs.Minds.{facts_of}
-use Rattle.node_model.specs.Places.{Told, lines_of, mind_at}
-use Rattle.node_model.specs.Playing.{Signing}
-use Rattle.node_share_laws.specs.Orders.{orders_of}
+use Rattle.channel_values.specs.Outcomes.{IsOutcome}
+use Rattle.channel_values.specs.Parts.{StateParts}
+use Rattle.channel_values.specs.declared.value.AssetOutcome.{AssetOutcome}
+use Rattle.channel_values.specs.declared.value.Dest.TheVariants.{Person}
+use Rattle.channel_safety.proofs.Tests.{some-eq, clash}
+use Rattle.call_history.specs.History.{mode}
+use Rattle.call_history.specs.declared.entry.Entry.{Entry}
+use Rattle.channel_values.specs.Amounts.{amt}
+use Rattle.channel_values.specs.Digests.{name_of_person}
+use Rattle.call_history.specs.Mode.{is_final}
+use Rattle.funding_plans.specs.Shapes.{items_in}
+use Rattle.funding_plans.specs.declared.plan.Part.{Part}
+use Rattle.channel_safety.specs.Journals.{In, Line}
+use Rattle.channel_node.specs.Minds.{facts_of}
+use Rattle.channel_node.specs.Places.{Told, lines_of, mind_at}
+use Rattle.channel_node.specs.Playing.{Signing}
+use Rattle.node_guarantees.specs.Orders.{orders_of}
 use Rattle.fairness_laws.proofs.Apps.{no-payments}
 use Rattle.fairness_laws.proofs.Ledger.Moving.{up_is_up, down_is_up_before, up_is_outcome, down_is_outcome}
 use Rattle.fairness_laws.proofs.Signing.{sits, planned-there}
@@ -31,17 +31,17 @@ use Rattle.fairness_laws.specs.PaymentLaws.{At}
 use Rattle.fairness_laws.specs.PlanParts.{LedgerIs}
 use Rattle.fairness_laws.specs.PlanSettings.{IsFair}
 use Rattle.fairness_laws.specs.SeatSitting.{Sits}
-use Rattle.outcome_targets.specs.Limits.{is_valid}
-use Rattle.outcome_targets.specs.Outcomes as outcomes
-use Rattle.outcome_targets.specs.Outcomes.{names, up, down}
-use Rattle.outcome_targets.specs.declared.child.Child.{Child}
-use Rattle.share_model.specs.Places.{Order, plan}
-use Rattle.signing_laws.specs.Moves.{SetsAside}
-use Rattle.signing_laws.specs.Settled.{Has}
-use Rattle.signing_laws.specs.Wanted.{IsTarget}
-use Rattle.signing_laws.specs.Wanted as wanted
-use Rattle.stage_rules.specs.Seats.{up_in, up_after, down_in, down_after}
-use Rattle.support_chain.specs.Real.{real}
+use Rattle.funding_plans.specs.Limits.{is_valid}
+use Rattle.funding_plans.specs.Outcomes as outcomes
+use Rattle.funding_plans.specs.Outcomes.{names, up, down}
+use Rattle.funding_plans.specs.declared.child.Child.{Child}
+use Rattle.share_laws.specs.Places.{Order, plan}
+use Rattle.share_laws.specs.Moves.{SetsAside}
+use Rattle.share_laws.specs.Settled.{Has}
+use Rattle.share_laws.specs.Wanted.{IsTarget}
+use Rattle.share_laws.specs.Wanted as wanted
+use Rattle.funding_plans.specs.Seats.{up_in, up_after, down_in, down_after}
+use Rattle.support_rules.specs.Real.{real}
 
 -- which part of what is set aside for the child is the person's
 abbrev pub Sets : (me : List ℕ) → Child → ℕ → Type 0

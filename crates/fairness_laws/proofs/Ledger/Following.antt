@@ -4,18 +4,18 @@ use Rattle.std.proofs.lemmas.Bool.Decides.{nat_tests}
 use Rattle.std.specs.Prelude.{◌==◌, nat_le, nat_lt, is_ok, Option, Some, None}
 use Rattle.std.specs.Option.{option_map}
 use Rattle.std.specs.Str.{bytes_eq}
-use Rattle.nitro_bytes.specs.Outcomes.{IsOutcome}
-use Rattle.nitro_bytes.specs.Parts.{StateParts}
-use Rattle.nitro_bytes.specs.Reading.{outcome_of}
-use Rattle.nitro_bytes.specs.Spelling.{outcome}
-use Rattle.nitro_bytes.specs.declared.value.AssetOutcome.{AssetOutcome}
-use Rattle.app_rules.specs.Ballots.{Ballot, ballot_of}
-use Rattle.app_rules.specs.Rules.{is_same_outcome}
-use Rattle.app_rules.specs.Toward.{Move, no_votes, wanted_move, moved, wanted_on, wanted_toward, is_settled}
-use Rattle.chain_laws.proofs.Tests.{some-eq, none-eq, clash, and-left, and-right, lt-true}
-use Rattle.channel_calls.proofs.Names.{bytes_eq_self}
-use Rattle.share_model.specs.Places.{outcomes_of}
-use Rattle.signing_laws.proofs.Voting.{moves_end}
+use Rattle.channel_values.specs.Outcomes.{IsOutcome}
+use Rattle.channel_values.specs.Parts.{StateParts}
+use Rattle.channel_values.specs.Reading.{outcome_of}
+use Rattle.channel_values.specs.Spelling.{outcome}
+use Rattle.channel_values.specs.declared.value.AssetOutcome.{AssetOutcome}
+use Rattle.support_rules.specs.Ballots.{Ballot, ballot_of}
+use Rattle.support_rules.specs.Rules.{is_same_outcome}
+use Rattle.support_rules.specs.Toward.{Move, no_votes, wanted_move, moved, wanted_on, wanted_toward, is_settled}
+use Rattle.channel_safety.proofs.Tests.{some-eq, none-eq, clash, and-left, and-right, lt-true}
+use Rattle.call_history.proofs.Names.{bytes_eq_self}
+use Rattle.share_laws.specs.Places.{outcomes_of}
+use Rattle.share_laws.proofs.Voting.{moves_end}
 use Rattle.fairness_laws.specs.LedgerKeeping.{Follows, stays, settles, proposes}
 
 module _ (target : List AssetOutcome) (valid : IsOutcome target) (s : StateParts) (own : Option StateParts) (t : StateParts) where

@@ -3,23 +3,23 @@ use Rattle.std.proofs.Common.{◌≡◌, ℕ, ◌+◌, ◌-◌, ◌^◌, ◌≤�
 use Rattle.std.proofs.lemmas.Bool.{eq-eqb}
 use Rattle.std.specs.Prelude.{◌==◌, Option, Some, None}
 use Rattle.std.specs.Str.{bytes_eq}
-use Rattle.nitro_bytes.specs.Outcomes.{is_same, total, IsOutcome}
-use Rattle.nitro_bytes.specs.Parts.{StateParts}
-use Rattle.nitro_bytes.specs.declared.value.AssetOutcome.{AssetOutcome}
-use Rattle.nitro_bytes.specs.declared.value.Dest.{Dest}
-use Rattle.nitro_bytes.specs.declared.value.Dest.TheVariants.{Person, Channel}
-use Rattle.nitro_bytes.specs.declared.value.Item.{Item}
-use Rattle.nitro_bytes.specs.declared.value.Shape.TheVariants.{Allocation}
-use Rattle.chain_laws.proofs.Tests.{some-eq, clash, eqb-true, cond-true, cond-false}
-use Rattle.channel_calls.proofs.Names.{same_bytes, bytes_eq_self}
-use Rattle.channel_model.specs.Amounts.{amt, has}
-use Rattle.funding_value.specs.Shapes.{items_of, items_in}
-use Rattle.funding_value.specs.declared.plan.Part.{Part}
-use Rattle.net_model.specs.Journals.{In}
-use Rattle.outcome_targets.specs.Outcomes.{names, items_up, items_down, changed_items, changed, up as go_up, down as go_down}
-use Rattle.outcome_targets.specs.declared.child.Child.{Child}
-use Rattle.share_model.proofs.Amounts.{total-cons}
-use Rattle.share_model.specs.Places.{outcomes_of}
+use Rattle.channel_values.specs.Outcomes.{is_same, total, IsOutcome}
+use Rattle.channel_values.specs.Parts.{StateParts}
+use Rattle.channel_values.specs.declared.value.AssetOutcome.{AssetOutcome}
+use Rattle.channel_values.specs.declared.value.Dest.{Dest}
+use Rattle.channel_values.specs.declared.value.Dest.TheVariants.{Person, Channel}
+use Rattle.channel_values.specs.declared.value.Item.{Item}
+use Rattle.channel_values.specs.declared.value.Shape.TheVariants.{Allocation}
+use Rattle.channel_safety.proofs.Tests.{some-eq, clash, eqb-true, cond-true, cond-false}
+use Rattle.call_history.proofs.Names.{same_bytes, bytes_eq_self}
+use Rattle.channel_values.specs.Amounts.{amt, has}
+use Rattle.funding_plans.specs.Shapes.{items_of, items_in}
+use Rattle.funding_plans.specs.declared.plan.Part.{Part}
+use Rattle.channel_safety.specs.Journals.{In}
+use Rattle.funding_plans.specs.Outcomes.{names, items_up, items_down, changed_items, changed, up as go_up, down as go_down}
+use Rattle.funding_plans.specs.declared.child.Child.{Child}
+use Rattle.share_laws.proofs.Amounts.{total-cons}
+use Rattle.share_laws.specs.Places.{outcomes_of}
 use Rattle.fairness_laws.proofs.Ledger.Items.{people-up, people-down}
 use Rattle.fairness_laws.proofs.Ledger.Moving.{up_is_up, down_is_up_before}
 use Rattle.fairness_laws.proofs.Outcomes.{only}

@@ -3,36 +3,36 @@
 use Rattle.std.proofs.Common.{◌≡◌, ℕ, ◌+◌, ◌*◌, ◌-◌, ◌<◌, ◌≤◌, true, false, ◌==◌, List, ◌⊎◌, inl, refl, sym, ◌∙◌, ap, subst, arith}
 use Rattle.std.specs.Prelude.{Option, Some, None}
 use Rattle.std.specs.Option.{option_map}
-use Rattle.nitro_bytes.specs.Parts.{FixedParts, StateParts}
-use Rattle.nitro_bytes.specs.declared.chain.Signed.{Signed}
-use Rattle.nitro_bytes.specs.declared.value.AssetOutcome.{AssetOutcome}
-use Rattle.chain_laws.proofs.Tests.{cond-true, clash}
-use Rattle.channel_calls.proofs.Names.{same_bytes}
-use Rattle.channel_calls.specs.Flows.{is_among}
-use Rattle.channel_calls.specs.History.{mode}
-use Rattle.channel_calls.specs.Marked.{marked_of}
-use Rattle.channel_calls.specs.declared.entry.Entry.{Entry}
-use Rattle.channel_model.specs.Rules.{people}
+use Rattle.channel_values.specs.Parts.{FixedParts, StateParts}
+use Rattle.channel_values.specs.declared.chain.Signed.{Signed}
+use Rattle.channel_values.specs.declared.value.AssetOutcome.{AssetOutcome}
+use Rattle.channel_safety.proofs.Tests.{cond-true, clash}
+use Rattle.call_history.proofs.Names.{same_bytes}
+use Rattle.call_history.specs.Flows.{is_among}
+use Rattle.call_history.specs.History.{mode}
+use Rattle.call_history.specs.Marked.{marked_of}
+use Rattle.call_history.specs.declared.entry.Entry.{Entry}
+use Rattle.channel_values.specs.Rules.{people}
 use Rattle.channel_store.specs.Keeping.{is_held}
 use Rattle.channel_store.specs.declared.kept.Kept.{Kept}
-use Rattle.deadline_clock.specs.Mode.{is_final}
-use Rattle.funding_value.specs.Parts.{ledgers_of, closed}
-use Rattle.funding_value.specs.declared.plan.Goal.{Goal}
-use Rattle.funding_value.specs.declared.plan.Part.{Part}
-use Rattle.funding_value.specs.declared.plan.Part.TheVariants.{Root, OnLedger, End, Middle}
-use Rattle.funding_value.specs.declared.plan.Virtual.{Virtual}
+use Rattle.call_history.specs.Mode.{is_final}
+use Rattle.funding_plans.specs.Parts.{ledgers_of, closed}
+use Rattle.funding_plans.specs.declared.plan.Goal.{Goal}
+use Rattle.funding_plans.specs.declared.plan.Part.{Part}
+use Rattle.funding_plans.specs.declared.plan.Part.TheVariants.{Root, OnLedger, End, Middle}
+use Rattle.funding_plans.specs.declared.plan.Virtual.{Virtual}
 use Rattle.ledger_channel.specs.Roots.{Direct, root_rows}
 use Rattle.ledger_channel.specs.Stages.{stage_of_root}
-use Rattle.net_model.specs.Held.{held}
-use Rattle.net_model.specs.Journals.{In, Line}
-use Rattle.net_party.specs.declared.command.Command.TheVariants as commands
-use Rattle.node_laws.proofs.Reaching.{Reaches}
-use Rattle.node_model.specs.Minds.{Mind, facts_of}
-use Rattle.node_model.specs.Places.{Told, lines_of, mind_at}
-use Rattle.node_model.specs.Playing.{Signing}
-use Rattle.node_model.specs.Refusing.{is_open, stands_in, not_open}
-use Rattle.node_share_laws.specs.Orders.{orders_of}
-use Rattle.node_tables.specs.Stages.{stages}
+use Rattle.channel_safety.specs.Held.{held}
+use Rattle.channel_safety.specs.Journals.{In, Line}
+use Rattle.network.specs.declared.command.Command.TheVariants as commands
+use Rattle.channel_node.proofs.Reaching.{Reaches}
+use Rattle.channel_node.specs.Minds.{Mind, facts_of}
+use Rattle.channel_node.specs.Places.{Told, lines_of, mind_at}
+use Rattle.channel_node.specs.Playing.{Signing}
+use Rattle.channel_node.specs.Refusing.{is_open, stands_in, not_open}
+use Rattle.node_guarantees.specs.Orders.{orders_of}
+use Rattle.stage_tables.specs.Stages.{stages}
 use Rattle.fairness_laws.proofs.Seat.Past.{several, two-people, one-fixed}
 use Rattle.fairness_laws.proofs.Live.{below-not, live-open}
 use Rattle.fairness_laws.proofs.Rows.{at-most}
@@ -51,20 +51,20 @@ use Rattle.fairness_laws.specs.PlanParts.{LedgerIs}
 use Rattle.fairness_laws.specs.PlanSeats.{SeatIs}
 use Rattle.fairness_laws.specs.PlanSettings.{IsFair}
 use Rattle.fairness_laws.specs.SeatSitting.{HeldEnds, Sits}
-use Rattle.share_model.specs.Places.{Order}
+use Rattle.share_laws.specs.Places.{Order}
 use Rattle.fairness_laws.proofs.OpenedVirtuals.{end-opened}
 use Rattle.fairness_laws.proofs.Plan.Asked.{bearer-at}
 use Rattle.fairness_laws.proofs.Plan.Bearers.{Bearer, bears-joined}
 use Rattle.fairness_laws.specs.PlanBearers.{bears}
-use Rattle.signing_laws.specs.Settled.{EndsWith, InFull}
-use Rattle.stage_rules.specs.Gathered.{goal_in}
-use Rattle.stage_rules.specs.Rows.{stage_in}
-use Rattle.stage_rules.specs.Seats.{Seat}
-use Rattle.support_chain.specs.Real.{real}
+use Rattle.share_laws.specs.Settled.{EndsWith, InFull}
+use Rattle.funding_plans.specs.Gathered.{goal_in}
+use Rattle.funding_plans.specs.Rows.{stage_in}
+use Rattle.funding_plans.specs.Seats.{Seat}
+use Rattle.support_rules.specs.Real.{real}
 use Rattle.virtual_channel.specs.Ends.{End as Ending, end_rows}
 use Rattle.virtual_channel.specs.Stages.{stage_of_end}
-use Rattle.wish_laws.proofs.Firsts as firsts
-use Rattle.wish_laws.proofs.Opening.{root-starts}
+use Rattle.fairness_laws.proofs.FirstRounds as firsts
+use Rattle.fairness_laws.proofs.RootOpening.{root-starts}
 
 -- a root that wasn't commanded to close isn't closed
 early-root : (d : Direct) → d.closing ≡ false → stage_in (root_rows d) < 6

@@ -2,30 +2,30 @@
 use Rattle.std.proofs.Common.{◌≡◌, ℕ, zero, suc, ◌+◌, ◌≤◌, true, false, List, ◌∷◌, [], ◌⊎◌, inl, inr, refl, sym, ◌∙◌, ap, subst, arith}
 use Rattle.std.specs.Prelude.{Option, Some, None}
 use Rattle.std.specs.Str.{bytes_eq}
-use Rattle.nitro_bytes.specs.Parts.{FixedParts, StateParts}
-use Rattle.chain_laws.proofs.Tests.{some-eq, none-eq, and-left}
-use Rattle.channel_calls.specs.declared.entry.Entry.{Entry}
-use Rattle.funding_value.specs.declared.plan.Goal.{Goal}
-use Rattle.funding_value.specs.declared.plan.Part.{Part}
-use Rattle.funding_value.specs.declared.plan.Part.TheVariants as kinds
-use Rattle.funding_value.specs.declared.plan.Virtual.{Virtual}
+use Rattle.channel_values.specs.Parts.{FixedParts, StateParts}
+use Rattle.channel_safety.proofs.Tests.{some-eq, none-eq, and-left}
+use Rattle.call_history.specs.declared.entry.Entry.{Entry}
+use Rattle.funding_plans.specs.declared.plan.Goal.{Goal}
+use Rattle.funding_plans.specs.declared.plan.Part.{Part}
+use Rattle.funding_plans.specs.declared.plan.Part.TheVariants as kinds
+use Rattle.funding_plans.specs.declared.plan.Virtual.{Virtual}
 use Rattle.fairness_laws.specs.LedgerLending.{Lent, of_funded, of_end, lent}
 use Rattle.fairness_laws.specs.LedgerPlaces.{parts_at, KeepAt}
 use Rattle.fairness_laws.specs.PlanLaws.{PartsAreKnown, PlansAreWhole}
-use Rattle.net_model.specs.Journals.{In}
-use Rattle.node_model.specs.Minds.{Mind, facts_of}
-use Rattle.node_model.specs.Places.{Told, lines_of, mind_at}
-use Rattle.node_model.specs.Playing.{Signing}
-use Rattle.outcome_targets.specs.Outcomes.{amounts_in}
-use Rattle.outcome_targets.specs.declared.child.Child.{Child}
+use Rattle.channel_safety.specs.Journals.{In}
+use Rattle.channel_node.specs.Minds.{Mind, facts_of}
+use Rattle.channel_node.specs.Places.{Told, lines_of, mind_at}
+use Rattle.channel_node.specs.Playing.{Signing}
+use Rattle.funding_plans.specs.Outcomes.{amounts_in}
+use Rattle.funding_plans.specs.declared.child.Child.{Child}
 use Rattle.fairness_laws.proofs.Payment.Shares.{children_share, end-pays}
 use Rattle.fairness_laws.specs.PaymentLaws.{At, IsShared}
 use Rattle.fairness_laws.specs.PlanParts.{OnLedgerIs, EndIs, MiddleIs}
 use Rattle.fairness_laws.specs.PlanSettings.{IsFair}
-use Rattle.stage_rules.specs.Gathered.{goal_in}
-use Rattle.stage_rules.specs.Seats.{Seat, state_is, amounts_after}
-use Rattle.support_chain.specs.Real.{real}
-use Rattle.support_chain.specs.Steps.{persons}
+use Rattle.funding_plans.specs.Gathered.{goal_in}
+use Rattle.funding_plans.specs.Seats.{Seat, state_is, amounts_after}
+use Rattle.support_rules.specs.Real.{real}
+use Rattle.support_rules.specs.Steps.{persons}
 use Rattle.virtual_channel.specs.Middles as middles
 use Rattle.virtual_channel.specs.Middles.{is_without}
 use Rattle.fairness_laws.proofs.Ledger.Closes.{ShutAt}

@@ -2,18 +2,18 @@
 use Rattle.std.proofs.Common.{◌≡◌, ℕ, ◌+◌, ◌-◌, ◌^◌, ◌≤◌, true, false, ◌⊎◌, inl, inr, List, [], ◌∷◌, sym, ◌∙◌, ap, subst}
 use Rattle.std.specs.Prelude.{Some}
 use Rattle.std.specs.Str.{bytes_eq}
-use Rattle.nitro_bytes.specs.Outcomes.{IsOutcome}
-use Rattle.nitro_bytes.specs.Parts.{StateParts}
-use Rattle.nitro_bytes.specs.declared.value.AssetOutcome.{AssetOutcome}
-use Rattle.nitro_bytes.specs.declared.value.Dest.TheVariants.{Person, Channel}
-use Rattle.chain_laws.proofs.Tests.{clash, cond-true, cond-false}
-use Rattle.channel_model.specs.Amounts.{amt, has}
-use Rattle.funding_value.specs.Shapes.{items_in}
-use Rattle.funding_value.specs.declared.plan.Part.{Part}
-use Rattle.net_model.specs.Journals.{In}
-use Rattle.outcome_targets.specs.Outcomes.{names, up, down, changed}
-use Rattle.outcome_targets.specs.declared.child.Child.{Child}
-use Rattle.share_model.specs.Places.{outcomes_of}
+use Rattle.channel_values.specs.Outcomes.{IsOutcome}
+use Rattle.channel_values.specs.Parts.{StateParts}
+use Rattle.channel_values.specs.declared.value.AssetOutcome.{AssetOutcome}
+use Rattle.channel_values.specs.declared.value.Dest.TheVariants.{Person, Channel}
+use Rattle.channel_safety.proofs.Tests.{clash, cond-true, cond-false}
+use Rattle.channel_values.specs.Amounts.{amt, has}
+use Rattle.funding_plans.specs.Shapes.{items_in}
+use Rattle.funding_plans.specs.declared.plan.Part.{Part}
+use Rattle.channel_safety.specs.Journals.{In}
+use Rattle.funding_plans.specs.Outcomes.{names, up, down, changed}
+use Rattle.funding_plans.specs.declared.child.Child.{Child}
+use Rattle.share_laws.specs.Places.{outcomes_of}
 use Rattle.fairness_laws.proofs.Truths.{either}
 use Rattle.fairness_laws.proofs.Outcomes.{only}
 use Rattle.fairness_laws.specs.LedgerKeeping.{Lends, Backs, IsPending, IsVoted, LedgerKeeps, ChildrenApart, Follows, stays, settles, proposes}

@@ -4,32 +4,32 @@ use Rattle.std.proofs.Common.{◌≡◌, ℕ, ◌+◌, ◌*◌, ◌-◌, ◌^◌
 use Rattle.std.specs.Prelude.{Option, Some, None}
 use Rattle.std.specs.Option.{option_map}
 use Rattle.std.specs.Str.{bytes_eq}
-use Rattle.nitro_bytes.specs.Outcomes.{IsName}
-use Rattle.nitro_bytes.specs.Parts.{FixedParts}
-use Rattle.nitro_bytes.specs.declared.value.AssetOutcome.{AssetOutcome}
-use Rattle.chain_laws.proofs.Tests.{some-eq, none-eq}
-use Rattle.channel_calls.proofs.Names.{same_bytes, bytes_eq_self}
-use Rattle.channel_calls.specs.declared.entry.Entry.{Entry}
-use Rattle.funding_value.specs.Known.{FactsOf}
-use Rattle.funding_value.specs.Parts.{own_channel, channels_of, own_ledger, own_guarantor}
-use Rattle.funding_value.specs.declared.plan.Goal.{Goal}
-use Rattle.funding_value.specs.declared.plan.Part.{Part}
-use Rattle.funding_value.specs.declared.plan.Part.TheVariants as kinds
-use Rattle.funding_value.specs.declared.plan.Virtual.{Virtual}
+use Rattle.channel_values.specs.Outcomes.{IsName}
+use Rattle.channel_values.specs.Parts.{FixedParts}
+use Rattle.channel_values.specs.declared.value.AssetOutcome.{AssetOutcome}
+use Rattle.channel_safety.proofs.Tests.{some-eq, none-eq}
+use Rattle.call_history.proofs.Names.{same_bytes, bytes_eq_self}
+use Rattle.call_history.specs.declared.entry.Entry.{Entry}
+use Rattle.funding_plans.specs.Known.{FactsOf}
+use Rattle.funding_plans.specs.Parts.{own_channel, channels_of, own_ledger, own_guarantor}
+use Rattle.funding_plans.specs.declared.plan.Goal.{Goal}
+use Rattle.funding_plans.specs.declared.plan.Part.{Part}
+use Rattle.funding_plans.specs.declared.plan.Part.TheVariants as kinds
+use Rattle.funding_plans.specs.declared.plan.Virtual.{Virtual}
 use Rattle.ledger_channel.specs.OnLedgers.{Funded}
-use Rattle.net_model.specs.Journals.{Line, In}
-use Rattle.node_model.specs.Minds.{facts_of}
-use Rattle.node_model.specs.Places.{Told, lines_of, mind_at}
-use Rattle.node_model.specs.Playing.{Signing}
-use Rattle.outcome_targets.specs.Targets.{apart}
-use Rattle.outcome_targets.specs.declared.child.Child.{Child}
-use Rattle.outcome_targets.specs.declared.terms.Terms.{Terms}
-use Rattle.stage_rules.specs.Gathered.{goal_in}
-use Rattle.stage_rules.specs.Seats.{Seat, has_signed_past}
-use Rattle.support_chain.specs.Real.{real}
+use Rattle.channel_safety.specs.Journals.{Line, In}
+use Rattle.channel_node.specs.Minds.{facts_of}
+use Rattle.channel_node.specs.Places.{Told, lines_of, mind_at}
+use Rattle.channel_node.specs.Playing.{Signing}
+use Rattle.funding_plans.specs.Targets.{apart}
+use Rattle.funding_plans.specs.declared.child.Child.{Child}
+use Rattle.funding_plans.specs.declared.terms.Terms.{Terms}
+use Rattle.funding_plans.specs.Gathered.{goal_in}
+use Rattle.funding_plans.specs.Seats.{Seat, has_signed_past}
+use Rattle.support_rules.specs.Real.{real}
 use Rattle.virtual_channel.specs.Ends.{End}
 use Rattle.virtual_channel.specs.Middles.{Middle}
-use Rattle.wish_laws.proofs.Finding.{flips}
+use Rattle.fairness_laws.proofs.Finding.{flips}
 use Rattle.fairness_laws.specs.LedgerLending.{Lent, of_funded, of_end, of_middle}
 use Rattle.fairness_laws.specs.LedgerPlaces.{lends_at}
 use Rattle.fairness_laws.specs.LedgerWanting.{IsChild}

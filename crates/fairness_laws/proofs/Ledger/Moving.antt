@@ -2,24 +2,24 @@
 use Rattle.std.proofs.Common.{◌≡◌, ◌≢◌, ℕ, ◌+◌, ◌-◌, ◌^◌, ◌<◌, ◌≤◌, Bool, true, false, cond, List, [], ◌∷◌, refl, sym, ◌∙◌, ap, subst, arith}
 use Rattle.std.specs.Prelude.{◌==◌, Option, Some, None}
 use Rattle.std.specs.List.{AllByRecursion}
-use Rattle.nitro_bytes.specs.Outcomes.{pays_same, AreApart, IsItem, FitsShape, FitsAsset, IsShape, IsAssetOutcome, IsOutcome}
-use Rattle.nitro_bytes.specs.declared.value.AssetOutcome.{AssetOutcome}
-use Rattle.nitro_bytes.specs.declared.value.Dest.{Dest}
-use Rattle.nitro_bytes.specs.declared.value.Dest.TheVariants.{Person}
-use Rattle.nitro_bytes.specs.declared.value.Item.{Item}
-use Rattle.nitro_bytes.specs.declared.value.Shape.{Shape}
-use Rattle.nitro_bytes.specs.declared.value.Shape.TheVariants.{Allocation, Guarantee}
-use Rattle.chain_laws.proofs.Tests.{clash, eqb-true, cond-true, cond-false}
-use Rattle.channel_calls.specs.Dues.{shape_in}
-use Rattle.channel_model.specs.Amounts.{has}
-use Rattle.funding_value.specs.Shapes.{items_of, list_of, items_in, list_in}
-use Rattle.outcome_targets.proofs.Kept.{items_are_within}
-use Rattle.outcome_targets.specs.Limits.{is_valid}
-use Rattle.outcome_targets.specs.Outcomes.{names, with_items, with_items_at, items_up, items_down, changed}
-use Rattle.signing_laws.proofs.Fits.{set_aside_fits, taken_back_fits}
-use Rattle.signing_laws.specs.Moves.{SetsAside}
-use Rattle.target_laws.proofs.OneByOne.{up_is}
-use Rattle.signing_laws.specs.Items.{set_aside, taken_back}
+use Rattle.channel_values.specs.Outcomes.{pays_same, AreApart, IsItem, FitsShape, FitsAsset, IsShape, IsAssetOutcome, IsOutcome}
+use Rattle.channel_values.specs.declared.value.AssetOutcome.{AssetOutcome}
+use Rattle.channel_values.specs.declared.value.Dest.{Dest}
+use Rattle.channel_values.specs.declared.value.Dest.TheVariants.{Person}
+use Rattle.channel_values.specs.declared.value.Item.{Item}
+use Rattle.channel_values.specs.declared.value.Shape.{Shape}
+use Rattle.channel_values.specs.declared.value.Shape.TheVariants.{Allocation, Guarantee}
+use Rattle.channel_safety.proofs.Tests.{clash, eqb-true, cond-true, cond-false}
+use Rattle.call_history.specs.Dues.{shape_in}
+use Rattle.channel_values.specs.Amounts.{has}
+use Rattle.funding_plans.specs.Shapes.{items_of, list_of, items_in, list_in}
+use Rattle.funding_plans.proofs.Kept.{items_are_within}
+use Rattle.funding_plans.specs.Limits.{is_valid}
+use Rattle.funding_plans.specs.Outcomes.{names, with_items, with_items_at, items_up, items_down, changed}
+use Rattle.share_laws.proofs.Fits.{set_aside_fits, taken_back_fits}
+use Rattle.share_laws.specs.Moves.{SetsAside}
+use Rattle.fairness_laws.proofs.OneByOne.{up_is}
+use Rattle.share_laws.specs.Items.{set_aside, taken_back}
 use Rattle.std.proofs.lemmas.Bool.{eq-eqb}
 use Rattle.fairness_laws.specs.LedgerMoving.{IsUp, UpIsUp, DownIsUpBefore, UpIsOutcome, DownIsOutcome}
 use Rattle.fairness_laws.proofs.Ledger.Spelled.{read-is}

@@ -4,57 +4,57 @@ use Rattle.std.specs.Prelude.{◌==◌, nat_le, is_some, Option, Some, None, map
 use Rattle.std.specs.List.{slice_get}
 use Rattle.std.specs.Option.{option_or}
 use Rattle.std.specs.Str.{bytes_eq}
-use Rattle.nitro_bytes.specs.Parts.{FixedParts, IsFixed, StateParts}
-use Rattle.nitro_bytes.specs.declared.chain.Signed.{Signed}
-use Rattle.nitro_bytes.specs.declared.value.AssetOutcome.{AssetOutcome}
-use Rattle.app_rules.specs.Toward.{is_settled}
-use Rattle.chain_laws.proofs.Lists.{In-get, get-some, get-append}
-use Rattle.chain_laws.proofs.Tests.{some-eq, none-eq, clash, and-left, and-right}
-use Rattle.channel_calls.proofs.Names.{same_bytes, bytes_eq_self}
-use Rattle.channel_calls.specs.Flows.{is_among}
-use Rattle.channel_calls.specs.declared.entry.Entry.{Entry}
-use Rattle.channel_calls.specs.declared.event.Deed.{Deed}
-use Rattle.channel_calls.specs.declared.event.Deed.TheVariants as deeds
-use Rattle.channel_name.specs.Digests.{name_of_person}
+use Rattle.channel_values.specs.Parts.{FixedParts, IsFixed, StateParts}
+use Rattle.channel_values.specs.declared.chain.Signed.{Signed}
+use Rattle.channel_values.specs.declared.value.AssetOutcome.{AssetOutcome}
+use Rattle.support_rules.specs.Toward.{is_settled}
+use Rattle.channel_safety.proofs.Lists.{In-get, get-some, get-append}
+use Rattle.channel_safety.proofs.Tests.{some-eq, none-eq, clash, and-left, and-right}
+use Rattle.call_history.proofs.Names.{same_bytes, bytes_eq_self}
+use Rattle.call_history.specs.Flows.{is_among}
+use Rattle.call_history.specs.declared.entry.Entry.{Entry}
+use Rattle.call_history.specs.declared.event.Deed.{Deed}
+use Rattle.call_history.specs.declared.event.Deed.TheVariants as deeds
+use Rattle.channel_values.specs.Digests.{name_of_person}
 use Rattle.channel_store.specs.Storing.{kept_of}
-use Rattle.funding_value.specs.Known.{FactsOf}
-use Rattle.funding_value.specs.Parts.{own_channel, own_ledger, channels_of, channels}
-use Rattle.funding_value.specs.declared.plan.Goal.{Goal}
-use Rattle.funding_value.specs.declared.plan.Part.{Part}
-use Rattle.funding_value.specs.declared.plan.Part.TheVariants as kinds
-use Rattle.funding_value.specs.declared.plan.Virtual.{Virtual}
-use Rattle.net_model.proofs.Members.{In-append_left, In-append_right, In-append_cases, In-flat_map}
-use Rattle.net_model.specs.Journals.{In, Line, made_in, is_followed, opened}
-use Rattle.net_party.specs.declared.command.Command.{Command}
-use Rattle.net_party.specs.declared.command.Command.TheVariants as commands
-use Rattle.net_party.specs.declared.command.Route.{Route}
-use Rattle.node_laws.proofs.Allowing.{first_none, rest_none}
-use Rattle.node_laws.proofs.Places.{mind-event}
-use Rattle.node_model.specs.Minds.{Mind, facts_of, did, commanded, with_opened}
-use Rattle.node_model.specs.Openings.{opened_by, takes_part, adds, virtual, parts_of, shared, goal_with, goals_of}
-use Rattle.node_model.specs.Places.{Told, line_of, lines_of, mind_at}
-use Rattle.node_model.specs.Playing.{Signing}
-use Rattle.node_model.specs.Refusing.{not_open, unfinished, has_left, are_new, open_refusal}
-use Rattle.node_share_laws.proofs.Apart.{Apart}
-use Rattle.node_share_laws.proofs.Growing.{channels_told}
-use Rattle.node_tables.specs.Fitting.{stake, can_share, fits_between, fits, lends_virtual, either_lends}
-use Rattle.node_tables.specs.Ledgers.{lends}
-use Rattle.node_tables.specs.Stages.{stages}
-use Rattle.outcome_targets.specs.Targets.{together}
-use Rattle.outcome_targets.specs.declared.child.Child.{Child}
-use Rattle.outcome_targets.specs.declared.terms.Terms.{Terms}
-use Rattle.share_model.specs.Places.{channels as channels-of, last_made, outcomes_of}
-use Rattle.stage_rules.specs.Gathered.{goal_in}
-use Rattle.stage_rules.specs.Seats.{Seat, state_is, settled_on}
-use Rattle.support_chain.specs.Real.{real}
-use Rattle.support_chain.specs.Steps.{persons}
-use Rattle.wish_laws.proofs.Finding.{or-left}
-use Rattle.wish_laws.proofs.Planned.{channels-append}
+use Rattle.funding_plans.specs.Known.{FactsOf}
+use Rattle.funding_plans.specs.Parts.{own_channel, own_ledger, channels_of, channels}
+use Rattle.funding_plans.specs.declared.plan.Goal.{Goal}
+use Rattle.funding_plans.specs.declared.plan.Part.{Part}
+use Rattle.funding_plans.specs.declared.plan.Part.TheVariants as kinds
+use Rattle.funding_plans.specs.declared.plan.Virtual.{Virtual}
+use Rattle.channel_safety.proofs.Members.{In-append_left, In-append_right, In-append_cases, In-flat_map}
+use Rattle.channel_safety.specs.Journals.{In, Line, made_in, is_followed, opened}
+use Rattle.network.specs.declared.command.Command.{Command}
+use Rattle.network.specs.declared.command.Command.TheVariants as commands
+use Rattle.network.specs.declared.command.Route.{Route}
+use Rattle.channel_node.proofs.Allowing.{first_none, rest_none}
+use Rattle.channel_node.proofs.Places.{mind-event}
+use Rattle.channel_node.specs.Minds.{Mind, facts_of, did, commanded, with_opened}
+use Rattle.channel_node.specs.Openings.{opened_by, takes_part, adds, virtual, parts_of, shared, goal_with, goals_of}
+use Rattle.channel_node.specs.Places.{Told, line_of, lines_of, mind_at}
+use Rattle.channel_node.specs.Playing.{Signing}
+use Rattle.channel_node.specs.Refusing.{not_open, unfinished, has_left, are_new, open_refusal}
+use Rattle.node_guarantees.proofs.Apart.{Apart}
+use Rattle.node_guarantees.proofs.Growing.{channels_told}
+use Rattle.stage_tables.specs.Fitting.{stake, can_share, fits_between, fits, lends_virtual, either_lends}
+use Rattle.stage_tables.specs.Ledgers.{lends}
+use Rattle.stage_tables.specs.Stages.{stages}
+use Rattle.funding_plans.specs.Targets.{together}
+use Rattle.funding_plans.specs.declared.child.Child.{Child}
+use Rattle.funding_plans.specs.declared.terms.Terms.{Terms}
+use Rattle.share_laws.specs.Places.{channels as channels-of, last_made, outcomes_of}
+use Rattle.funding_plans.specs.Gathered.{goal_in}
+use Rattle.funding_plans.specs.Seats.{Seat, state_is, settled_on}
+use Rattle.support_rules.specs.Real.{real}
+use Rattle.support_rules.specs.Steps.{persons}
+use Rattle.fairness_laws.proofs.Finding.{or-left}
+use Rattle.fairness_laws.proofs.Planned.{channels-append}
 use Rattle.fairness_laws.specs.JointKeeping.{EndsKeep, MiddlesKeep}
 use Rattle.fairness_laws.proofs.Seat.Past.{one-fixed, honest, own-made, unkept-unsigned}
 use Rattle.fairness_laws.proofs.Plan.Asked.{planned}
 use Rattle.fairness_laws.specs.PaymentLaws.{ActsNext}
-use Rattle.wish_laws.proofs.Closing.{FoundGoal, goal-found}
+use Rattle.fairness_laws.proofs.Closing.{FoundGoal, goal-found}
 use Rattle.fairness_laws.specs.LedgerKeeping.{PendingOn, Drifts}
 use Rattle.fairness_laws.specs.LedgerLending.{Lent, of_funded, of_end}
 use Rattle.fairness_laws.specs.LedgerMoving.{HaveItems, Afford}

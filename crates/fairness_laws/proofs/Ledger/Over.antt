@@ -3,27 +3,27 @@
 use Rattle.std.proofs.Common.{◌≡◌, ℕ, true, false, List, [], ◌∷◌, ◌⊎◌, inl, inr, sym, ◌∙◌, ap, subst}
 use Rattle.std.specs.Prelude.{Option, Some, None, slice_index_or}
 use Rattle.std.specs.Option.{option_map}
-use Rattle.nitro_bytes.specs.Parts.{FixedParts, StateParts}
-use Rattle.nitro_bytes.specs.declared.chain.Signed.{Signed}
-use Rattle.nitro_bytes.specs.declared.value.AssetOutcome.{AssetOutcome}
-use Rattle.nitro_bytes.specs.declared.value.Dest.TheVariants.{Person, Channel}
-use Rattle.chain_laws.proofs.Tests.{clash, cond-true}
-use Rattle.channel_calls.specs.declared.entry.Entry.{Entry}
-use Rattle.channel_model.specs.Amounts.{has}
-use Rattle.funding_value.specs.Shapes.{items_in}
-use Rattle.funding_value.specs.declared.plan.Goal.{Goal}
-use Rattle.funding_value.specs.declared.plan.Part.{Part}
-use Rattle.funding_value.specs.declared.plan.Part.TheVariants as kinds
-use Rattle.funding_value.specs.declared.plan.Virtual.{Virtual}
-use Rattle.net_model.specs.Journals.{In}
-use Rattle.node_model.specs.Minds.{Mind, facts_of}
-use Rattle.node_model.specs.Places.{Told, lines_of, mind_at}
-use Rattle.node_model.specs.Playing.{Signing}
-use Rattle.outcome_targets.specs.Outcomes.{names}
-use Rattle.share_model.specs.Places.{last_made, outcomes_of}
-use Rattle.stage_rules.specs.Gathered.{goal_in}
-use Rattle.support_chain.specs.Real.{real}
-use Rattle.support_chain.specs.Steps.{persons}
+use Rattle.channel_values.specs.Parts.{FixedParts, StateParts}
+use Rattle.channel_values.specs.declared.chain.Signed.{Signed}
+use Rattle.channel_values.specs.declared.value.AssetOutcome.{AssetOutcome}
+use Rattle.channel_values.specs.declared.value.Dest.TheVariants.{Person, Channel}
+use Rattle.channel_safety.proofs.Tests.{clash, cond-true}
+use Rattle.call_history.specs.declared.entry.Entry.{Entry}
+use Rattle.channel_values.specs.Amounts.{has}
+use Rattle.funding_plans.specs.Shapes.{items_in}
+use Rattle.funding_plans.specs.declared.plan.Goal.{Goal}
+use Rattle.funding_plans.specs.declared.plan.Part.{Part}
+use Rattle.funding_plans.specs.declared.plan.Part.TheVariants as kinds
+use Rattle.funding_plans.specs.declared.plan.Virtual.{Virtual}
+use Rattle.channel_safety.specs.Journals.{In}
+use Rattle.channel_node.specs.Minds.{Mind, facts_of}
+use Rattle.channel_node.specs.Places.{Told, lines_of, mind_at}
+use Rattle.channel_node.specs.Playing.{Signing}
+use Rattle.funding_plans.specs.Outcomes.{names}
+use Rattle.share_laws.specs.Places.{last_made, outcomes_of}
+use Rattle.funding_plans.specs.Gathered.{goal_in}
+use Rattle.support_rules.specs.Real.{real}
+use Rattle.support_rules.specs.Steps.{persons}
 use Rattle.fairness_laws.proofs.Apps.{no-payments}
 use Rattle.fairness_laws.proofs.Ledger.Closes.{ShutAt}
 use Rattle.fairness_laws.proofs.Ledger.Form.{IsOfTwo, IsBareOfTwo, Form, bare-form, asset-is}

@@ -3,48 +3,48 @@ use Rattle.std.proofs.Common.{◌≡◌, ℕ, ◌≤◌, true, false, ◌&&◌, 
 use Rattle.std.specs.Prelude.{◌==◌, Option, Some, None}
 use Rattle.std.specs.List.{list_any}
 use Rattle.std.specs.Str.{bytes_eq}
-use Rattle.nitro_bytes.specs.Parts.{FixedParts}
-use Rattle.chain_laws.proofs.Lists.{Suffix, suffix_of, append_assoc', In-append_right}
-use Rattle.chain_laws.proofs.Tests.{none-eq, and-left, and-right, eqb-true}
-use Rattle.channel_calls.proofs.Names.{same_bytes}
-use Rattle.channel_calls.specs.History.{Legal}
-use Rattle.channel_calls.specs.Marked.{Marked}
-use Rattle.channel_calls.specs.declared.entry.Entry.{Entry}
-use Rattle.channel_calls.specs.declared.event.Deed.{Deed}
-use Rattle.channel_calls.specs.declared.event.Deed.TheVariants as deeds
+use Rattle.channel_values.specs.Parts.{FixedParts}
+use Rattle.channel_safety.proofs.Lists.{Suffix, suffix_of, append_assoc', In-append_right}
+use Rattle.channel_safety.proofs.Tests.{none-eq, and-left, and-right, eqb-true}
+use Rattle.call_history.proofs.Names.{same_bytes}
+use Rattle.call_history.specs.History.{Legal}
+use Rattle.call_history.specs.Marked.{Marked}
+use Rattle.call_history.specs.declared.entry.Entry.{Entry}
+use Rattle.call_history.specs.declared.event.Deed.{Deed}
+use Rattle.call_history.specs.declared.event.Deed.TheVariants as deeds
 use Rattle.channel_store.specs.Storing.{kept_of}
 use Rattle.channel_store.specs.declared.kept.Kept.{Kept}
-use Rattle.funding_value.specs.Parts.{running}
-use Rattle.funding_value.specs.declared.plan.Part.{Part}
-use Rattle.funding_value.specs.declared.plan.Part.TheVariants as kinds
-use Rattle.history_laws.proofs.Rowing.{legal-suffix}
-use Rattle.net_model.specs.Held.{held}
-use Rattle.net_model.specs.Journals.{In, is_watched}
-use Rattle.net_party.specs.declared.command.Command.{Command}
-use Rattle.net_party.specs.declared.command.Command.TheVariants as commands
-use Rattle.net_model.specs.Occurring.{OccursFixed}
-use Rattle.node_laws.proofs.Agreeing.{Agree}
-use Rattle.node_laws.proofs.Bridging.{plays-at, lines-append}
-use Rattle.node_laws.proofs.Places.{mind-event}
-use Rattle.node_laws.proofs.Standing.{known}
-use Rattle.node_model.specs.Minds.{Mind, facts_of, did}
-use Rattle.node_model.specs.Places.{Told, lines_of, mind_at}
-use Rattle.node_model.specs.Playing.{Signing, Plays, PlaysEvent, pending, signings}
-use Rattle.node_share_laws.proofs.Telling.{places_tell_shares}
-use Rattle.node_share_laws.specs.Laws.{IsFront}
-use Rattle.node_tables.specs.Stages.{stages}
+use Rattle.funding_plans.specs.Parts.{running}
+use Rattle.funding_plans.specs.declared.plan.Part.{Part}
+use Rattle.funding_plans.specs.declared.plan.Part.TheVariants as kinds
+use Rattle.channel_safety.proofs.Rowing.{legal-suffix}
+use Rattle.channel_safety.specs.Held.{held}
+use Rattle.channel_safety.specs.Journals.{In, is_watched}
+use Rattle.network.specs.declared.command.Command.{Command}
+use Rattle.network.specs.declared.command.Command.TheVariants as commands
+use Rattle.channel_safety.specs.Occurring.{OccursFixed}
+use Rattle.channel_node.proofs.Agreeing.{Agree}
+use Rattle.channel_node.proofs.Bridging.{plays-at, lines-append}
+use Rattle.channel_node.proofs.Places.{mind-event}
+use Rattle.channel_node.proofs.Standing.{known}
+use Rattle.channel_node.specs.Minds.{Mind, facts_of, did}
+use Rattle.channel_node.specs.Places.{Told, lines_of, mind_at}
+use Rattle.channel_node.specs.Playing.{Signing, Plays, PlaysEvent, pending, signings}
+use Rattle.node_guarantees.proofs.Telling.{places_tell_shares}
+use Rattle.node_guarantees.specs.NodeShareLaws.{IsFront}
+use Rattle.stage_tables.specs.Stages.{stages}
 use Rattle.fairness_laws.specs.JointKeeping.{EndsKeep, MiddlesKeep}
 use Rattle.fairness_laws.proofs.Truths.{either}
 use Rattle.fairness_laws.proofs.Apps.{no-payments}
 use Rattle.fairness_laws.specs.PaymentLaws.{ActsNext}
 use Rattle.fairness_laws.specs.PlanLaws.{PartsAreKnown}
 use Rattle.fairness_laws.specs.PlanSettings.{IsFair}
-use Rattle.node_share_laws.specs.Orders.{orders_of}
+use Rattle.node_guarantees.specs.Orders.{orders_of}
 use Rattle.fairness_laws.specs.PlanBearers.{bears}
 use Rattle.share_laws.proofs.Finality.{opened-there}
-use Rattle.share_model.specs.Places.{channels, plan}
-use Rattle.support_chain.specs.Real.{real}
-use Rattle.wish_laws.proofs.Firsts.{joined-among}
+use Rattle.share_laws.specs.Places.{channels, plan}
+use Rattle.support_rules.specs.Real.{real}
+use Rattle.fairness_laws.proofs.FirstRounds.{joined-among}
 use Rattle.fairness_laws.specs.LedgerPlaces.{is_ledger, parts_at, lends_at}
 use Rattle.fairness_laws.specs.LedgerLending.{Lent}
 use Rattle.fairness_laws.specs.LedgerEvents.{PaymentsRun}

@@ -3,40 +3,40 @@ use Rattle.std.proofs.Common.{◌≡◌, ℕ, Bool, true, false, ◌&&◌, ◌||
 use Rattle.std.specs.Prelude.{◌==◌, Some}
 use Rattle.std.specs.List.{list_any}
 use Rattle.std.specs.Str.{bytes_eq}
-use Rattle.nitro_bytes.specs.Parts.{FixedParts}
-use Rattle.chain_laws.proofs.Lists.{In-append_left}
-use Rattle.chain_laws.proofs.Tests.{and-both, and-left, and-right, eqb-true}
-use Rattle.channel_calls.proofs.Names.{same_bytes, bytes_eq_self}
-use Rattle.channel_calls.specs.Flows.{is_among}
-use Rattle.channel_calls.specs.declared.entry.Entry.{Entry}
-use Rattle.funding_value.specs.Parts.{channels_of, channels as channels-of-parts, ledgers_of}
-use Rattle.funding_value.specs.declared.plan.Goal.{Goal}
-use Rattle.funding_value.specs.declared.plan.Part.{Part}
-use Rattle.funding_value.specs.declared.plan.Part.TheVariants as kinds
-use Rattle.funding_value.specs.declared.plan.Virtual.{Virtual}
-use Rattle.net_model.specs.Journals.{In, Line, opened}
-use Rattle.node_laws.proofs.Bridging.{lines-append}
-use Rattle.node_model.specs.Minds.{facts_of}
-use Rattle.node_model.specs.Openings.{are_apart}
-use Rattle.node_model.specs.Places.{Told, lines_of, mind_at}
-use Rattle.node_model.specs.Playing.{Signing}
-use Rattle.node_share_laws.proofs.Telling.{places_tell_shares}
-use Rattle.node_share_laws.specs.Laws.{IsFront}
-use Rattle.node_share_laws.specs.Orders.{orders_of}
-use Rattle.node_tables.specs.Stages.{stages}
+use Rattle.channel_values.specs.Parts.{FixedParts}
+use Rattle.channel_safety.proofs.Lists.{In-append_left}
+use Rattle.channel_safety.proofs.Tests.{and-both, and-left, and-right, eqb-true}
+use Rattle.call_history.proofs.Names.{same_bytes, bytes_eq_self}
+use Rattle.call_history.specs.Flows.{is_among}
+use Rattle.call_history.specs.declared.entry.Entry.{Entry}
+use Rattle.funding_plans.specs.Parts.{channels_of, channels as channels-of-parts, ledgers_of}
+use Rattle.funding_plans.specs.declared.plan.Goal.{Goal}
+use Rattle.funding_plans.specs.declared.plan.Part.{Part}
+use Rattle.funding_plans.specs.declared.plan.Part.TheVariants as kinds
+use Rattle.funding_plans.specs.declared.plan.Virtual.{Virtual}
+use Rattle.channel_safety.specs.Journals.{In, Line, opened}
+use Rattle.channel_node.proofs.Bridging.{lines-append}
+use Rattle.channel_node.specs.Minds.{facts_of}
+use Rattle.channel_node.specs.Openings.{are_apart}
+use Rattle.channel_node.specs.Places.{Told, lines_of, mind_at}
+use Rattle.channel_node.specs.Playing.{Signing}
+use Rattle.node_guarantees.proofs.Telling.{places_tell_shares}
+use Rattle.node_guarantees.specs.NodeShareLaws.{IsFront}
+use Rattle.node_guarantees.specs.Orders.{orders_of}
+use Rattle.stage_tables.specs.Stages.{stages}
 use Rattle.share_laws.proofs.Finality.{opened-there}
-use Rattle.share_laws.proofs.Fair.{plan-later}
-use Rattle.share_model.specs.Places.{Order, channels, plan}
+use Rattle.share_laws.proofs.FairPlaces.{plan-later}
+use Rattle.share_laws.specs.Places.{Order, channels, plan}
 use Rattle.fairness_laws.specs.PlanBearers.{bears}
 use Rattle.fairness_laws.proofs.Plan.Bearers.{Bearer, bears-among, bearer-of}
-use Rattle.support_chain.specs.Real.{real}
+use Rattle.support_rules.specs.Real.{real}
 use Rattle.std.proofs.lemmas.Bool.{eq-eqb}
 use Rattle.fairness_laws.specs.LedgerLending.{Lent}
 use Rattle.fairness_laws.specs.LedgerPlaces.{is_ledger, parts_at, lends_at}
 use Rattle.fairness_laws.specs.PlanLaws.{PartAt, PlansAreWhole}
 use Rattle.fairness_laws.specs.PlanParts.{EndIs}
 use Rattle.fairness_laws.specs.PlanSettings.{IsFair}
-use Rattle.wish_laws.proofs.Planned.{is-planned, one-part}
+use Rattle.fairness_laws.proofs.Planned.{is-planned, one-part}
 use Rattle.fairness_laws.proofs.Ledger.Lent.{LendsAt, by-kind, lends-is}
 use Rattle.fairness_laws.proofs.Seat.Past.{occurs}
 use Rattle.fairness_laws.proofs.Plan.Names.{Passing, any-in, in-among}

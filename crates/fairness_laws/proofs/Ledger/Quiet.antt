@@ -2,21 +2,21 @@
 use Rattle.std.proofs.Common.{◌≡◌, ℕ, cond, List, ◌∷◌, refl, sym, ◌∙◌, ap, subst}
 use Rattle.std.specs.Prelude.{Option, Some, None}
 use Rattle.std.specs.Option.{option_map, option_or}
-use Rattle.nitro_bytes.specs.Parts.{FixedParts, StateParts}
-use Rattle.nitro_bytes.specs.declared.chain.Signed.{Signed}
-use Rattle.chain_laws.proofs.Lists.{In-append_left}
-use Rattle.chain_laws.proofs.Tests.{clash}
-use Rattle.channel_calls.specs.declared.entry.Entry.{Entry}
-use Rattle.funding_value.specs.declared.plan.Goal.{Goal}
-use Rattle.funding_value.specs.declared.plan.Part.{Part}
-use Rattle.net_model.specs.Journals.{In, made_in, opened}
-use Rattle.node_laws.proofs.Places.{mind-entry, mind-event}
-use Rattle.node_model.specs.Minds.{Mind, facts_of, saw, did}
-use Rattle.node_model.specs.Places.{Told, line_of, lines_of, mind_at}
-use Rattle.node_model.specs.Playing.{Signing}
-use Rattle.share_model.specs.Places.{channels, last_made}
-use Rattle.stage_rules.specs.Gathered.{goal_in}
-use Rattle.support_chain.specs.Real.{real}
+use Rattle.channel_values.specs.Parts.{FixedParts, StateParts}
+use Rattle.channel_values.specs.declared.chain.Signed.{Signed}
+use Rattle.channel_safety.proofs.Lists.{In-append_left}
+use Rattle.channel_safety.proofs.Tests.{clash}
+use Rattle.call_history.specs.declared.entry.Entry.{Entry}
+use Rattle.funding_plans.specs.declared.plan.Goal.{Goal}
+use Rattle.funding_plans.specs.declared.plan.Part.{Part}
+use Rattle.channel_safety.specs.Journals.{In, made_in, opened}
+use Rattle.channel_node.proofs.Places.{mind-entry, mind-event}
+use Rattle.channel_node.specs.Minds.{Mind, facts_of, saw, did}
+use Rattle.channel_node.specs.Places.{Told, line_of, lines_of, mind_at}
+use Rattle.channel_node.specs.Playing.{Signing}
+use Rattle.share_laws.specs.Places.{channels, last_made}
+use Rattle.funding_plans.specs.Gathered.{goal_in}
+use Rattle.support_rules.specs.Real.{real}
 use Rattle.fairness_laws.specs.JointKeeping.{EndsKeep, MiddlesKeep}
 use Rattle.fairness_laws.specs.LedgerKeeping.{Drifts}
 use Rattle.fairness_laws.specs.LedgerPlaces.{is_ledger, own_at, parts_at, lends_at, drifts, StepAt}

@@ -1,18 +1,18 @@
 -- What is known of the joint channels of a node's virtual channels, of what ledgers set aside for these: what is opened has gone up.
 use Rattle.std.proofs.Common.{◌≡◌, ℕ, true, false, List, ◌⊎◌, inl, inr, sym, subst}
 use Rattle.std.specs.Prelude.{Some}
-use Rattle.chain_laws.proofs.Tests.{and-left}
-use Rattle.channel_calls.specs.declared.entry.Entry.{Entry}
-use Rattle.funding_value.specs.declared.plan.Goal.{Goal}
-use Rattle.funding_value.specs.declared.plan.Part.{Part}
-use Rattle.funding_value.specs.declared.plan.Part.TheVariants as kinds
-use Rattle.funding_value.specs.declared.plan.Virtual.{Virtual}
-use Rattle.net_model.specs.Journals.{In}
-use Rattle.node_model.specs.Minds.{facts_of}
-use Rattle.node_model.specs.Places.{Told, lines_of, mind_at}
-use Rattle.node_model.specs.Playing.{Signing}
-use Rattle.stage_rules.specs.Seats.{state_is}
-use Rattle.support_chain.specs.Real.{real}
+use Rattle.channel_safety.proofs.Tests.{and-left}
+use Rattle.call_history.specs.declared.entry.Entry.{Entry}
+use Rattle.funding_plans.specs.declared.plan.Goal.{Goal}
+use Rattle.funding_plans.specs.declared.plan.Part.{Part}
+use Rattle.funding_plans.specs.declared.plan.Part.TheVariants as kinds
+use Rattle.funding_plans.specs.declared.plan.Virtual.{Virtual}
+use Rattle.channel_safety.specs.Journals.{In}
+use Rattle.channel_node.specs.Minds.{facts_of}
+use Rattle.channel_node.specs.Places.{Told, lines_of, mind_at}
+use Rattle.channel_node.specs.Playing.{Signing}
+use Rattle.funding_plans.specs.Seats.{state_is}
+use Rattle.support_rules.specs.Real.{real}
 use Rattle.virtual_channel.specs.Middles.{is_without, is_settled_back}
 use Rattle.fairness_laws.specs.JointKeeping.{EndKeeps, MiddleKeeps, EndsKeep, MiddlesKeep}
 use Rattle.fairness_laws.specs.LedgerLending.{Lent}

@@ -1,26 +1,26 @@
 -- A channel that isn't a ledger is signed: a part goes past its set-up only once its ledger has gone up.
 use Rattle.std.proofs.Common.{◌≡◌, ℕ, ◌≤◌, true, false, List, [], ◌∷◌, ◌⊎◌, inl, inr, length, sym, ◌∙◌, ap, subst}
 use Rattle.std.specs.Prelude.{is_ok, Option, Some, Result}
-use Rattle.nitro_bytes.proofs.Format.{valid_again, spelled_once}
-use Rattle.nitro_bytes.proofs.Formats.{outcome_format}
-use Rattle.nitro_bytes.specs.Outcomes.{IsOutcome}
-use Rattle.nitro_bytes.specs.Parts.{StateParts}
-use Rattle.nitro_bytes.specs.Reading.{outcome_of}
-use Rattle.nitro_bytes.specs.Spelling.{outcome}
-use Rattle.nitro_bytes.specs.declared.fault.ByteFault.{ByteFault}
-use Rattle.nitro_bytes.specs.declared.value.AssetOutcome.{AssetOutcome}
-use Rattle.app_rules.specs.Ballots.{ballot_of}
-use Rattle.app_rules.specs.Rules.{is_same_outcome}
-use Rattle.app_rules.specs.Toward.{is_settled, has_no_votes}
-use Rattle.chain_laws.proofs.Tests.{clash, and-left, and-right, cond-true}
-use Rattle.channel_calls.proofs.Names.{same_bytes}
-use Rattle.nitro_bytes.specs.declared.value.Dest.TheVariants.{Person}
-use Rattle.channel_model.specs.Amounts.{amt}
-use Rattle.funding_value.specs.Shapes.{items_in}
-use Rattle.outcome_targets.specs.Limits.{is_valid}
-use Rattle.outcome_targets.specs.Outcomes.{names, up, changed}
-use Rattle.share_model.specs.Places.{outcomes_of}
-use Rattle.stage_rules.specs.Seats.{settled_on, up_in, up_after}
+use Rattle.channel_values.proofs.Format.{valid_again, spelled_once}
+use Rattle.channel_values.proofs.Formats.{outcome_format}
+use Rattle.channel_values.specs.Outcomes.{IsOutcome}
+use Rattle.channel_values.specs.Parts.{StateParts}
+use Rattle.channel_values.specs.Reading.{outcome_of}
+use Rattle.channel_values.specs.Spelling.{outcome}
+use Rattle.channel_values.specs.declared.fault.ByteFault.{ByteFault}
+use Rattle.channel_values.specs.declared.value.AssetOutcome.{AssetOutcome}
+use Rattle.support_rules.specs.Ballots.{ballot_of}
+use Rattle.support_rules.specs.Rules.{is_same_outcome}
+use Rattle.support_rules.specs.Toward.{is_settled, has_no_votes}
+use Rattle.channel_safety.proofs.Tests.{clash, and-left, and-right, cond-true}
+use Rattle.call_history.proofs.Names.{same_bytes}
+use Rattle.channel_values.specs.declared.value.Dest.TheVariants.{Person}
+use Rattle.channel_values.specs.Amounts.{amt}
+use Rattle.funding_plans.specs.Shapes.{items_in}
+use Rattle.funding_plans.specs.Limits.{is_valid}
+use Rattle.funding_plans.specs.Outcomes.{names, up, changed}
+use Rattle.share_laws.specs.Places.{outcomes_of}
+use Rattle.funding_plans.specs.Seats.{settled_on, up_in, up_after}
 use Rattle.fairness_laws.proofs.Truths.{either}
 use Rattle.fairness_laws.proofs.Outcomes.{alone as alone-if, bare-data}
 use Rattle.fairness_laws.specs.LedgerKeeping.{HasGoneUp, Backs}

@@ -3,23 +3,23 @@ use Rattle.std.proofs.Common.{◌≡◌, ◌≢◌, ℕ, ◌+◌, ◌*◌, ◌<�
 use Rattle.std.proofs.lemmas.Bool.Decides.{nat_tests}
 use Rattle.std.specs.Prelude.{nat_le, nat_lt, Option, Some, None}
 use Rattle.std.specs.Option.{option_map}
-use Rattle.nitro_bytes.specs.Outcomes.{IsOutcome}
-use Rattle.nitro_bytes.specs.Parts.{FixedParts, StateParts, IsState, state_with}
-use Rattle.nitro_bytes.specs.declared.chain.Signed.{Signed}
-use Rattle.nitro_bytes.specs.declared.value.AssetOutcome.{AssetOutcome}
-use Rattle.app_rules.specs.Rules.{is_same_outcome}
-use Rattle.chain_laws.proofs.Tests.{some-eq, and-left, and-right, cond-true, clash, lt-true, le-true}
-use Rattle.channel_calls.proofs.Names.{same_bytes}
-use Rattle.channel_calls.specs.Marked.{Marked, marked_of, is_supported, next_after}
-use Rattle.channel_calls.specs.declared.entry.Entry.{Entry}
-use Rattle.channel_model.specs.Rules.{people}
+use Rattle.channel_values.specs.Outcomes.{IsOutcome}
+use Rattle.channel_values.specs.Parts.{FixedParts, StateParts, IsState, state_with}
+use Rattle.channel_values.specs.declared.chain.Signed.{Signed}
+use Rattle.channel_values.specs.declared.value.AssetOutcome.{AssetOutcome}
+use Rattle.support_rules.specs.Rules.{is_same_outcome}
+use Rattle.channel_safety.proofs.Tests.{some-eq, and-left, and-right, cond-true, clash, lt-true, le-true}
+use Rattle.call_history.proofs.Names.{same_bytes}
+use Rattle.call_history.specs.Marked.{Marked, marked_of, is_supported, next_after}
+use Rattle.call_history.specs.declared.entry.Entry.{Entry}
+use Rattle.channel_values.specs.Rules.{people}
 use Rattle.channel_store.specs.Keeping.{is_held}
 use Rattle.channel_store.specs.declared.kept.Kept.{Kept}
-use Rattle.funding_value.specs.Parts.{ledgers_of}
-use Rattle.funding_value.specs.declared.plan.Goal.{Goal}
-use Rattle.funding_value.specs.declared.plan.Part.{Part}
-use Rattle.funding_value.specs.declared.plan.Part.TheVariants.{Root, OnLedger, End, Middle}
-use Rattle.funding_value.specs.declared.plan.Virtual.{Virtual}
+use Rattle.funding_plans.specs.Parts.{ledgers_of}
+use Rattle.funding_plans.specs.declared.plan.Goal.{Goal}
+use Rattle.funding_plans.specs.declared.plan.Part.{Part}
+use Rattle.funding_plans.specs.declared.plan.Part.TheVariants.{Root, OnLedger, End, Middle}
+use Rattle.funding_plans.specs.declared.plan.Virtual.{Virtual}
 use Rattle.fairness_laws.proofs.Ledger.Plans.{ledger-app}
 use Rattle.fairness_laws.proofs.Apps.{no-payments}
 use Rattle.fairness_laws.proofs.Ledger.Lent.{by-kind}
@@ -29,16 +29,16 @@ use Rattle.fairness_laws.proofs.Seat.Past.{signed-held, supported, people-are, o
 use Rattle.fairness_laws.specs.LedgerLending.{Lent, lent}
 use Rattle.fairness_laws.specs.LedgerPlaces.{is_ledger, own_at}
 use Rattle.fairness_laws.specs.LedgerEvents.{SetUpsStart}
-use Rattle.net_model.proofs.Members.{In-append_right}
-use Rattle.net_model.specs.Strings.{signed_of}
-use Rattle.net_model.specs.Journals.{In, Line, made_in}
-use Rattle.net_party.specs.declared.command.Command.TheVariants as commands
-use Rattle.node_model.specs.Minds.{Mind, facts_of}
-use Rattle.node_model.specs.Places.{Told, lines_of, mind_at}
-use Rattle.node_model.specs.Playing.{Signing}
+use Rattle.channel_safety.proofs.Members.{In-append_right}
+use Rattle.channel_safety.specs.Strings.{signed_of}
+use Rattle.channel_safety.specs.Journals.{In, Line, made_in}
+use Rattle.network.specs.declared.command.Command.TheVariants as commands
+use Rattle.channel_node.specs.Minds.{Mind, facts_of}
+use Rattle.channel_node.specs.Places.{Told, lines_of, mind_at}
+use Rattle.channel_node.specs.Playing.{Signing}
 use Rattle.fairness_laws.proofs.Ledger.Full.{ledger-held}
 use Rattle.fairness_laws.proofs.OpenedVirtuals.{end-opened}
-use Rattle.history_laws.proofs.Places.{made-noted}
+use Rattle.channel_safety.proofs.Places.{made-noted}
 use Rattle.fairness_laws.proofs.Payment.Made.{made-deed}
 use Rattle.fairness_laws.proofs.OpenedParts.{later-took, root-opened}
 use Rattle.fairness_laws.specs.PaymentLaws.{At, ActsNext}
@@ -50,16 +50,16 @@ use Rattle.fairness_laws.specs.PlanLaws.{PartAt}
 use Rattle.fairness_laws.specs.PlanSeats.{SeatIs}
 use Rattle.fairness_laws.specs.PlanSettings.{IsFair}
 use Rattle.share_laws.proofs.Fronts.{last-line}
-use Rattle.share_model.specs.Places.{last_made, outcomes_of}
-use Rattle.stage_rules.specs.Gathered.{goal_in}
-use Rattle.stage_rules.specs.Seats.{Seat, is_turn, repeats}
-use Rattle.outcome_targets.specs.Limits.{is_valid}
-use Rattle.support_chain.specs.Real.{real}
-use Rattle.support_laws.proofs.Consensus.{same_outcome}
-use Rattle.wish_laws.proofs.Opening.{open-goal, roots_open_with}
-use Rattle.wish_laws.proofs.Roots.{Whens, when-some}
-use Rattle.wish_laws.specs.Carried.{OpensWith, IsRepeatedIfAny}
-use Rattle.wish_laws.specs.Roots.{is_repeated}
+use Rattle.share_laws.specs.Places.{last_made, outcomes_of}
+use Rattle.funding_plans.specs.Gathered.{goal_in}
+use Rattle.funding_plans.specs.Seats.{Seat, is_turn, repeats}
+use Rattle.funding_plans.specs.Limits.{is_valid}
+use Rattle.support_rules.specs.Real.{real}
+use Rattle.support_rules.proofs.ConsensusLaws.{same_outcome}
+use Rattle.fairness_laws.proofs.RootOpening.{open-goal, roots_open_with}
+use Rattle.fairness_laws.proofs.RootWishes.{Whens, when-some}
+use Rattle.fairness_laws.specs.Carried.{OpensWith, IsRepeatedIfAny}
+use Rattle.fairness_laws.specs.Roots.{is_repeated}
 use Rattle.fairness_laws.proofs.Channels.{channel-of, carried}
 
 -- ---- small things

@@ -2,13 +2,13 @@
 use Rattle.std.proofs.Common.{◌≡◌, ℕ, true, false, ◌⊎◌, inl, inr, List, sym, ◌∙◌, subst}
 use Rattle.std.specs.Prelude.{Option, Some}
 use Rattle.std.specs.Str.{bytes_eq}
-use Rattle.nitro_bytes.specs.Parts.{StateParts}
-use Rattle.chain_laws.proofs.Tests.{some-eq, clash}
-use Rattle.channel_calls.proofs.Names.{same_bytes}
-use Rattle.funding_value.specs.declared.plan.Part.{Part}
-use Rattle.net_model.specs.Journals.{In}
-use Rattle.outcome_targets.specs.Outcomes.{names}
-use Rattle.outcome_targets.specs.declared.child.Child.{Child}
+use Rattle.channel_values.specs.Parts.{StateParts}
+use Rattle.channel_safety.proofs.Tests.{some-eq, clash}
+use Rattle.call_history.proofs.Names.{same_bytes}
+use Rattle.funding_plans.specs.declared.plan.Part.{Part}
+use Rattle.channel_safety.specs.Journals.{In}
+use Rattle.funding_plans.specs.Outcomes.{names}
+use Rattle.funding_plans.specs.declared.child.Child.{Child}
 use Rattle.fairness_laws.proofs.Truths.{either}
 use Rattle.fairness_laws.specs.LedgerKeeping.{Lends, IsPending, AllKeep, Drifts, Closing, other, this, Closes}
 use Rattle.fairness_laws.specs.LedgerLending.{Lent}

@@ -5,58 +5,58 @@ use Rattle.std.specs.Prelude.{◌==◌, nat_le, nat_lt, slice_index_or, Option, 
 use Rattle.std.specs.List.{list_all}
 use Rattle.std.specs.Option.{option_map, option_or}
 use Rattle.std.specs.Str.{bytes_eq}
-use Rattle.nitro_bytes.specs.Outcomes.{is_same, IsOutcome}
-use Rattle.nitro_bytes.specs.Parts.{FixedParts, StateParts, state_with, IsState}
-use Rattle.nitro_bytes.specs.declared.chain.Signed.{Signed}
-use Rattle.nitro_bytes.specs.declared.value.AssetOutcome.{AssetOutcome}
-use Rattle.nitro_bytes.specs.declared.value.Dest.{Dest}
-use Rattle.nitro_bytes.specs.declared.value.Dest.TheVariants.{Person, Channel}
-use Rattle.nitro_bytes.specs.declared.value.Item.{Item}
-use Rattle.nitro_bytes.specs.declared.value.Shape.{Shape}
-use Rattle.nitro_bytes.specs.declared.value.Shape.TheVariants.{Allocation, Guarantee}
-use Rattle.app_rules.specs.Rules.{is_one_of}
-use Rattle.chain_laws.proofs.Tests.{some-eq, none-eq, clash, and-left, and-right, cond-true, cond-false}
-use Rattle.channel_calls.proofs.Names.{same_bytes, bytes_eq_self}
-use Rattle.channel_calls.specs.Dues.{shape_in}
-use Rattle.channel_calls.specs.Flows.{is_among}
-use Rattle.channel_calls.specs.declared.entry.Entry.{Entry}
-use Rattle.channel_calls.specs.declared.event.Deed.{Deed}
-use Rattle.channel_calls.specs.declared.event.Deed.TheVariants as deeds
-use Rattle.channel_model.specs.Amounts.{has}
-use Rattle.channel_model.specs.Rules.{people}
-use Rattle.funding_value.specs.Parts.{channels_of, joined_of, ledgers_of, own_ledger, own_guarantor}
-use Rattle.funding_value.specs.Shapes.{items_of, items_in}
-use Rattle.funding_value.specs.declared.plan.Goal.{Goal}
-use Rattle.funding_value.specs.declared.plan.Part.{Part}
-use Rattle.funding_value.specs.declared.plan.Part.TheVariants as kinds
-use Rattle.funding_value.specs.declared.plan.Virtual.{Virtual}
+use Rattle.channel_values.specs.Outcomes.{is_same, IsOutcome}
+use Rattle.channel_values.specs.Parts.{FixedParts, StateParts, state_with, IsState}
+use Rattle.channel_values.specs.declared.chain.Signed.{Signed}
+use Rattle.channel_values.specs.declared.value.AssetOutcome.{AssetOutcome}
+use Rattle.channel_values.specs.declared.value.Dest.{Dest}
+use Rattle.channel_values.specs.declared.value.Dest.TheVariants.{Person, Channel}
+use Rattle.channel_values.specs.declared.value.Item.{Item}
+use Rattle.channel_values.specs.declared.value.Shape.{Shape}
+use Rattle.channel_values.specs.declared.value.Shape.TheVariants.{Allocation, Guarantee}
+use Rattle.support_rules.specs.Rules.{is_one_of}
+use Rattle.channel_safety.proofs.Tests.{some-eq, none-eq, clash, and-left, and-right, cond-true, cond-false}
+use Rattle.call_history.proofs.Names.{same_bytes, bytes_eq_self}
+use Rattle.call_history.specs.Dues.{shape_in}
+use Rattle.call_history.specs.Flows.{is_among}
+use Rattle.call_history.specs.declared.entry.Entry.{Entry}
+use Rattle.call_history.specs.declared.event.Deed.{Deed}
+use Rattle.call_history.specs.declared.event.Deed.TheVariants as deeds
+use Rattle.channel_values.specs.Amounts.{has}
+use Rattle.channel_values.specs.Rules.{people}
+use Rattle.funding_plans.specs.Parts.{channels_of, joined_of, ledgers_of, own_ledger, own_guarantor}
+use Rattle.funding_plans.specs.Shapes.{items_of, items_in}
+use Rattle.funding_plans.specs.declared.plan.Goal.{Goal}
+use Rattle.funding_plans.specs.declared.plan.Part.{Part}
+use Rattle.funding_plans.specs.declared.plan.Part.TheVariants as kinds
+use Rattle.funding_plans.specs.declared.plan.Virtual.{Virtual}
 use Rattle.ledger_channel.specs.Roots.{Direct}
 use Rattle.ledger_channel.specs.Stages.{wanted_of_root}
-use Rattle.net_model.proofs.Members.{In-append_right}
-use Rattle.net_model.specs.Strings.{signed_of}
-use Rattle.net_model.specs.Journals.{In, made_in, some_if}
-use Rattle.net_party.specs.declared.command.Command.TheVariants as commands
-use Rattle.node_laws.proofs.Bridging.{plays-at, lines-append}
-use Rattle.node_model.specs.Minds.{Mind, facts_of, did}
-use Rattle.node_model.specs.Places.{Told, line_of, lines_of, mind_at}
-use Rattle.node_model.specs.Playing.{Signing, Plays, pending, signings, Allowed}
-use Rattle.node_tables.specs.Fitting.{is_shared, are_shared}
-use Rattle.node_tables.specs.Stages.{stages}
-use Rattle.outcome_targets.specs.Limits.{is_valid}
-use Rattle.outcome_targets.specs.declared.terms.Terms.{Terms}
-use Rattle.plan_stages.specs.Asked.{asked_in, wanted_of}
-use Rattle.share_model.specs.Places.{last_made, outcomes_of}
-use Rattle.stage_rules.specs.Gathered.{goal_in}
-use Rattle.stage_rules.specs.Seats.{Seat, has_signed_past, repeats, final_state, final_after, has_no_data, toward_after, settled_on, up_in, up_after, down_after, is_turn}
-use Rattle.support_chain.specs.Real.{real}
-use Rattle.support_chain.specs.Steps.{persons}
+use Rattle.channel_safety.proofs.Members.{In-append_right}
+use Rattle.channel_safety.specs.Strings.{signed_of}
+use Rattle.channel_safety.specs.Journals.{In, made_in, some_if}
+use Rattle.network.specs.declared.command.Command.TheVariants as commands
+use Rattle.channel_node.proofs.Bridging.{plays-at, lines-append}
+use Rattle.channel_node.specs.Minds.{Mind, facts_of, did}
+use Rattle.channel_node.specs.Places.{Told, line_of, lines_of, mind_at}
+use Rattle.channel_node.specs.Playing.{Signing, Plays, pending, signings, Allowed}
+use Rattle.stage_tables.specs.Fitting.{is_shared, are_shared}
+use Rattle.stage_tables.specs.Stages.{stages}
+use Rattle.funding_plans.specs.Limits.{is_valid}
+use Rattle.funding_plans.specs.declared.terms.Terms.{Terms}
+use Rattle.stage_tables.specs.Asked.{asked_in, wanted_of}
+use Rattle.share_laws.specs.Places.{last_made, outcomes_of}
+use Rattle.funding_plans.specs.Gathered.{goal_in}
+use Rattle.funding_plans.specs.Seats.{Seat, has_signed_past, repeats, final_state, final_after, has_no_data, toward_after, settled_on, up_in, up_after, down_after, is_turn}
+use Rattle.support_rules.specs.Real.{real}
+use Rattle.support_rules.specs.Steps.{persons}
 use Rattle.virtual_channel.specs.Ends.{End}
 use Rattle.virtual_channel.specs.Stages.{wanted_of_end}
-use Rattle.wish_laws.proofs.Finding.{asked-there, flips}
-use Rattle.wish_laws.proofs.Firsts.{joined-among}
-use Rattle.wish_laws.proofs.Picking.{IsWanted}
-use Rattle.wish_laws.proofs.Picking as picking
-use Rattle.wish_laws.proofs.Roots.{when-some}
+use Rattle.fairness_laws.proofs.Finding.{asked-there, flips}
+use Rattle.fairness_laws.proofs.FirstRounds.{joined-among}
+use Rattle.fairness_laws.proofs.Picking.{IsWanted}
+use Rattle.fairness_laws.proofs.Picking as picking
+use Rattle.fairness_laws.proofs.RootWishes.{when-some}
 use Rattle.fairness_laws.specs.JointKeeping.{EndsKeep, MiddlesKeep}
 use Rattle.fairness_laws.proofs.Truths.{either}
 use Rattle.fairness_laws.proofs.Apps.{no-payments}

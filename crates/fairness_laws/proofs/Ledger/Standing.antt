@@ -2,16 +2,16 @@
 use Rattle.std.proofs.Common.{◌≡◌, List, ◌∙◌, ap, subst, ℕ}
 use Rattle.std.specs.Prelude.{Some, None}
 use Rattle.std.specs.Option.{option_map}
-use Rattle.nitro_bytes.specs.Parts.{StateParts}
-use Rattle.chain_laws.proofs.Tests.{cond-true}
-use Rattle.channel_calls.specs.declared.entry.Entry.{Entry}
-use Rattle.funding_value.specs.declared.plan.Part.{Part}
-use Rattle.net_model.specs.Journals.{In}
-use Rattle.node_model.specs.Minds.{facts_of}
-use Rattle.node_model.specs.Places.{Told, lines_of, mind_at}
-use Rattle.node_model.specs.Playing.{Signing}
-use Rattle.share_model.specs.Places.{last_made}
-use Rattle.support_chain.specs.Real.{real}
+use Rattle.channel_values.specs.Parts.{StateParts}
+use Rattle.channel_safety.proofs.Tests.{cond-true}
+use Rattle.call_history.specs.declared.entry.Entry.{Entry}
+use Rattle.funding_plans.specs.declared.plan.Part.{Part}
+use Rattle.channel_safety.specs.Journals.{In}
+use Rattle.channel_node.specs.Minds.{facts_of}
+use Rattle.channel_node.specs.Places.{Told, lines_of, mind_at}
+use Rattle.channel_node.specs.Playing.{Signing}
+use Rattle.share_laws.specs.Places.{last_made}
+use Rattle.support_rules.specs.Real.{real}
 use Rattle.fairness_laws.specs.JointKeeping.{EndsKeep, MiddlesKeep}
 use Rattle.fairness_laws.specs.LedgerLaws.{LedgersKeep, LedgersBack, KnownLedgersKeep}
 use Rattle.fairness_laws.specs.LedgerLending.{Lent}

@@ -2,19 +2,19 @@
 use Rattle.std.proofs.Common.{◌≡◌, ◌≢◌, ℕ, Bool, true, false, ◌⊎◌, inl, inr, List, [], ◌∷◌, refl, sym, ◌∙◌, ap, subst}
 use Rattle.std.specs.Prelude.{◌==◌, Option, Some}
 use Rattle.std.specs.Str.{bytes_eq}
-use Rattle.nitro_bytes.specs.Parts.{StateParts}
-use Rattle.nitro_bytes.specs.declared.value.AssetOutcome.{AssetOutcome}
-use Rattle.nitro_bytes.specs.declared.value.Dest.TheVariants.{Person, Channel}
-use Rattle.nitro_bytes.specs.declared.value.Shape.{Shape}
-use Rattle.chain_laws.proofs.Tests.{some-eq, clash, eqb-true}
-use Rattle.channel_calls.proofs.Names.{same_bytes, bytes_eq_self}
-use Rattle.channel_model.specs.Amounts.{amt, has}
-use Rattle.funding_value.specs.Shapes.{items_of, items_in}
-use Rattle.funding_value.specs.declared.plan.Part.{Part}
-use Rattle.net_model.specs.Journals.{In}
-use Rattle.outcome_targets.specs.Outcomes.{names}
-use Rattle.outcome_targets.specs.declared.child.Child.{Child}
-use Rattle.share_model.specs.Places.{outcomes_of}
+use Rattle.channel_values.specs.Parts.{StateParts}
+use Rattle.channel_values.specs.declared.value.AssetOutcome.{AssetOutcome}
+use Rattle.channel_values.specs.declared.value.Dest.TheVariants.{Person, Channel}
+use Rattle.channel_values.specs.declared.value.Shape.{Shape}
+use Rattle.channel_safety.proofs.Tests.{some-eq, clash, eqb-true}
+use Rattle.call_history.proofs.Names.{same_bytes, bytes_eq_self}
+use Rattle.channel_values.specs.Amounts.{amt, has}
+use Rattle.funding_plans.specs.Shapes.{items_of, items_in}
+use Rattle.funding_plans.specs.declared.plan.Part.{Part}
+use Rattle.channel_safety.specs.Journals.{In}
+use Rattle.funding_plans.specs.Outcomes.{names}
+use Rattle.funding_plans.specs.declared.child.Child.{Child}
+use Rattle.share_laws.specs.Places.{outcomes_of}
 use Rattle.std.proofs.lemmas.Bool.{eq-eqb}
 use Rattle.fairness_laws.proofs.Truths.{either}
 use Rattle.fairness_laws.proofs.Outcomes.{only}

@@ -1,17 +1,17 @@
 -- Ledgers that went up stand, at each place of a node's journal.
 use Rattle.std.proofs.Common.{◌≡◌, true, false, ◌⊎◌, inl, inr, List, [], ◌∷◌, refl, subst}
 use Rattle.std.specs.Prelude.{Some}
-use Rattle.chain_laws.proofs.Tests.{clash}
-use Rattle.channel_calls.specs.declared.entry.Entry.{Entry}
-use Rattle.funding_value.specs.declared.plan.Goal.{Goal}
-use Rattle.funding_value.specs.declared.plan.Part.{Part}
-use Rattle.net_model.specs.Journals.{In}
-use Rattle.node_model.specs.Minds.{facts_of}
-use Rattle.node_model.specs.Places.{Told, mind_at}
-use Rattle.node_model.specs.Playing.{Signing}
-use Rattle.stage_rules.specs.Gathered.{goal_in}
-use Rattle.support_chain.specs.Real.{real}
-use Rattle.share_model.specs.Places.{outcomes_of}
+use Rattle.channel_safety.proofs.Tests.{clash}
+use Rattle.call_history.specs.declared.entry.Entry.{Entry}
+use Rattle.funding_plans.specs.declared.plan.Goal.{Goal}
+use Rattle.funding_plans.specs.declared.plan.Part.{Part}
+use Rattle.channel_safety.specs.Journals.{In}
+use Rattle.channel_node.specs.Minds.{facts_of}
+use Rattle.channel_node.specs.Places.{Told, mind_at}
+use Rattle.channel_node.specs.Playing.{Signing}
+use Rattle.funding_plans.specs.Gathered.{goal_in}
+use Rattle.support_rules.specs.Real.{real}
+use Rattle.share_laws.specs.Places.{outcomes_of}
 use Rattle.fairness_laws.specs.JointKeeping.{EndsKeep, MiddlesKeep}
 use Rattle.fairness_laws.proofs.Truths.{either}
 use Rattle.fairness_laws.specs.LedgerKeeping.{LedgerKeeps, IsPending, IsVoted}
@@ -21,7 +21,7 @@ use Rattle.fairness_laws.specs.LedgerPlaces.{own_at, parts_at, lends_at, KeepAt}
 use Rattle.fairness_laws.specs.PaymentLaws.{At}
 use Rattle.fairness_laws.specs.PlanLaws.{PartsAreKnown, PlansAreWhole}
 use Rattle.fairness_laws.specs.PlanSettings.{IsFair}
-use Rattle.outcome_targets.specs.Outcomes.{names}
+use Rattle.funding_plans.specs.Outcomes.{names}
 use Rattle.fairness_laws.proofs.Joint.EndsKeep.{ends_keep}
 use Rattle.fairness_laws.proofs.Joint.MiddlesKeep.{middles_keep}
 use Rattle.fairness_laws.proofs.Ledger.Plans.{lent-stands}

@@ -1,14 +1,14 @@
 -- What a part wants to sign in a channel, by its rows.
 use Rattle.std.proofs.Common.{◌≡◌, true, false, ◌&&◌, arith}
 use Rattle.std.specs.Str.{bytes_eq}
-use Rattle.chain_laws.proofs.Tests.{clash, and-both, or-right}
+use Rattle.channel_safety.proofs.Tests.{clash, and-both, or-right}
 use Rattle.ledger_channel.specs.OnLedgers.{Funded, on_ledger_rows}
 use Rattle.ledger_channel.specs.OnLedgers as funded
-use Rattle.stage_rules.specs.Seats.{state_is, holds, has_signed_past, settled_on, up_in}
+use Rattle.funding_plans.specs.Seats.{state_is, holds, has_signed_past, settled_on, up_in}
 use Rattle.virtual_channel.specs.Ends as ends
 use Rattle.virtual_channel.specs.Middles.{is_without, is_settled_back}
 use Rattle.virtual_channel.specs.Middles as middles
-use Rattle.wish_laws.proofs.Finding.{or-left}
+use Rattle.fairness_laws.proofs.Finding.{or-left}
 use Rattle.fairness_laws.proofs.Truths.{neither, untrue}
 use Rattle.fairness_laws.specs.LedgerLending.{of_funded, of_end}
 use Rattle.fairness_laws.specs.LedgerWanting.{FundedRow, sets_up, goes_up, finishes, goes_down, FundedWants, WantsOn, up, down, FundedWantsOn, EndWantsOn, MiddleWants, first, second, MiddleWantsOn, FundedUnfinished, FundedRuns}

@@ -2,35 +2,35 @@
 use Rattle.std.proofs.Common.{◌≡◌, ℕ, ◌<◌, ◌≤◌, Bool, true, false, ◌&&◌, ◌||◌, List, ◌⊎◌, inl, inr, length, refl, sym, ◌∙◌, ap, subst, arith}
 use Rattle.std.specs.Prelude.{nat_le, Option, Some, None}
 use Rattle.std.specs.Str.{bytes_eq}
-use Rattle.nitro_bytes.specs.Parts.{FixedParts, StateParts}
-use Rattle.chain_laws.proofs.Tests.{clash, and-left, and-right, none-eq}
-use Rattle.channel_calls.proofs.Names.{same_bytes}
-use Rattle.channel_calls.specs.Flows.{is_among}
-use Rattle.channel_calls.specs.declared.entry.Entry.{Entry}
-use Rattle.channel_model.specs.Rules.{people}
-use Rattle.funding_value.specs.Parts.{channels_of, ledgers_of, own_ledger, own_guarantor}
-use Rattle.funding_value.specs.declared.plan.Goal.{Goal}
-use Rattle.funding_value.specs.declared.plan.Part.{Part}
-use Rattle.funding_value.specs.declared.plan.Part.TheVariants as kinds
-use Rattle.funding_value.specs.declared.plan.Virtual.{Virtual}
+use Rattle.channel_values.specs.Parts.{FixedParts, StateParts}
+use Rattle.channel_safety.proofs.Tests.{clash, and-left, and-right, none-eq}
+use Rattle.call_history.proofs.Names.{same_bytes}
+use Rattle.call_history.specs.Flows.{is_among}
+use Rattle.call_history.specs.declared.entry.Entry.{Entry}
+use Rattle.channel_values.specs.Rules.{people}
+use Rattle.funding_plans.specs.Parts.{channels_of, ledgers_of, own_ledger, own_guarantor}
+use Rattle.funding_plans.specs.declared.plan.Goal.{Goal}
+use Rattle.funding_plans.specs.declared.plan.Part.{Part}
+use Rattle.funding_plans.specs.declared.plan.Part.TheVariants as kinds
+use Rattle.funding_plans.specs.declared.plan.Virtual.{Virtual}
 use Rattle.ledger_channel.specs.OnLedgers.{Funded}
 use Rattle.ledger_channel.specs.OnLedgers as funded
 use Rattle.ledger_channel.specs.Stages.{wanted_on_ledger}
-use Rattle.net_model.specs.Journals.{In}
-use Rattle.node_model.specs.Minds.{Mind, facts_of}
-use Rattle.node_model.specs.Places.{Told, lines_of, mind_at}
-use Rattle.node_model.specs.Playing.{Signing}
-use Rattle.plan_stages.specs.Asked.{wanted_of}
-use Rattle.share_model.specs.Places.{channels}
-use Rattle.stage_rules.specs.Seats.{Seat, state_is, holds, has_signed_past, settled_on, up_in}
-use Rattle.stage_rules.specs.Rows.{wanted_in}
-use Rattle.support_chain.specs.Real.{real}
+use Rattle.channel_safety.specs.Journals.{In}
+use Rattle.channel_node.specs.Minds.{Mind, facts_of}
+use Rattle.channel_node.specs.Places.{Told, lines_of, mind_at}
+use Rattle.channel_node.specs.Playing.{Signing}
+use Rattle.stage_tables.specs.Asked.{wanted_of}
+use Rattle.share_laws.specs.Places.{channels}
+use Rattle.funding_plans.specs.Seats.{Seat, state_is, holds, has_signed_past, settled_on, up_in}
+use Rattle.funding_plans.specs.Rows.{wanted_in}
+use Rattle.support_rules.specs.Real.{real}
 use Rattle.virtual_channel.specs.Ends.{End, end_rows}
 use Rattle.virtual_channel.specs.Ends as ends-of
 use Rattle.virtual_channel.specs.Middles.{Middle, middle_rows, is_without, is_settled_back}
 use Rattle.virtual_channel.specs.Middles as middles-of
 use Rattle.virtual_channel.specs.Stages.{wanted_of_end, wanted_of_middle}
-use Rattle.wish_laws.proofs.Finding.{flips}
+use Rattle.fairness_laws.proofs.Finding.{flips}
 use Rattle.fairness_laws.proofs.Truths.{either}
 use Rattle.fairness_laws.proofs.Joint.Terms.{ledgers-differ, channel-no_ledger}
 use Rattle.fairness_laws.specs.JointKeeping.{EndKeeps, MiddleKeeps, EndsKeep, MiddlesKeep}

@@ -2,31 +2,31 @@
 use Rattle.std.proofs.Common.{◌≡◌, ℕ, ◌+◌, ◌-◌, ◌<◌, ◌≤◌, Bool, true, false, ◌||◌, ◌⊎◌, List, inl, inr, refl, sym, ◌∙◌, ap, subst, arith}
 use Rattle.std.specs.Prelude.{◌==◌, nat_lt, Option, Some, None}
 use Rattle.std.specs.Str.{bytes_eq}
-use Rattle.nitro_bytes.specs.Parts.{FixedParts, StateParts}
-use Rattle.channel_model.specs.Rules.{people}
-use Rattle.channel_calls.proofs.Names.{same_bytes, bytes_eq_self}
+use Rattle.channel_values.specs.Parts.{FixedParts, StateParts}
+use Rattle.channel_values.specs.Rules.{people}
+use Rattle.call_history.proofs.Names.{same_bytes, bytes_eq_self}
 use Rattle.channel_store.specs.Keeping.{next_of}
 use Rattle.channel_store.specs.Storing.{kept_of}
 use Rattle.channel_store.specs.declared.kept.Kept.{Kept}
-use Rattle.funding_value.specs.declared.plan.Goal.{Goal}
-use Rattle.funding_value.specs.declared.plan.Part.TheVariants.{OnLedger}
-use Rattle.outcome_targets.specs.declared.child.Child.{Child}
-use Rattle.support_chain.specs.Real.{real}
-use Rattle.net_party.specs.declared.command.Command.TheVariants.{OpenOn}
-use Rattle.stage_rules.specs.Gathered as gathered
-use Rattle.stage_rules.specs.Seats.{Seat, repeats, takes_payment}
+use Rattle.funding_plans.specs.declared.plan.Goal.{Goal}
+use Rattle.funding_plans.specs.declared.plan.Part.TheVariants.{OnLedger}
+use Rattle.funding_plans.specs.declared.child.Child.{Child}
+use Rattle.support_rules.specs.Real.{real}
+use Rattle.network.specs.declared.command.Command.TheVariants.{OpenOn}
+use Rattle.funding_plans.specs.Gathered as gathered
+use Rattle.funding_plans.specs.Seats.{Seat, repeats, takes_payment}
 use Rattle.ledger_channel.specs.OnLedgers.{Funded, on_ledger_rows}
 use Rattle.ledger_channel.specs.Stages.{child_of, funded_with, funded_of, funded_in, stage_on_ledger, wanted_on_ledger, taken_on_ledger}
-use Rattle.plan_stages.specs.Asked.{is_closing, wanted_of, takes_of}
-use Rattle.node_model.specs.Minds.{Mind, facts_of}
-use Rattle.node_model.specs.Openings.{are_apart, shared, goal_with}
-use Rattle.node_tables.specs.Stages.{stages}
-use Rattle.chain_laws.proofs.Tests.{some-eq, none-eq, lt-false, eqb-true, clash}
-use Rattle.wish_laws.specs.Roots.{is_repeated}
-use Rattle.wish_laws.proofs.Finding.{names}
-use Rattle.wish_laws.proofs.Closing.{RunsAt}
-use Rattle.wish_laws.proofs.Commanded.{IsGoalOf}
-use Rattle.wish_laws.proofs.Firsts.{IsPlace, Starts, opens-with}
+use Rattle.stage_tables.specs.Asked.{is_closing, wanted_of, takes_of}
+use Rattle.channel_node.specs.Minds.{Mind, facts_of}
+use Rattle.channel_node.specs.Openings.{are_apart, shared, goal_with}
+use Rattle.stage_tables.specs.Stages.{stages}
+use Rattle.channel_safety.proofs.Tests.{some-eq, none-eq, lt-false, eqb-true, clash}
+use Rattle.fairness_laws.specs.Roots.{is_repeated}
+use Rattle.fairness_laws.proofs.Finding.{names}
+use Rattle.fairness_laws.proofs.Closing.{RunsAt}
+use Rattle.fairness_laws.proofs.Commanded.{IsGoalOf}
+use Rattle.fairness_laws.proofs.FirstRounds.{IsPlace, Starts, opens-with}
 use Rattle.fairness_laws.specs.OpeningChannels.{ChildrenOpenWith}
 use Rattle.fairness_laws.proofs.Rows.{ChildWants, opens, ups, posts, finals, downs, child-wants, stage-is}
 use Rattle.fairness_laws.proofs.Ledger.Wanting.{funded_runs}

@@ -3,55 +3,55 @@ use Rattle.std.proofs.Common.{◌≡◌, ℕ, Bool, true, false, cond, ◌||◌,
 use Rattle.std.specs.Prelude.{◌==◌, Option, Some, None}
 use Rattle.std.specs.Option.{option_or}
 use Rattle.std.specs.Str.{bytes_eq}
-use Rattle.channel_model.specs.Rules.{people}
-use Rattle.channel_calls.specs.History.{Legal}
-use Rattle.channel_calls.specs.declared.entry.Entry.{Entry}
-use Rattle.funding_value.specs.declared.plan.Virtual.{Virtual}
-use Rattle.outcome_targets.specs.Targets.{guarantee}
-use Rattle.outcome_targets.specs.declared.terms.Terms.{Terms}
-use Rattle.support_chain.specs.Real.{real}
-use Rattle.net_party.specs.declared.command.Command.{Command}
-use Rattle.node_model.specs.Places.{Told, lines_of}
-use Rattle.node_model.specs.Playing.{Signing, Plays}
-use Rattle.node_tables.specs.Stages.{stages}
-use Rattle.wish_laws.specs.Opens.{Took}
-use Rattle.wish_laws.proofs.Commanded.{fitted}
+use Rattle.channel_values.specs.Rules.{people}
+use Rattle.call_history.specs.History.{Legal}
+use Rattle.call_history.specs.declared.entry.Entry.{Entry}
+use Rattle.funding_plans.specs.declared.plan.Virtual.{Virtual}
+use Rattle.funding_plans.specs.Targets.{guarantee}
+use Rattle.funding_plans.specs.declared.terms.Terms.{Terms}
+use Rattle.support_rules.specs.Real.{real}
+use Rattle.network.specs.declared.command.Command.{Command}
+use Rattle.channel_node.specs.Places.{Told, lines_of}
+use Rattle.channel_node.specs.Playing.{Signing, Plays}
+use Rattle.stage_tables.specs.Stages.{stages}
+use Rattle.fairness_laws.specs.Opens.{Took}
+use Rattle.fairness_laws.proofs.Commanded.{fitted}
 use Rattle.fairness_laws.proofs.Plan.ByRoute.{fits-by-route}
 use Rattle.fairness_laws.proofs.Apps.{no-payments-either}
 use Rattle.fairness_laws.specs.OpeningChannels.{guarantor_of, IsExactly, SignsOnly, EndsSignGuarantees, MiddlesSignGuarantees}
 use Rattle.fairness_laws.proofs.Rows.{exactly}
 use Rattle.fairness_laws.proofs.Opening.Virtuals.{Differ, names-differ, at-end, at-middle}
-use Rattle.nitro_bytes.specs.declared.value.AssetOutcome.{AssetOutcome}
-use Rattle.nitro_bytes.specs.Parts.{FixedParts, StateParts}
-use Rattle.channel_calls.proofs.Names.{same_bytes}
-use Rattle.channel_calls.specs.Flows.{is_among}
-use Rattle.funding_value.specs.Known.{FactsOf}
-use Rattle.funding_value.specs.Parts.{own_channel, own_ledger, channels_of, channels, ledgers_of, own_guarantor}
-use Rattle.funding_value.specs.declared.plan.Goal.{Goal}
-use Rattle.funding_value.specs.declared.plan.Part.{Part}
-use Rattle.funding_value.specs.declared.plan.Part.TheVariants.{Root, OnLedger, End, Middle}
-use Rattle.net_model.specs.Journals.{In}
-use Rattle.net_party.specs.declared.command.Command.TheVariants.{OpenVirtual}
-use Rattle.net_party.specs.declared.command.Route.{Route}
-use Rattle.stage_rules.specs.Gathered as gathered
-use Rattle.stage_rules.specs.Seats.{Seat, repeats}
+use Rattle.channel_values.specs.declared.value.AssetOutcome.{AssetOutcome}
+use Rattle.channel_values.specs.Parts.{FixedParts, StateParts}
+use Rattle.call_history.proofs.Names.{same_bytes}
+use Rattle.call_history.specs.Flows.{is_among}
+use Rattle.funding_plans.specs.Known.{FactsOf}
+use Rattle.funding_plans.specs.Parts.{own_channel, own_ledger, channels_of, channels, ledgers_of, own_guarantor}
+use Rattle.funding_plans.specs.declared.plan.Goal.{Goal}
+use Rattle.funding_plans.specs.declared.plan.Part.{Part}
+use Rattle.funding_plans.specs.declared.plan.Part.TheVariants.{Root, OnLedger, End, Middle}
+use Rattle.channel_safety.specs.Journals.{In}
+use Rattle.network.specs.declared.command.Command.TheVariants.{OpenVirtual}
+use Rattle.network.specs.declared.command.Route.{Route}
+use Rattle.funding_plans.specs.Gathered as gathered
+use Rattle.funding_plans.specs.Seats.{Seat, repeats}
 use Rattle.ledger_channel.specs.OnLedgers.{Funded}
 use Rattle.ledger_channel.specs.Stages.{funded_in, wanted_on_ledger}
 use Rattle.virtual_channel.specs.Ends as ends
 use Rattle.virtual_channel.specs.Middles as middles
 use Rattle.virtual_channel.specs.Stages.{end_in, middle_in, wanted_of_end, wanted_of_middle, terms_for, own_end}
-use Rattle.plan_stages.specs.Asked.{unfinished_on, part_with, wanted_of, wanted_in}
-use Rattle.node_model.specs.Minds.{Mind, facts_of}
-use Rattle.node_model.specs.Openings.{are_apart, takes_part, virtual}
-use Rattle.node_tables.specs.Fitting.{can_share, is_double_small, is_channel_of, fits, app_of, route_lends, are_route_channels, fits_route_among}
-use Rattle.support_chain.specs.Steps.{persons}
-use Rattle.node_tables.specs.Ledgers.{are_same}
-use Rattle.chain_laws.proofs.Lists.{In-get}
-use Rattle.chain_laws.proofs.Tests.{none-eq, and-left, and-right, eqb-true, clash}
-use Rattle.wish_laws.proofs.Finding.{on-in, with-in, flips}
-use Rattle.wish_laws.proofs.Planned.{own-among, one-part}
-use Rattle.wish_laws.proofs.Closing.{goal-found}
-use Rattle.wish_laws.proofs.Firsts.{joined-among, MadePlace, made-place}
+use Rattle.stage_tables.specs.Asked.{unfinished_on, part_with, wanted_of, wanted_in}
+use Rattle.channel_node.specs.Minds.{Mind, facts_of}
+use Rattle.channel_node.specs.Openings.{are_apart, takes_part, virtual}
+use Rattle.stage_tables.specs.Fitting.{can_share, is_double_small, is_channel_of, fits, app_of, route_lends, are_route_channels, fits_route_among}
+use Rattle.support_rules.specs.Steps.{persons}
+use Rattle.stage_tables.specs.Ledgers.{are_same}
+use Rattle.channel_safety.proofs.Lists.{In-get}
+use Rattle.channel_safety.proofs.Tests.{none-eq, and-left, and-right, eqb-true, clash}
+use Rattle.fairness_laws.proofs.Finding.{on-in, with-in, flips}
+use Rattle.fairness_laws.proofs.Planned.{own-among, one-part}
+use Rattle.fairness_laws.proofs.Closing.{goal-found}
+use Rattle.fairness_laws.proofs.FirstRounds.{joined-among, MadePlace, made-place}
 use Rattle.fairness_laws.proofs.Opening.Children.{funded-at}
 use Rattle.fairness_laws.proofs.Opening.Ends.{end-at, from-end, end-place, end-starts, guarantor-named, guarantor-inside, guarantor-channel, guarantor-channel-of, guarantor-wishes}
 use Rattle.fairness_laws.proofs.Opening.Middles.{middle-at, MiddlePlace, MiddleChannel, MiddleWishes, from-middle, middle-place, middle-starts, first-channel, second-channel, first-wishes, second-wishes}

@@ -2,45 +2,45 @@
 use Rattle.std.proofs.Common.{◌≡◌, ℕ, ◌+◌, ◌-◌, ◌<◌, ◌≤◌, Bool, true, false, ◌&&◌, ◌||◌, ◌⊎◌, List, [], ◌∷◌, inl, inr, refl, sym, ◌∙◌, ap, subst, arith}
 use Rattle.std.specs.Prelude.{◌==◌, nat_lt, Option, Some, None}
 use Rattle.std.specs.Str.{bytes_eq}
-use Rattle.nitro_bytes.specs.Parts.{FixedParts, StateParts}
-use Rattle.nitro_bytes.specs.declared.value.AssetOutcome.{AssetOutcome}
-use Rattle.channel_model.specs.Rules.{people}
-use Rattle.channel_calls.proofs.Names.{same_bytes, bytes_eq_self}
-use Rattle.channel_calls.specs.Flows.{is_among}
+use Rattle.channel_values.specs.Parts.{FixedParts, StateParts}
+use Rattle.channel_values.specs.declared.value.AssetOutcome.{AssetOutcome}
+use Rattle.channel_values.specs.Rules.{people}
+use Rattle.call_history.proofs.Names.{same_bytes, bytes_eq_self}
+use Rattle.call_history.specs.Flows.{is_among}
 use Rattle.channel_store.specs.Keeping.{next_of}
 use Rattle.channel_store.specs.Storing.{kept_of}
 use Rattle.channel_store.specs.declared.kept.Kept.{Kept}
-use Rattle.funding_value.specs.Known.{FactsOf}
-use Rattle.funding_value.specs.Parts.{joined_of}
-use Rattle.funding_value.specs.declared.plan.Goal.{Goal}
-use Rattle.funding_value.specs.declared.plan.Part.TheVariants as parts
-use Rattle.funding_value.specs.declared.plan.Virtual.{Virtual}
-use Rattle.outcome_targets.specs.Targets.{apart, guarantee}
-use Rattle.outcome_targets.specs.declared.child.Child.{Child}
-use Rattle.outcome_targets.specs.declared.terms.Terms.{Terms}
-use Rattle.support_chain.specs.Real.{real}
-use Rattle.support_chain.specs.Steps.{persons}
-use Rattle.net_model.specs.Journals.{In}
-use Rattle.net_party.specs.declared.command.Command.{Command}
-use Rattle.net_party.specs.declared.command.Command.TheVariants.{OpenVirtual}
-use Rattle.net_party.specs.declared.command.Route.{Route}
-use Rattle.stage_rules.specs.Gathered as gathered
-use Rattle.stage_rules.specs.Rows.{wanted_in}
-use Rattle.stage_rules.specs.Seats.{Seat, holds, is_set_up, repeats, takes_fixed}
+use Rattle.funding_plans.specs.Known.{FactsOf}
+use Rattle.funding_plans.specs.Parts.{joined_of}
+use Rattle.funding_plans.specs.declared.plan.Goal.{Goal}
+use Rattle.funding_plans.specs.declared.plan.Part.TheVariants as parts
+use Rattle.funding_plans.specs.declared.plan.Virtual.{Virtual}
+use Rattle.funding_plans.specs.Targets.{apart, guarantee}
+use Rattle.funding_plans.specs.declared.child.Child.{Child}
+use Rattle.funding_plans.specs.declared.terms.Terms.{Terms}
+use Rattle.support_rules.specs.Real.{real}
+use Rattle.support_rules.specs.Steps.{persons}
+use Rattle.channel_safety.specs.Journals.{In}
+use Rattle.network.specs.declared.command.Command.{Command}
+use Rattle.network.specs.declared.command.Command.TheVariants.{OpenVirtual}
+use Rattle.network.specs.declared.command.Route.{Route}
+use Rattle.funding_plans.specs.Gathered as gathered
+use Rattle.funding_plans.specs.Rows.{wanted_in}
+use Rattle.funding_plans.specs.Seats.{Seat, holds, is_set_up, repeats, takes_fixed}
 use Rattle.virtual_channel.specs.Middles.{Middle, are_set_up, middle_rows, middle_takes}
 use Rattle.virtual_channel.specs.Stages.{◌>>=◌, terms_for, terms_in, middle_in, stage_of_middle, wanted_of_middle, taken_of_middle}
-use Rattle.plan_stages.specs.Asked.{is_closing, wanted_of, takes_of}
-use Rattle.node_model.specs.Minds.{Mind, facts_of}
-use Rattle.node_model.specs.Openings.{opened_by, virtual, are_apart}
-use Rattle.node_model.specs.Places.{lines_of}
-use Rattle.node_tables.specs.Stages.{stages}
-use Rattle.chain_laws.proofs.Tests.{some-eq, none-eq, and-left, and-right, or-right, eqb-true, clash}
-use Rattle.wish_laws.specs.Carried.{OpensWith}
-use Rattle.wish_laws.specs.Roots.{is_repeated}
-use Rattle.wish_laws.proofs.Finding.{names, flips}
-use Rattle.wish_laws.proofs.Planned.{or-true}
-use Rattle.wish_laws.proofs.Closing.{RunsAt}
-use Rattle.wish_laws.proofs.Firsts.{IsPlace, Starts, opens-with}
+use Rattle.stage_tables.specs.Asked.{is_closing, wanted_of, takes_of}
+use Rattle.channel_node.specs.Minds.{Mind, facts_of}
+use Rattle.channel_node.specs.Openings.{opened_by, virtual, are_apart}
+use Rattle.channel_node.specs.Places.{lines_of}
+use Rattle.stage_tables.specs.Stages.{stages}
+use Rattle.channel_safety.proofs.Tests.{some-eq, none-eq, and-left, and-right, or-right, eqb-true, clash}
+use Rattle.fairness_laws.specs.Carried.{OpensWith}
+use Rattle.fairness_laws.specs.Roots.{is_repeated}
+use Rattle.fairness_laws.proofs.Finding.{names, flips}
+use Rattle.fairness_laws.proofs.Planned.{or-true}
+use Rattle.fairness_laws.proofs.Closing.{RunsAt}
+use Rattle.fairness_laws.proofs.FirstRounds.{IsPlace, Starts, opens-with}
 use Rattle.fairness_laws.proofs.Plan.Names.{in-among}
 use Rattle.fairness_laws.specs.OpeningChannels.{MiddlesOpenWith}
 use Rattle.fairness_laws.proofs.Joint.Rows.{MiddleWants, middle-wants}

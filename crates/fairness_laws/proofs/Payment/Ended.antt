@@ -4,48 +4,48 @@ use Rattle.std.specs.Prelude.{nat_lt, Option, Some, None}
 use Rattle.std.specs.List.{list_all}
 use Rattle.std.specs.Option.{option_map}
 use Rattle.std.proofs.lemmas.List.{append_cancel_right, append_assoc, length-map}
-use Rattle.nitro_bytes.specs.Parts.{FixedParts, StateParts}
-use Rattle.nitro_bytes.specs.declared.chain.Signed.{Signed}
-use Rattle.nitro_bytes.specs.declared.value.AssetOutcome.{AssetOutcome}
-use Rattle.channel_name.specs.Digests.{name_of_person}
-use Rattle.channel_model.specs.Rules.{Rules, people, newest, turn_of, top_turn}
-use Rattle.channel_model.specs.Chains.{last_of}
-use Rattle.channel_calls.specs.Marked.{Marked, marked_of, is_supported, answered, extends, extended, is_newer}
-use Rattle.channel_calls.specs.Shown.{shown}
-use Rattle.channel_calls.specs.declared.entry.Entry.{Entry}
+use Rattle.channel_values.specs.Parts.{FixedParts, StateParts}
+use Rattle.channel_values.specs.declared.chain.Signed.{Signed}
+use Rattle.channel_values.specs.declared.value.AssetOutcome.{AssetOutcome}
+use Rattle.channel_values.specs.Digests.{name_of_person}
+use Rattle.channel_values.specs.Rules.{Rules, people, newest, turn_of, top_turn}
+use Rattle.channel_values.specs.Rows.{last_of}
+use Rattle.call_history.specs.Marked.{Marked, marked_of, is_supported, answered, extends, extended, is_newer}
+use Rattle.call_history.specs.Shown.{shown}
+use Rattle.call_history.specs.declared.entry.Entry.{Entry}
 use Rattle.channel_store.specs.Keeping.{is_held}
-use Rattle.net_model.specs.Held.{note, show, held}
-use Rattle.net_model.specs.Good.{InSteps}
-use Rattle.net_model.specs.Honest.{HonestIn}
-use Rattle.net_model.specs.Journals.{In, Line, opened, is_watched, made_in, noted_in}
-use Rattle.net_model.specs.Safety.{IsChannelOf}
-use Rattle.chain_laws.proofs.Answering.{answered-states}
-use Rattle.chain_laws.proofs.Chains.{newest-in, AllFinal, IsClosed, parts, OwnState, own_state, from_mark}
-use Rattle.chain_laws.proofs.Growing.{Extension, extension}
-use Rattle.chain_laws.proofs.Lists.{Split, split_of, In-get, In-append_right, In-append_cases, append_assoc', length-up}
-use Rattle.chain_laws.proofs.Tests.{and-left, and-right, and-both, or-right, some-eq, none-eq, lt-true}
-use Rattle.history_laws.proofs.Headline.{setting}
-use Rattle.history_laws.proofs.Keeps.{HoldsNewer}
-use Rattle.history_laws.proofs.Places.{made-not_watched, made-noted, slot-lasts, over-lines}
-use Rattle.history_laws.proofs.Safe.{Setting, MadeLine, AllClosed, honest-suffix, noted-held, made-mover, own_line, all_closed, valid-shown}
-use Rattle.held_laws.proofs.Made.{Own, OwnIfAny, held-own}
-use Rattle.held_laws.proofs.Noted.{noted_tell}
-use Rattle.held_laws.specs.Laws.{NotedTell}
-use Rattle.net_share_laws.proofs.RealShares.{hashes}
-use Rattle.node_laws.proofs.Bridging.{lines-append}
-use Rattle.node_laws.proofs.Once.{played_journals_are_honest}
-use Rattle.node_model.specs.Places.{Told, lines_of}
-use Rattle.node_model.specs.Playing.{Signing}
-use Rattle.node_tables.specs.Stages.{stages}
+use Rattle.channel_safety.specs.Held.{note, show, held}
+use Rattle.channel_safety.specs.Good.{InSteps}
+use Rattle.channel_safety.specs.Honest.{HonestIn}
+use Rattle.channel_safety.specs.Journals.{In, Line, opened, is_watched, made_in, noted_in}
+use Rattle.channel_safety.specs.Safety.{IsChannelOf}
+use Rattle.channel_safety.proofs.Answering.{answered-states}
+use Rattle.channel_safety.proofs.Chains.{newest-in, AllFinal, IsClosed, parts, OwnState, own_state, from_mark}
+use Rattle.channel_safety.proofs.ChainsGrow.{Extension, extension}
+use Rattle.channel_safety.proofs.Lists.{Split, split_of, In-get, In-append_right, In-append_cases, append_assoc', length-up}
+use Rattle.channel_safety.proofs.Tests.{and-left, and-right, and-both, or-right, some-eq, none-eq, lt-true}
+use Rattle.channel_safety.proofs.Headline.{setting}
+use Rattle.channel_safety.proofs.Keeps.{HoldsNewer}
+use Rattle.channel_safety.proofs.Places.{made-not_watched, made-noted, slot-lasts, over-lines}
+use Rattle.channel_safety.proofs.Safe.{Setting, MadeLine, AllClosed, honest-suffix, noted-held, made-mover, own_line, all_closed, valid-shown}
+use Rattle.share_laws.proofs.Made.{Own, OwnIfAny, held-own}
+use Rattle.share_laws.proofs.Noted.{noted_tell}
+use Rattle.share_laws.specs.HeldLaws.{NotedTell}
+use Rattle.node_guarantees.proofs.RealShares.{hashes}
+use Rattle.channel_node.proofs.Bridging.{lines-append}
+use Rattle.channel_node.proofs.Once.{played_journals_are_honest}
+use Rattle.channel_node.specs.Places.{Told, lines_of}
+use Rattle.channel_node.specs.Playing.{Signing}
+use Rattle.stage_tables.specs.Stages.{stages}
 use Rattle.fairness_laws.proofs.Seat.Past.{supported}
 use Rattle.fairness_laws.specs.PlanSeats.{SeatIs}
 use Rattle.fairness_laws.specs.PlanSettings.{IsFair}
 use Rattle.share_laws.proofs.Finality.{lasts, opened-there}
-use Rattle.share_model.specs.Places.{last_made, IsPlace}
-use Rattle.stage_rules.specs.Seats.{Seat}
-use Rattle.support_chain.specs.Real.{real}
-use Rattle.support_chain.specs.Steps.{persons}
-use Rattle.support_laws.proofs.Finals.{real_keeps_final}
+use Rattle.share_laws.specs.Places.{last_made, IsPlace}
+use Rattle.funding_plans.specs.Seats.{Seat}
+use Rattle.support_rules.specs.Real.{real}
+use Rattle.support_rules.specs.Steps.{persons}
+use Rattle.support_rules.proofs.Finals.{real_keeps_final}
 use Rattle.fairness_laws.specs.PaymentLaws.{StaysEnded, EndedChannelsStay}
 
 -- ---- final states

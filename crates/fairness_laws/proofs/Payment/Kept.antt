@@ -2,22 +2,22 @@
 use Rattle.std.proofs.Common.{◌≡◌, Bool, true, false, cond, List, [], ◌∷◌, inl, inr, refl, sym, ◌∙◌, ap, subst}
 use Rattle.std.specs.Prelude.{ℕ, Option, Some, None}
 use Rattle.std.specs.Str.{bytes_eq}
-use Rattle.nitro_bytes.specs.Parts.{FixedParts, StateParts}
-use Rattle.channel_calls.proofs.Names.{same_bytes}
-use Rattle.channel_calls.specs.declared.entry.Entry.{Entry}
+use Rattle.channel_values.specs.Parts.{FixedParts, StateParts}
+use Rattle.call_history.proofs.Names.{same_bytes}
+use Rattle.call_history.specs.declared.entry.Entry.{Entry}
 use Rattle.channel_store.specs.Storing.{is_of, kept_of}
 use Rattle.channel_store.specs.declared.kept.Kept.{Kept}
-use Rattle.chain_laws.proofs.Lists.{In-get}
-use Rattle.chain_laws.proofs.Tests.{some-eq, none-eq}
-use Rattle.net_model.specs.Journals.{In, Line}
-use Rattle.net_party.specs.declared.command.Command.{Command}
-use Rattle.node_model.specs.Minds.{Mind, facts_of}
-use Rattle.node_model.specs.Refusing.{wish, can_sign, if_signable, signs_of, signs_in}
-use Rattle.node_tables.specs.Stages.{stages}
-use Rattle.share_model.specs.Places.{channels}
-use Rattle.store_laws.proofs.Places.{found_at_place, found_passes}
-use Rattle.support_chain.specs.Real.{real}
-use Rattle.view_laws.specs.Laws.{IsKeptAt, AreKeptAt}
+use Rattle.channel_safety.proofs.Lists.{In-get}
+use Rattle.channel_safety.proofs.Tests.{some-eq, none-eq}
+use Rattle.channel_safety.specs.Journals.{In, Line}
+use Rattle.network.specs.declared.command.Command.{Command}
+use Rattle.channel_node.specs.Minds.{Mind, facts_of}
+use Rattle.channel_node.specs.Refusing.{wish, can_sign, if_signable, signs_of, signs_in}
+use Rattle.stage_tables.specs.Stages.{stages}
+use Rattle.share_laws.specs.Places.{channels}
+use Rattle.channel_store.proofs.Places.{found_at_place, found_passes}
+use Rattle.support_rules.specs.Real.{real}
+use Rattle.node_guarantees.specs.ViewLaws.{IsKeptAt, AreKeptAt}
 
 -- ---- what is kept under a name
 

@@ -4,50 +4,50 @@ use Rattle.std.proofs.Common.{◌≡◌, ℕ, ◌+◌, ◌<◌, ◌≤◌, Bool,
 use Rattle.std.specs.Prelude.{◌==◌, Option, Some, None, is_none}
 use Rattle.std.specs.List.{slice_get, AllByRecursion}
 use Rattle.std.specs.Str.{bytes_eq}
-use Rattle.nitro_bytes.specs.Parts.{FixedParts, StateParts, IsState}
-use Rattle.nitro_bytes.specs.declared.chain.Signed.{Signed}
-use Rattle.channel_model.specs.Chains.{mover, last_of}
-use Rattle.channel_model.specs.Rules.{people, newest}
-use Rattle.channel_model.specs.Supported.{AreSteps}
-use Rattle.channel_calls.proofs.Names.{same_bytes}
-use Rattle.channel_calls.specs.History.{Legal}
-use Rattle.channel_calls.specs.Marked.{marked_of, is_supported, next_after}
-use Rattle.channel_calls.specs.declared.entry.Entry.{Entry}
-use Rattle.channel_calls.specs.declared.event.Deed.{Deed}
-use Rattle.channel_calls.specs.declared.event.Deed.TheVariants as deeds
+use Rattle.channel_values.specs.Parts.{FixedParts, StateParts, IsState}
+use Rattle.channel_values.specs.declared.chain.Signed.{Signed}
+use Rattle.channel_values.specs.Rows.{mover, last_of}
+use Rattle.channel_values.specs.Rules.{people, newest}
+use Rattle.channel_values.specs.Supported.{AreSteps}
+use Rattle.call_history.proofs.Names.{same_bytes}
+use Rattle.call_history.specs.History.{Legal}
+use Rattle.call_history.specs.Marked.{marked_of, is_supported, next_after}
+use Rattle.call_history.specs.declared.entry.Entry.{Entry}
+use Rattle.call_history.specs.declared.event.Deed.{Deed}
+use Rattle.call_history.specs.declared.event.Deed.TheVariants as deeds
 use Rattle.channel_store.proofs.Good.{held_is}
 use Rattle.channel_store.specs.Keeping.{is_held, is_ended, next_of, step_of, step_after}
 use Rattle.channel_store.specs.Good.{IsGoodKept}
 use Rattle.channel_store.specs.declared.kept.Kept.{Kept}
-use Rattle.chain_laws.proofs.Chains.{top_at}
-use Rattle.chain_laws.proofs.Lists.{Split, split_of, Suffix, suffix_of, In-append_right, In-append_cases, append_assoc'}
-use Rattle.chain_laws.proofs.Tests.{some-eq, none-eq, and-left, and-right, eqb-true, is-none, clash}
-use Rattle.history_laws.proofs.Rowing.{legal-suffix}
-use Rattle.net_model.specs.Good.{InTurn}
-use Rattle.net_model.specs.Journals.{In, Line, is_watched, some_if, made_in}
-use Rattle.net_model.specs.Occurring.{OccursFixed}
-use Rattle.net_model.specs.Strings.{signed_of}
-use Rattle.net_share_laws.proofs.RealHeld.{states_end}
-use Rattle.node_laws.proofs.Bridging.{lines-append, In-lines, plays-at}
-use Rattle.node_laws.proofs.Once.{played_journals_are_honest}
-use Rattle.node_model.specs.Minds.{Mind, facts_of}
-use Rattle.node_model.specs.Places.{Told, line_of, lines_of, mind_at, AreFew}
-use Rattle.node_model.specs.Playing as playing
-use Rattle.node_model.specs.Playing.{Signing, PlaysEvent, Plays, pending, Allowed}
-use Rattle.node_model.specs.Refusing.{is_open, stands_in, follows}
-use Rattle.node_share_laws.proofs.Growing.{Grows}
-use Rattle.node_share_laws.proofs.Placing.{grows-at}
-use Rattle.node_share_laws.proofs.Telling.{all-kept}
-use Rattle.node_tables.specs.Stages.{stages}
+use Rattle.channel_safety.proofs.Chains.{top_at}
+use Rattle.channel_safety.proofs.Lists.{Split, split_of, Suffix, suffix_of, In-append_right, In-append_cases, append_assoc'}
+use Rattle.channel_safety.proofs.Tests.{some-eq, none-eq, and-left, and-right, eqb-true, is-none, clash}
+use Rattle.channel_safety.proofs.Rowing.{legal-suffix}
+use Rattle.channel_safety.specs.Good.{InTurn}
+use Rattle.channel_safety.specs.Journals.{In, Line, is_watched, some_if, made_in}
+use Rattle.channel_safety.specs.Occurring.{OccursFixed}
+use Rattle.channel_safety.specs.Strings.{signed_of}
+use Rattle.node_guarantees.proofs.RealHeld.{states_end}
+use Rattle.channel_node.proofs.Bridging.{lines-append, In-lines, plays-at}
+use Rattle.channel_node.proofs.Once.{played_journals_are_honest}
+use Rattle.channel_node.specs.Minds.{Mind, facts_of}
+use Rattle.channel_node.specs.Places.{Told, line_of, lines_of, mind_at, AreFew}
+use Rattle.channel_node.specs.Playing as playing
+use Rattle.channel_node.specs.Playing.{Signing, PlaysEvent, Plays, pending, Allowed}
+use Rattle.channel_node.specs.Refusing.{is_open, stands_in, follows}
+use Rattle.node_guarantees.proofs.Growing.{Grows}
+use Rattle.node_guarantees.proofs.Placing.{grows-at}
+use Rattle.node_guarantees.proofs.Telling.{all-kept}
+use Rattle.stage_tables.specs.Stages.{stages}
 use Rattle.share_laws.proofs.Finality.{opened-there}
-use Rattle.wish_laws.proofs.Closing.{rest-plays}
+use Rattle.fairness_laws.proofs.Closing.{rest-plays}
 use Rattle.fairness_laws.specs.PlanSettings.{IsFair}
 use Rattle.fairness_laws.proofs.Seat.Sitting.{last-state}
 use Rattle.fairness_laws.specs.SeatSitting.{HeldEnds}
 use Rattle.share_laws.proofs.Fronts.{last-line}
-use Rattle.share_model.specs.Places.{channels, IsPlace}
-use Rattle.support_chain.specs.Real.{real}
-use Rattle.view_laws.specs.Laws.{IsKeptAt, AreKeptAt}
+use Rattle.share_laws.specs.Places.{channels, IsPlace}
+use Rattle.support_rules.specs.Real.{real}
+use Rattle.node_guarantees.specs.ViewLaws.{IsKeptAt, AreKeptAt}
 use Rattle.fairness_laws.proofs.Payment.Kept.{KeptAs, kept-as, SignsOf, signs-of}
 
 pub made-deed : (c : List ℕ) (d : Deed) (n : Signed) → made_in c d ≡ Some n → d ≡ deeds.Signed c n.state n.signature

@@ -1,26 +1,26 @@
 -- The payment channels of parts share one amount.
 use Rattle.std.proofs.Common.{◌≡◌, ℕ, ◌+◌, List, [], refl, subst}
 use Rattle.std.specs.Prelude.{Some}
-use Rattle.nitro_bytes.specs.Parts.{FixedParts, StateParts}
-use Rattle.nitro_bytes.specs.declared.chain.Signed.{Signed}
-use Rattle.nitro_bytes.specs.declared.value.AssetOutcome.{AssetOutcome}
-use Rattle.channel_calls.specs.declared.entry.Entry.{Entry}
-use Rattle.funding_value.specs.declared.plan.Goal.{Goal}
-use Rattle.funding_value.specs.declared.plan.Part.TheVariants as parts
-use Rattle.funding_value.specs.declared.plan.Virtual.{Virtual}
-use Rattle.net_model.specs.Journals.{In, Line, made_in}
-use Rattle.net_model.specs.Occurring.{OccursFixed}
-use Rattle.node_model.specs.Minds.{facts_of}
-use Rattle.node_model.specs.Openings.{shared}
-use Rattle.node_model.specs.Places.{Told, lines_of, mind_at}
-use Rattle.node_model.specs.Playing.{Signing}
+use Rattle.channel_values.specs.Parts.{FixedParts, StateParts}
+use Rattle.channel_values.specs.declared.chain.Signed.{Signed}
+use Rattle.channel_values.specs.declared.value.AssetOutcome.{AssetOutcome}
+use Rattle.call_history.specs.declared.entry.Entry.{Entry}
+use Rattle.funding_plans.specs.declared.plan.Goal.{Goal}
+use Rattle.funding_plans.specs.declared.plan.Part.TheVariants as parts
+use Rattle.funding_plans.specs.declared.plan.Virtual.{Virtual}
+use Rattle.channel_safety.specs.Journals.{In, Line, made_in}
+use Rattle.channel_safety.specs.Occurring.{OccursFixed}
+use Rattle.channel_node.specs.Minds.{facts_of}
+use Rattle.channel_node.specs.Openings.{shared}
+use Rattle.channel_node.specs.Places.{Told, lines_of, mind_at}
+use Rattle.channel_node.specs.Playing.{Signing}
 use Rattle.fairness_laws.proofs.Seat.Past.{occurs}
 use Rattle.fairness_laws.specs.PlanParts.{EndIs}
 use Rattle.fairness_laws.specs.PlanSeats.{SeatIs}
 use Rattle.fairness_laws.specs.PlanSettings.{IsFair}
 use Rattle.share_laws.proofs.Fronts.{last-line}
-use Rattle.stage_rules.specs.Seats.{Seat}
-use Rattle.support_chain.specs.Real.{real}
+use Rattle.funding_plans.specs.Seats.{Seat}
+use Rattle.support_rules.specs.Real.{real}
 use Rattle.fairness_laws.specs.PaymentLaws.{At, HasShared, Shares, ChildrenShare, EndsShare}
 use Rattle.fairness_laws.proofs.Payment.Ended.{top-there, own-last, own-ended}
 use Rattle.fairness_laws.proofs.OpenedParts.{SignsFirst, child-first}

@@ -1,22 +1,22 @@
 -- Steps of a payment channel that shares one amount between its two people keep that.
 use Rattle.std.proofs.Common.{◌≡◌, ℕ, ◌+◌, Bool, true, false, not, ◌&&◌, ◌||◌, List, [], ◌∷◌, length, refl, sym, ◌∙◌, ap, subst, ◌⊎◌, inl, inr, arith}
 use Rattle.std.specs.Prelude.{◌==◌, None}
-use Rattle.nitro_bytes.specs.Outcomes.{is_same}
-use Rattle.nitro_bytes.specs.Parts.{FixedParts, StateParts, IsState}
-use Rattle.nitro_bytes.specs.declared.fault.StepFault.TheVariants as faults
-use Rattle.nitro_bytes.specs.declared.value.AssetOutcome.{AssetOutcome}
-use Rattle.nitro_bytes.specs.declared.value.Dest.{Dest}
-use Rattle.nitro_bytes.specs.declared.value.Item.{Item}
-use Rattle.nitro_bytes.specs.declared.value.Shape.{Shape}
-use Rattle.nitro_bytes.specs.declared.value.Shape.TheVariants.{Allocation, Guarantee}
-use Rattle.app_rules.specs.Rules.{is_one_of, person_at, is_alike, are_assets_alike, are_shapes_alike, have_one_total, total_of, asset_fault, payment_fault, app_fault}
-use Rattle.channel_model.specs.Chains.{mover}
-use Rattle.channel_model.specs.Words.{fault_if, ◌⊳◌, all_along, first_along}
-use Rattle.channel_model.proofs.Lines.{both_none, unbroken, not_not, or_false}
-use Rattle.chain_laws.proofs.Tests.{and-left, and-right, eqb-true}
-use Rattle.support_chain.specs.Steps.{persons, step_fault}
-use Rattle.support_laws.proofs.Kept.{Repeats, step_means}
-use Rattle.support_laws.proofs.Payment.{same_dest}
+use Rattle.channel_values.specs.Outcomes.{is_same}
+use Rattle.channel_values.specs.Parts.{FixedParts, StateParts, IsState}
+use Rattle.channel_values.specs.declared.fault.StepFault.TheVariants as faults
+use Rattle.channel_values.specs.declared.value.AssetOutcome.{AssetOutcome}
+use Rattle.channel_values.specs.declared.value.Dest.{Dest}
+use Rattle.channel_values.specs.declared.value.Item.{Item}
+use Rattle.channel_values.specs.declared.value.Shape.{Shape}
+use Rattle.channel_values.specs.declared.value.Shape.TheVariants.{Allocation, Guarantee}
+use Rattle.support_rules.specs.Rules.{is_one_of, person_at, is_alike, are_assets_alike, are_shapes_alike, have_one_total, total_of, asset_fault, payment_fault, app_fault}
+use Rattle.channel_values.specs.Rows.{mover}
+use Rattle.channel_values.specs.Words.{fault_if, ◌⊳◌, all_along, first_along}
+use Rattle.channel_values.proofs.Lines.{both_none, unbroken, not_not, or_false}
+use Rattle.channel_safety.proofs.Tests.{and-left, and-right, eqb-true}
+use Rattle.support_rules.specs.Steps.{persons, step_fault}
+use Rattle.support_rules.proofs.Kept.{Repeats, step_means}
+use Rattle.support_rules.proofs.PaymentLaws.{same_dest}
 use Rattle.fairness_laws.specs.PaymentLaws.{IsShared, HasShared}
 
 -- one asset, allocated to two

@@ -3,20 +3,20 @@ use Rattle.std.proofs.Common.{◌≡◌, ℕ, Bool, true, false, ◌||◌, List,
 use Rattle.std.specs.Prelude.{Option, Some, None}
 use Rattle.std.specs.Option.{option_or}
 use Rattle.std.specs.Str.{bytes_eq}
-use Rattle.nitro_bytes.specs.Parts.{FixedParts}
-use Rattle.chain_laws.proofs.Tests.{some-eq, clash}
-use Rattle.channel_calls.proofs.Names.{same_bytes}
-use Rattle.channel_calls.specs.Flows.{is_among}
-use Rattle.channel_calls.specs.declared.entry.Entry.{Entry}
-use Rattle.funding_value.specs.Parts.{own_ledger, channels_of, channels as channels-of-parts, ledgers_of}
-use Rattle.funding_value.specs.declared.plan.Part.{Part}
-use Rattle.funding_value.specs.declared.plan.Part.TheVariants as kinds
-use Rattle.net_model.specs.Journals.{In, Line}
-use Rattle.node_model.specs.Minds.{Mind, facts_of}
-use Rattle.node_model.specs.Places.{Told, lines_of, mind_at}
-use Rattle.node_model.specs.Playing.{Signing, Plays}
-use Rattle.node_model.specs.Refusing.{other}
-use Rattle.node_tables.specs.Stages.{stages}
+use Rattle.channel_values.specs.Parts.{FixedParts}
+use Rattle.channel_safety.proofs.Tests.{some-eq, clash}
+use Rattle.call_history.proofs.Names.{same_bytes}
+use Rattle.call_history.specs.Flows.{is_among}
+use Rattle.call_history.specs.declared.entry.Entry.{Entry}
+use Rattle.funding_plans.specs.Parts.{own_ledger, channels_of, channels as channels-of-parts, ledgers_of}
+use Rattle.funding_plans.specs.declared.plan.Part.{Part}
+use Rattle.funding_plans.specs.declared.plan.Part.TheVariants as kinds
+use Rattle.channel_safety.specs.Journals.{In, Line}
+use Rattle.channel_node.specs.Minds.{Mind, facts_of}
+use Rattle.channel_node.specs.Places.{Told, lines_of, mind_at}
+use Rattle.channel_node.specs.Playing.{Signing, Plays}
+use Rattle.channel_node.specs.Refusing.{other}
+use Rattle.stage_tables.specs.Stages.{stages}
 use Rattle.fairness_laws.proofs.Plan.Bearers.{Bearer, bearer-of}
 use Rattle.fairness_laws.proofs.Plan.Names.{all-apart}
 use Rattle.fairness_laws.proofs.Plan.Places.{plays-there, knows-there, apart-there}
@@ -25,15 +25,15 @@ use Rattle.fairness_laws.specs.PlanLaws.{PartAt}
 use Rattle.fairness_laws.specs.PlanParts.{LedgerIs}
 use Rattle.fairness_laws.specs.PlanSettings.{IsFair}
 use Rattle.fairness_laws.proofs.Plan.Parts.{parts_are_known}
-use Rattle.plan_stages.specs.Asked as asked
-use Rattle.share_model.specs.Places.{channels}
-use Rattle.signing_laws.specs.Plans.{IsPlan}
-use Rattle.stage_rules.specs.Seats.{Seat}
-use Rattle.support_chain.specs.Real.{real}
-use Rattle.support_chain.specs.Steps.{persons}
-use Rattle.wish_laws.proofs.Finding.{on-in, with-in}
-use Rattle.wish_laws.proofs.Firsts.{joined-among}
-use Rattle.wish_laws.proofs.Planned.{Planned, is-planned, one-part}
+use Rattle.stage_tables.specs.Asked as asked
+use Rattle.share_laws.specs.Places.{channels}
+use Rattle.share_laws.specs.Plans.{IsPlan}
+use Rattle.funding_plans.specs.Seats.{Seat}
+use Rattle.support_rules.specs.Real.{real}
+use Rattle.support_rules.specs.Steps.{persons}
+use Rattle.fairness_laws.proofs.Finding.{on-in, with-in}
+use Rattle.fairness_laws.proofs.FirstRounds.{joined-among}
+use Rattle.fairness_laws.proofs.Planned.{Planned, is-planned, one-part}
 
 -- ---- a ledger of two people
 

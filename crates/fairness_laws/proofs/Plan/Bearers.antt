@@ -2,21 +2,21 @@
 use Rattle.std.proofs.Common.{◌≡◌, ℕ, Bool, true, false, cond, ◌||◌, List, [], ◌∷◌, refl, sym, subst, inl, inr}
 use Rattle.std.proofs.lemmas.Bool.{false≢true}
 use Rattle.std.specs.Str.{bytes_eq}
-use Rattle.nitro_bytes.specs.Outcomes.{AreApart}
-use Rattle.nitro_bytes.specs.declared.value.Item.{Item}
-use Rattle.channel_calls.proofs.Names.{same_bytes, bytes_eq_self}
-use Rattle.channel_calls.specs.Flows.{is_among}
-use Rattle.funding_value.specs.Parts.{own_channel, own_ledger, own_guarantor, channels_of, joined_of, ledgers_of}
-use Rattle.funding_value.specs.declared.plan.Part.{Part}
-use Rattle.funding_value.specs.declared.plan.Part.TheVariants.{Root, OnLedger, End, Middle}
-use Rattle.funding_value.specs.declared.plan.Virtual.{Virtual}
-use Rattle.net_model.specs.Journals.{In}
-use Rattle.signing_laws.proofs.Counts.{or-left, or-right, part-apart, part-once}
-use Rattle.signing_laws.proofs.Ledgers.{owns}
-use Rattle.signing_laws.proofs.LedgerMoves.{Owner, owner}
-use Rattle.signing_laws.specs.Plans.{IsPlan, Lends, IsBare}
-use Rattle.wish_laws.proofs.Finding.{flips}
-use Rattle.wish_laws.proofs.Planned.{own-among}
+use Rattle.channel_values.specs.Outcomes.{AreApart}
+use Rattle.channel_values.specs.declared.value.Item.{Item}
+use Rattle.call_history.proofs.Names.{same_bytes, bytes_eq_self}
+use Rattle.call_history.specs.Flows.{is_among}
+use Rattle.funding_plans.specs.Parts.{own_channel, own_ledger, own_guarantor, channels_of, joined_of, ledgers_of}
+use Rattle.funding_plans.specs.declared.plan.Part.{Part}
+use Rattle.funding_plans.specs.declared.plan.Part.TheVariants.{Root, OnLedger, End, Middle}
+use Rattle.funding_plans.specs.declared.plan.Virtual.{Virtual}
+use Rattle.channel_safety.specs.Journals.{In}
+use Rattle.share_laws.proofs.Counts.{or-left, or-right, part-apart, part-once}
+use Rattle.share_laws.proofs.Ledgers.{owns}
+use Rattle.share_laws.proofs.LedgerMoves.{Owner, owner}
+use Rattle.share_laws.specs.Plans.{IsPlan, Lends, IsBare}
+use Rattle.fairness_laws.proofs.Finding.{flips}
+use Rattle.fairness_laws.proofs.Planned.{own-among}
 use Rattle.fairness_laws.specs.PlanBearers.{bears}
 
 -- ---- a part that bears others

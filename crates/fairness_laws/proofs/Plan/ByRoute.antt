@@ -2,16 +2,16 @@
 use Rattle.std.proofs.Common.{◌≡◌, ℕ, ◌≤◌, Bool, true, false, cond, not, ◌&&◌, ◌||◌, List, [], ◌∷◌, refl, sym, ◌∙◌, subst, arith}
 use Rattle.std.proofs.lemmas.Bool.{false≢true}
 use Rattle.std.specs.Str.{bytes_eq}
-use Rattle.nitro_bytes.specs.Parts.{FixedParts}
-use Rattle.channel_calls.proofs.Names.{same_bytes}
-use Rattle.channel_calls.specs.Flows.{is_among}
-use Rattle.funding_value.specs.Known.{FactsOf}
-use Rattle.net_party.specs.declared.command.Command.TheVariants.{OpenVirtual}
-use Rattle.net_party.specs.declared.command.Route.{Route}
-use Rattle.net_party.specs.declared.command.Route.TheVariants.{Plain, Ledger, Onward}
-use Rattle.node_tables.specs.Fitting.{fits, stake, lends_if_own, both_lend, app_of, lends_virtual, one_lends, either_lends, onward_lends, route_lends, fits_route}
-use Rattle.node_tables.specs.Ledgers.{lends}
-use Rattle.node_tables.specs.declared.stake.Stake.{Stake}
+use Rattle.channel_values.specs.Parts.{FixedParts}
+use Rattle.call_history.proofs.Names.{same_bytes}
+use Rattle.call_history.specs.Flows.{is_among}
+use Rattle.funding_plans.specs.Known.{FactsOf}
+use Rattle.network.specs.declared.command.Command.TheVariants.{OpenVirtual}
+use Rattle.network.specs.declared.command.Route.{Route}
+use Rattle.network.specs.declared.command.Route.TheVariants.{Plain, Ledger, Onward}
+use Rattle.stage_tables.specs.Fitting.{fits, stake, lends_if_own, both_lend, app_of, lends_virtual, one_lends, either_lends, onward_lends, route_lends, fits_route}
+use Rattle.stage_tables.specs.Ledgers.{lends}
+use Rattle.stage_tables.specs.declared.stake.Stake.{Stake}
 
 -- ---- by the route
 

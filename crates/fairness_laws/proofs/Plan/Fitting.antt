@@ -4,45 +4,45 @@ use Rattle.std.proofs.Common.{◌≡◌, ℕ, ◌+◌, ◌*◌, ◌-◌, ◌≤�
 use Rattle.std.specs.Prelude.{◌^◌, ◌==◌, nat_lt, nat_le, map, Option, Some, None}
 use Rattle.std.specs.List.{slice_get, list_any, list_all, position_or_len}
 use Rattle.std.specs.Str.{bytes_eq}
-use Rattle.nitro_bytes.specs.Parts.{FixedParts, IsFixed}
-use Rattle.nitro_bytes.specs.Outcomes.{AreApart}
-use Rattle.nitro_bytes.specs.declared.value.AssetOutcome.{AssetOutcome}
-use Rattle.channel_name.specs.Digests.{name_of_person}
-use Rattle.channel_model.specs.Words.{fault_if, ◌⊳◌, all_along}
-use Rattle.channel_calls.proofs.Names.{same_bytes, bytes_eq_self}
-use Rattle.channel_calls.specs.Flows.{is_among}
-use Rattle.channel_calls.specs.declared.entry.Entry.{Entry}
-use Rattle.channel_calls.specs.declared.event.NodeRefusal.{NodeRefusal}
-use Rattle.channel_calls.specs.declared.event.NodeRefusal.TheVariants.{UnknownChannel, NotAStep, TooMany}
+use Rattle.channel_values.specs.Parts.{FixedParts, IsFixed}
+use Rattle.channel_values.specs.Outcomes.{AreApart}
+use Rattle.channel_values.specs.declared.value.AssetOutcome.{AssetOutcome}
+use Rattle.channel_values.specs.Digests.{name_of_person}
+use Rattle.channel_values.specs.Words.{fault_if, ◌⊳◌, all_along}
+use Rattle.call_history.proofs.Names.{same_bytes, bytes_eq_self}
+use Rattle.call_history.specs.Flows.{is_among}
+use Rattle.call_history.specs.declared.entry.Entry.{Entry}
+use Rattle.call_history.specs.declared.event.NodeRefusal.{NodeRefusal}
+use Rattle.call_history.specs.declared.event.NodeRefusal.TheVariants.{UnknownChannel, NotAStep, TooMany}
 use Rattle.channel_store.specs.Keeping.{is_held}
 use Rattle.channel_store.specs.Keeping as keeping
-use Rattle.chain_laws.proofs.Tests.{some-eq, and-left, and-right, not-false, clash, eqb-true, le-true}
-use Rattle.funding_value.specs.Parts.{own_ledger, channels}
-use Rattle.funding_value.specs.declared.plan.Goal.{Goal}
-use Rattle.funding_value.specs.declared.plan.Part.{Part}
-use Rattle.funding_value.specs.declared.plan.Part.TheVariants.{Root, OnLedger, End, Middle}
-use Rattle.funding_value.specs.declared.plan.Virtual.{Virtual}
-use Rattle.net_model.specs.Journals.{In}
-use Rattle.net_model.proofs.Members.{In-append_left, In-append_right, In-map, mapped}
-use Rattle.net_party.specs.declared.command.Command.{Command}
-use Rattle.net_party.specs.declared.command.Command.TheVariants.{Open, OpenOn, OpenVirtual}
-use Rattle.net_party.specs.declared.command.Route.{Route}
-use Rattle.node_laws.proofs.Allowing.{first_none, rest_none, holds_not}
-use Rattle.node_model.specs.Minds.{Mind, facts_of}
-use Rattle.node_model.specs.Openings.{opened_by, place_among, takes_part, adds, are_apart, virtual, parts_of, ledgers_for, shared, goal_with, goals_of}
-use Rattle.node_model.specs.Places.{Told, lines_of}
-use Rattle.node_model.specs.Refusing.{not_open, has_left, unfinished, is_planned, are_new, can_open, are_planned, open_refusal}
-use Rattle.node_share_laws.proofs.Apart.{Apart, not-of}
-use Rattle.node_tables.specs.Fitting.{are_shared, stake, can_share, is_double_small, is_channel_of, fits_between, fits, app_of, runs_at_end, is_running_end, lends_virtual, either_lends, route_lends, are_route_channels, fits_route_among}
-use Rattle.node_tables.specs.Ledgers.{are_same, affords_in, is_between, is_root_of, is_running_root, lends}
-use Rattle.node_tables.specs.Stages.{stages}
-use Rattle.node_tables.specs.declared.stake.Stake.{Stake}
-use Rattle.plan_stages.specs.Asked.{stage_of}
-use Rattle.stage_rules.specs.Gathered.{place_in, chain_in}
-use Rattle.support_chain.specs.Real.{real}
-use Rattle.support_chain.specs.Steps.{persons}
-use Rattle.wish_laws.proofs.Carrying.{low}
-use Rattle.wish_laws.proofs.Finding.{flips, or-left, held_of}
+use Rattle.channel_safety.proofs.Tests.{some-eq, and-left, and-right, not-false, clash, eqb-true, le-true}
+use Rattle.funding_plans.specs.Parts.{own_ledger, channels}
+use Rattle.funding_plans.specs.declared.plan.Goal.{Goal}
+use Rattle.funding_plans.specs.declared.plan.Part.{Part}
+use Rattle.funding_plans.specs.declared.plan.Part.TheVariants.{Root, OnLedger, End, Middle}
+use Rattle.funding_plans.specs.declared.plan.Virtual.{Virtual}
+use Rattle.channel_safety.specs.Journals.{In}
+use Rattle.channel_safety.proofs.Members.{In-append_left, In-append_right, In-map, mapped}
+use Rattle.network.specs.declared.command.Command.{Command}
+use Rattle.network.specs.declared.command.Command.TheVariants.{Open, OpenOn, OpenVirtual}
+use Rattle.network.specs.declared.command.Route.{Route}
+use Rattle.channel_node.proofs.Allowing.{first_none, rest_none, holds_not}
+use Rattle.channel_node.specs.Minds.{Mind, facts_of}
+use Rattle.channel_node.specs.Openings.{opened_by, place_among, takes_part, adds, are_apart, virtual, parts_of, ledgers_for, shared, goal_with, goals_of}
+use Rattle.channel_node.specs.Places.{Told, lines_of}
+use Rattle.channel_node.specs.Refusing.{not_open, has_left, unfinished, is_planned, are_new, can_open, are_planned, open_refusal}
+use Rattle.node_guarantees.proofs.Apart.{Apart, not-of}
+use Rattle.stage_tables.specs.Fitting.{are_shared, stake, can_share, is_double_small, is_channel_of, fits_between, fits, app_of, runs_at_end, is_running_end, lends_virtual, either_lends, route_lends, are_route_channels, fits_route_among}
+use Rattle.stage_tables.specs.Ledgers.{are_same, affords_in, is_between, is_root_of, is_running_root, lends}
+use Rattle.stage_tables.specs.Stages.{stages}
+use Rattle.stage_tables.specs.declared.stake.Stake.{Stake}
+use Rattle.stage_tables.specs.Asked.{stage_of}
+use Rattle.funding_plans.specs.Gathered.{place_in, chain_in}
+use Rattle.support_rules.specs.Real.{real}
+use Rattle.support_rules.specs.Steps.{persons}
+use Rattle.fairness_laws.proofs.Carrying.{low}
+use Rattle.fairness_laws.proofs.Finding.{flips, or-left, held_of}
 use Rattle.fairness_laws.proofs.Plan.Bearers.{Bearer}
 use Rattle.fairness_laws.proofs.Plan.ByRoute.{fits-by-route, app-small, true-left, BothLend, route-lends}
 use Rattle.fairness_laws.proofs.Plan.Holding.{Holds}

@@ -4,35 +4,35 @@ use Rattle.std.proofs.lemmas.List.{length-map}
 use Rattle.std.specs.Prelude.{nat_le, Option, Some, None}
 use Rattle.std.specs.List.{slice_get, flat_map, list_all}
 use Rattle.std.specs.Str.{bytes_eq}
-use Rattle.nitro_bytes.specs.Parts.{FixedParts, StateParts, IsFixed}
-use Rattle.nitro_bytes.specs.declared.value.AssetOutcome.{AssetOutcome}
-use Rattle.channel_name.specs.Digests.{name_of_person}
-use Rattle.channel_model.specs.Rules.{newest}
-use Rattle.channel_calls.proofs.Names.{bytes_eq_self}
-use Rattle.channel_calls.specs.History.{Legal}
-use Rattle.channel_calls.specs.Marked.{Marked, marked_of}
-use Rattle.channel_calls.specs.declared.entry.Entry.{Entry}
-use Rattle.channel_calls.specs.declared.held_chain.HeldChain.{HeldChain}
+use Rattle.channel_values.specs.Parts.{FixedParts, StateParts, IsFixed}
+use Rattle.channel_values.specs.declared.value.AssetOutcome.{AssetOutcome}
+use Rattle.channel_values.specs.Digests.{name_of_person}
+use Rattle.channel_values.specs.Rules.{newest}
+use Rattle.call_history.proofs.Names.{bytes_eq_self}
+use Rattle.call_history.specs.History.{Legal}
+use Rattle.call_history.specs.Marked.{Marked, marked_of}
+use Rattle.call_history.specs.declared.entry.Entry.{Entry}
+use Rattle.call_history.specs.declared.held_chain.HeldChain.{HeldChain}
 use Rattle.channel_store.specs.Keeping.{is_held, next_of, known_last, known_state, named, place_in}
 use Rattle.channel_store.specs.Storing.{kept_of}
 use Rattle.channel_store.specs.declared.kept.Kept.{Kept}
-use Rattle.chain_laws.proofs.Tests.{and-both, true-le}
-use Rattle.net_model.specs.Held.{held}
-use Rattle.net_model.specs.Journals.{In, Line}
-use Rattle.net_model.proofs.Members.{In-map}
-use Rattle.node_laws.proofs.Agreeing.{Agree}
-use Rattle.node_laws.proofs.Standing.{known}
-use Rattle.node_model.specs.Minds.{Mind, facts_of}
-use Rattle.node_model.specs.Places.{Told, lines_of, mind_at, AreFew}
-use Rattle.node_share_laws.proofs.Apart.{Apart, apart-back, names_of, found-again}
-use Rattle.node_share_laws.proofs.Growing.{channels_told, Grows}
-use Rattle.node_share_laws.proofs.Keeping.{KeepsChannel, AllKeep, all-names}
-use Rattle.stage_rules.specs.Gathered as gathered
-use Rattle.stage_rules.specs.Seats.{Seat}
-use Rattle.support_chain.specs.Real.{real}
-use Rattle.support_chain.specs.Steps.{persons}
-use Rattle.view_laws.specs.Laws.{IsKeptAt}
-use Rattle.wish_laws.proofs.Finding.{held_of, place-found, chain-found}
+use Rattle.channel_safety.proofs.Tests.{and-both, true-le}
+use Rattle.channel_safety.specs.Held.{held}
+use Rattle.channel_safety.specs.Journals.{In, Line}
+use Rattle.channel_safety.proofs.Members.{In-map}
+use Rattle.channel_node.proofs.Agreeing.{Agree}
+use Rattle.channel_node.proofs.Standing.{known}
+use Rattle.channel_node.specs.Minds.{Mind, facts_of}
+use Rattle.channel_node.specs.Places.{Told, lines_of, mind_at, AreFew}
+use Rattle.node_guarantees.proofs.Apart.{Apart, apart-back, names_of, found-again}
+use Rattle.node_guarantees.proofs.Growing.{channels_told, Grows}
+use Rattle.node_guarantees.proofs.Keeping.{KeepsChannel, AllKeep, all-names}
+use Rattle.funding_plans.specs.Gathered as gathered
+use Rattle.funding_plans.specs.Seats.{Seat}
+use Rattle.support_rules.specs.Real.{real}
+use Rattle.support_rules.specs.Steps.{persons}
+use Rattle.node_guarantees.specs.ViewLaws.{IsKeptAt}
+use Rattle.fairness_laws.proofs.Finding.{held_of, place-found, chain-found}
 use Rattle.fairness_laws.specs.PlanSeats.{SeatIs, seat_of}
 use Rattle.fairness_laws.proofs.Plan.Names.{told-apart, named-apart}
 

@@ -4,26 +4,26 @@ use Rattle.std.specs.Prelude.{◌^◌, ◌==◌, nat_lt, map, Some, None, positi
 use Rattle.std.specs.List.{position_or_len}
 use Rattle.std.specs.Str.{bytes_eq}
 use Rattle.std.proofs.lemmas.Bool.{eq-eqb}
-use Rattle.nitro_bytes.specs.Parts.{FixedParts}
-use Rattle.nitro_bytes.specs.declared.value.AssetOutcome.{AssetOutcome}
-use Rattle.channel_name.specs.Digests.{name_of_person}
-use Rattle.channel_calls.proofs.Names.{bytes_eq_self}
-use Rattle.chain_laws.proofs.Tests.{cond-true, cond-false, lt-true, eqb-false}
-use Rattle.funding_value.specs.Parts.{own_ledger, own_guarantor, own_channel, channels_of, channels}
-use Rattle.funding_value.specs.declared.plan.Goal.{Goal}
-use Rattle.funding_value.specs.declared.plan.Part.{Part}
-use Rattle.funding_value.specs.declared.plan.Part.TheVariants.{Root, OnLedger, End, Middle}
-use Rattle.funding_value.specs.declared.plan.Virtual.{Virtual}
-use Rattle.net_model.specs.Journals.{In}
-use Rattle.net_model.proofs.Members.{In-flat_map}
-use Rattle.node_model.specs.Minds.{close_if}
-use Rattle.node_model.specs.Openings.{shared}
-use Rattle.node_share_laws.proofs.Apart.{Apart}
-use Rattle.node_tables.specs.Fitting.{are_shared}
-use Rattle.stage_rules.specs.Gathered.{goal_at}
-use Rattle.support_chain.specs.Real.{real}
-use Rattle.support_chain.specs.Steps.{persons}
-use Rattle.wish_laws.proofs.Carrying.{low}
+use Rattle.channel_values.specs.Parts.{FixedParts}
+use Rattle.channel_values.specs.declared.value.AssetOutcome.{AssetOutcome}
+use Rattle.channel_values.specs.Digests.{name_of_person}
+use Rattle.call_history.proofs.Names.{bytes_eq_self}
+use Rattle.channel_safety.proofs.Tests.{cond-true, cond-false, lt-true, eqb-false}
+use Rattle.funding_plans.specs.Parts.{own_ledger, own_guarantor, own_channel, channels_of, channels}
+use Rattle.funding_plans.specs.declared.plan.Goal.{Goal}
+use Rattle.funding_plans.specs.declared.plan.Part.{Part}
+use Rattle.funding_plans.specs.declared.plan.Part.TheVariants.{Root, OnLedger, End, Middle}
+use Rattle.funding_plans.specs.declared.plan.Virtual.{Virtual}
+use Rattle.channel_safety.specs.Journals.{In}
+use Rattle.channel_safety.proofs.Members.{In-flat_map}
+use Rattle.channel_node.specs.Minds.{close_if}
+use Rattle.channel_node.specs.Openings.{shared}
+use Rattle.node_guarantees.proofs.Apart.{Apart}
+use Rattle.stage_tables.specs.Fitting.{are_shared}
+use Rattle.funding_plans.specs.Gathered.{goal_at}
+use Rattle.support_rules.specs.Real.{real}
+use Rattle.support_rules.specs.Steps.{persons}
+use Rattle.fairness_laws.proofs.Carrying.{low}
 use Rattle.fairness_laws.proofs.Plan.Bearers.{Bearer, bearer-within}
 use Rattle.fairness_laws.proofs.Plan.Names.{own-in, apart-cross, apart-rest}
 

@@ -3,19 +3,19 @@ use Rattle.std.proofs.Common.{◌≡◌, ℕ, suc, ◌+◌, ◌<◌, Bool, true,
 use Rattle.std.specs.Prelude.{map, filter}
 use Rattle.std.specs.List.{list_any, position_or_len}
 use Rattle.std.specs.Str.{bytes_eq}
-use Rattle.nitro_bytes.specs.Parts.{FixedParts}
-use Rattle.nitro_bytes.specs.Outcomes.{AreApart}
-use Rattle.channel_calls.specs.Flows.{is_among}
-use Rattle.channel_calls.proofs.Names.{same_bytes, bytes_eq_self}
-use Rattle.chain_laws.proofs.Tests.{and-both}
-use Rattle.funding_value.specs.Parts.{own_channel, channels_of}
-use Rattle.funding_value.specs.declared.plan.Part.{Part}
-use Rattle.funding_value.specs.declared.plan.Part.TheVariants.{Root, OnLedger, End, Middle}
-use Rattle.net_model.specs.Journals.{In}
-use Rattle.net_model.proofs.Members.{In-append_left, In-append_right, In-map}
-use Rattle.node_model.specs.Openings.{are_apart}
-use Rattle.node_share_laws.proofs.Apart.{Apart}
-use Rattle.support_chain.specs.Real.{real}
+use Rattle.channel_values.specs.Parts.{FixedParts}
+use Rattle.channel_values.specs.Outcomes.{AreApart}
+use Rattle.call_history.specs.Flows.{is_among}
+use Rattle.call_history.proofs.Names.{same_bytes, bytes_eq_self}
+use Rattle.channel_safety.proofs.Tests.{and-both}
+use Rattle.funding_plans.specs.Parts.{own_channel, channels_of}
+use Rattle.funding_plans.specs.declared.plan.Part.{Part}
+use Rattle.funding_plans.specs.declared.plan.Part.TheVariants.{Root, OnLedger, End, Middle}
+use Rattle.channel_safety.specs.Journals.{In}
+use Rattle.channel_safety.proofs.Members.{In-append_left, In-append_right, In-map}
+use Rattle.channel_node.specs.Openings.{are_apart}
+use Rattle.node_guarantees.proofs.Apart.{Apart}
+use Rattle.support_rules.specs.Real.{real}
 
 -- ---- tests on lists
 

@@ -1,45 +1,45 @@
 -- What is known of a node's plan at each place of its journal: the parts with their goals, and that ledgers were opened before.
 use Rattle.std.proofs.Common.{◌≡◌, ℕ, ◌+◌, true, List, [], ◌∷◌, ◌++◌, inl, inr, length, refl, sym, ◌∙◌, subst, arith}
 use Rattle.std.specs.Prelude.{◌==◌, Option, Some, None, map, Result, Ok, Err}
-use Rattle.nitro_bytes.specs.Parts.{FixedParts, IsFixed}
-use Rattle.nitro_bytes.specs.declared.fault.ByteFault.{ByteFault}
-use Rattle.nitro_bytes.specs.declared.value.AssetOutcome.{AssetOutcome}
-use Rattle.channel_calls.specs.Flows.{is_among}
-use Rattle.channel_calls.specs.History.{Legal}
-use Rattle.channel_calls.specs.Reading.{message_of}
-use Rattle.channel_calls.specs.Spelling.{Message}
-use Rattle.channel_calls.specs.declared.entry.Entry.{Entry}
-use Rattle.channel_calls.specs.declared.event.Deed.{Deed}
-use Rattle.channel_calls.specs.declared.event.Deed.TheVariants as deeds
-use Rattle.chain_laws.proofs.Lists.{In-get}
-use Rattle.channel_calls.proofs.Names.{same_bytes}
+use Rattle.channel_values.specs.Parts.{FixedParts, IsFixed}
+use Rattle.channel_values.specs.declared.fault.ByteFault.{ByteFault}
+use Rattle.channel_values.specs.declared.value.AssetOutcome.{AssetOutcome}
+use Rattle.call_history.specs.Flows.{is_among}
+use Rattle.call_history.specs.History.{Legal}
+use Rattle.call_history.specs.Reading.{message_of}
+use Rattle.call_history.specs.Spelling.{Message}
+use Rattle.call_history.specs.declared.entry.Entry.{Entry}
+use Rattle.call_history.specs.declared.event.Deed.{Deed}
+use Rattle.call_history.specs.declared.event.Deed.TheVariants as deeds
+use Rattle.channel_safety.proofs.Lists.{In-get}
+use Rattle.call_history.proofs.Names.{same_bytes}
 use Rattle.std.proofs.lemmas.Bool.{false≢true}
-use Rattle.funding_value.specs.Parts.{own_ledger, channels}
-use Rattle.funding_value.specs.declared.plan.Goal.{Goal}
-use Rattle.funding_value.specs.declared.plan.Part.{Part}
-use Rattle.funding_value.specs.declared.plan.Part.TheVariants.{Root, OnLedger, End, Middle}
-use Rattle.history_laws.proofs.Rowing.{legal-suffix}
-use Rattle.net_model.specs.Journals.{In, opened, is_followed}
-use Rattle.net_model.proofs.Members.{In-append_left, In-append_right, In-map}
-use Rattle.net_party.specs.declared.command.Command.{Command}
-use Rattle.net_party.specs.declared.command.Command.TheVariants as commands
-use Rattle.node_laws.proofs.Places.{mind-event, mind-watched, mind-entry}
-use Rattle.node_model.specs.Minds.{Mind, facts_of, noted_message, with_opened, place_with, close_if, commanded, did}
-use Rattle.node_model.specs.Openings.{opened_by, adds, parts_of, goals_of}
-use Rattle.node_model.specs.Places.{Told, line_of, lines_of, mind_at, AreFew}
-use Rattle.node_model.specs.Playing.{Signing, signings, pending, Allowed, Plays}
-use Rattle.node_model.specs.Refusing.{command_refusal}
-use Rattle.node_share_laws.proofs.Apart.{Apart, apart-of}
-use Rattle.node_share_laws.proofs.Growing.{channels_told, Grows}
-use Rattle.node_share_laws.proofs.Placing.{grows-at}
-use Rattle.node_share_laws.specs.Laws.{IsFront}
-use Rattle.node_tables.specs.Fitting.{stake, either_lends}
-use Rattle.node_tables.specs.Stages.{stages}
-use Rattle.signing_laws.specs.Plans.{StandsOn, ledgers_after, AllStandOn}
-use Rattle.support_chain.specs.Real.{real}
-use Rattle.wish_laws.proofs.Closing.{rest-plays}
-use Rattle.wish_laws.proofs.Over.{Seen, IsKept, AtEvent, over, looked}
-use Rattle.wish_laws.proofs.Planned.{is-planned}
+use Rattle.funding_plans.specs.Parts.{own_ledger, channels}
+use Rattle.funding_plans.specs.declared.plan.Goal.{Goal}
+use Rattle.funding_plans.specs.declared.plan.Part.{Part}
+use Rattle.funding_plans.specs.declared.plan.Part.TheVariants.{Root, OnLedger, End, Middle}
+use Rattle.channel_safety.proofs.Rowing.{legal-suffix}
+use Rattle.channel_safety.specs.Journals.{In, opened, is_followed}
+use Rattle.channel_safety.proofs.Members.{In-append_left, In-append_right, In-map}
+use Rattle.network.specs.declared.command.Command.{Command}
+use Rattle.network.specs.declared.command.Command.TheVariants as commands
+use Rattle.channel_node.proofs.Places.{mind-event, mind-watched, mind-entry}
+use Rattle.channel_node.specs.Minds.{Mind, facts_of, noted_message, with_opened, place_with, close_if, commanded, did}
+use Rattle.channel_node.specs.Openings.{opened_by, adds, parts_of, goals_of}
+use Rattle.channel_node.specs.Places.{Told, line_of, lines_of, mind_at, AreFew}
+use Rattle.channel_node.specs.Playing.{Signing, signings, pending, Allowed, Plays}
+use Rattle.channel_node.specs.Refusing.{command_refusal}
+use Rattle.node_guarantees.proofs.Apart.{Apart, apart-of}
+use Rattle.node_guarantees.proofs.Growing.{channels_told, Grows}
+use Rattle.node_guarantees.proofs.Placing.{grows-at}
+use Rattle.node_guarantees.specs.NodeShareLaws.{IsFront}
+use Rattle.stage_tables.specs.Fitting.{stake, either_lends}
+use Rattle.stage_tables.specs.Stages.{stages}
+use Rattle.share_laws.specs.Plans.{StandsOn, ledgers_after, AllStandOn}
+use Rattle.support_rules.specs.Real.{real}
+use Rattle.fairness_laws.proofs.Closing.{rest-plays}
+use Rattle.fairness_laws.proofs.Over.{Seen, IsKept, AtEvent, over, looked}
+use Rattle.fairness_laws.proofs.Planned.{is-planned}
 use Rattle.fairness_laws.proofs.Seat.Past.{occurs}
 use Rattle.fairness_laws.specs.PlanSettings.{IsNodes}
 use Rattle.fairness_laws.proofs.Plan.Fitting.{can-open, Tells, Added, lent, root-added, child-added, virtual-added}

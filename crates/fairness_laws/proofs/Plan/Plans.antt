@@ -1,26 +1,26 @@
 -- Plans are whole: by what is known of each part.
 use Rattle.std.proofs.Common.{◌≡◌, ℕ, true, List, inl, inr, sym, ◌∙◌, ap, subst}
-use Rattle.nitro_bytes.specs.Parts.{FixedParts}
-use Rattle.nitro_bytes.specs.declared.value.AssetOutcome.{AssetOutcome}
-use Rattle.channel_calls.specs.Flows.{is_among}
-use Rattle.funding_value.specs.Parts.{channels}
-use Rattle.funding_value.specs.declared.plan.Part.{Part}
-use Rattle.funding_value.specs.declared.plan.Part.TheVariants.{Root, OnLedger, End, Middle}
-use Rattle.net_model.specs.Journals.{In}
-use Rattle.net_model.proofs.Members.{Joined, joined}
-use Rattle.node_model.specs.Minds.{Mind}
-use Rattle.node_model.specs.Places.{lines_of, mind_at}
-use Rattle.node_share_laws.proofs.Apart.{Apart}
-use Rattle.node_share_laws.proofs.Growing.{channels_told, Grows}
-use Rattle.node_share_laws.proofs.Telling.{places_tell_shares}
-use Rattle.node_share_laws.specs.Orders.{orders_of}
-use Rattle.node_tables.specs.Stages.{stages}
+use Rattle.channel_values.specs.Parts.{FixedParts}
+use Rattle.channel_values.specs.declared.value.AssetOutcome.{AssetOutcome}
+use Rattle.call_history.specs.Flows.{is_among}
+use Rattle.funding_plans.specs.Parts.{channels}
+use Rattle.funding_plans.specs.declared.plan.Part.{Part}
+use Rattle.funding_plans.specs.declared.plan.Part.TheVariants.{Root, OnLedger, End, Middle}
+use Rattle.channel_safety.specs.Journals.{In}
+use Rattle.channel_safety.proofs.Members.{Joined, joined}
+use Rattle.channel_node.specs.Minds.{Mind}
+use Rattle.channel_node.specs.Places.{lines_of, mind_at}
+use Rattle.node_guarantees.proofs.Apart.{Apart}
+use Rattle.node_guarantees.proofs.Growing.{channels_told, Grows}
+use Rattle.node_guarantees.proofs.Telling.{places_tell_shares}
+use Rattle.node_guarantees.specs.Orders.{orders_of}
+use Rattle.stage_tables.specs.Stages.{stages}
 use Rattle.share_laws.specs.Finality.{RestsOnNoPayments}
 use Rattle.share_laws.specs.Turns.{names}
-use Rattle.share_model.specs.Bases.{bases_of, all_bases}
-use Rattle.share_model.specs.Places.{plan}
-use Rattle.signing_laws.specs.Plans.{IsPlan}
-use Rattle.support_chain.specs.Real.{real}
+use Rattle.share_laws.specs.Bases.{bases_of, all_bases}
+use Rattle.share_laws.specs.Places.{plan}
+use Rattle.share_laws.specs.Plans.{IsPlan}
+use Rattle.support_rules.specs.Real.{real}
 use Rattle.fairness_laws.proofs.Seat.Past.{occurs}
 use Rattle.fairness_laws.proofs.Apps.{no-payments}
 use Rattle.fairness_laws.specs.PlanLaws.{PlansAreWhole}

@@ -2,13 +2,13 @@
 use Rattle.std.proofs.Common.{◌≡◌, ◌≢◌, ℕ, ◌<◌, false, List, [], ◌∷◌, ◌++◌, length, sym, ◌∙◌, ap, subst, arith}
 use Rattle.std.proofs.lemmas.Bool.Decides.{nat_tests}
 use Rattle.std.specs.Prelude.{Some, nat_le}
-use Rattle.nitro_bytes.specs.Outcomes.{IsOutcome}
-use Rattle.nitro_bytes.specs.Parts.{FixedParts, StateParts}
-use Rattle.nitro_bytes.specs.declared.value.AssetOutcome.{AssetOutcome}
-use Rattle.channel_calls.specs.declared.entry.Entry.{Entry}
-use Rattle.channel_model.specs.Rules.{people}
-use Rattle.net_model.proofs.Members.{In-append_right}
-use Rattle.net_model.specs.Journals.{In, Line}
+use Rattle.channel_values.specs.Outcomes.{IsOutcome}
+use Rattle.channel_values.specs.Parts.{FixedParts, StateParts}
+use Rattle.channel_values.specs.declared.value.AssetOutcome.{AssetOutcome}
+use Rattle.call_history.specs.declared.entry.Entry.{Entry}
+use Rattle.channel_values.specs.Rules.{people}
+use Rattle.channel_safety.proofs.Members.{In-append_right}
+use Rattle.channel_safety.specs.Journals.{In, Line}
 use Rattle.fairness_laws.proofs.Seat.Past.{people-are}
 use Rattle.fairness_laws.proofs.Outcomes.{exactly-alone}
 use Rattle.fairness_laws.proofs.Seat.Sitting.{topped}
@@ -16,9 +16,9 @@ use Rattle.fairness_laws.proofs.Seat.Ends.{Ends, ends-top}
 use Rattle.fairness_laws.specs.OpeningChannels.{IsExactly, SignsOnly}
 use Rattle.fairness_laws.specs.SeatSitting.{Sits}
 use Rattle.share_laws.proofs.Fronts.{last-line}
-use Rattle.share_model.specs.Places.{Order, possible, outcomes_of}
-use Rattle.stage_rules.specs.Seats.{Seat, state_is, has_signed_past}
-use Rattle.support_chain.specs.Real.{real}
+use Rattle.share_laws.specs.Places.{Order, possible, outcomes_of}
+use Rattle.funding_plans.specs.Seats.{Seat, state_is, has_signed_past}
+use Rattle.support_rules.specs.Real.{real}
 
 low-turn : (n turn : ℕ) → nat_le n turn ≡ false → turn < n
 low-turn n turn e = grind (arith, nat_tests)

@@ -2,25 +2,25 @@
 use Rattle.std.proofs.Common.{◌≡◌, ℕ, ◌<◌, true, List, [], ◌∷◌, ◌++◌, refl, ◌∙◌, ap}
 use Rattle.std.specs.Prelude.{Option, Some, None, nat_le}
 use Rattle.std.specs.Option.{option_map}
-use Rattle.nitro_bytes.specs.Parts.{FixedParts, StateParts, IsState}
-use Rattle.nitro_bytes.specs.declared.chain.Signed.{Signed}
-use Rattle.nitro_bytes.specs.declared.value.AssetOutcome.{AssetOutcome}
-use Rattle.chain_laws.proofs.Tests.{cond-true}
-use Rattle.channel_calls.specs.declared.entry.Entry.{Entry}
-use Rattle.channel_model.specs.Chains.{last_of}
-use Rattle.channel_model.specs.Rules.{people, newest}
+use Rattle.channel_values.specs.Parts.{FixedParts, StateParts, IsState}
+use Rattle.channel_values.specs.declared.chain.Signed.{Signed}
+use Rattle.channel_values.specs.declared.value.AssetOutcome.{AssetOutcome}
+use Rattle.channel_safety.proofs.Tests.{cond-true}
+use Rattle.call_history.specs.declared.entry.Entry.{Entry}
+use Rattle.channel_values.specs.Rows.{last_of}
+use Rattle.channel_values.specs.Rules.{people, newest}
 use Rattle.channel_store.specs.Keeping.{is_held}
 use Rattle.channel_store.specs.declared.kept.Kept.{Kept}
-use Rattle.net_model.specs.Journals.{Line}
+use Rattle.channel_safety.specs.Journals.{Line}
 use Rattle.fairness_laws.proofs.OpenedParts.{SignsFirst}
 use Rattle.fairness_laws.proofs.Seat.Sitting.{topped, could}
 use Rattle.fairness_laws.specs.SeatSitting.{Sits}
 use Rattle.share_laws.proofs.Fronts.{last-line}
-use Rattle.net_model.proofs.Members.{In-append_right}
-use Rattle.share_model.specs.Places.{Order, last_made, listed, proposed, possible, outcomes_of}
-use Rattle.signing_laws.specs.Settled.{EndsWith}
-use Rattle.stage_rules.specs.Seats.{Seat, state_is, holds}
-use Rattle.support_chain.specs.Real.{real}
+use Rattle.channel_safety.proofs.Members.{In-append_right}
+use Rattle.share_laws.specs.Places.{Order, last_made, listed, proposed, possible, outcomes_of}
+use Rattle.share_laws.specs.Settled.{EndsWith}
+use Rattle.funding_plans.specs.Seats.{Seat, state_is, holds}
+use Rattle.support_rules.specs.Real.{real}
 
 -- the latest state and the one that was signed last
 pub record Ends (key : List ℕ) (orders : ℕ → Order) (past : List Entry) (front : List Line) (f : FixedParts) (c : Seat) : Type 0 where

@@ -3,21 +3,21 @@ use Rattle.std.proofs.Common.{◌≡◌, ◌≢◌, ℕ, ◌+◌, ◌*◌, ◌<�
 use Rattle.std.specs.Prelude.{nat_le, Option, Some, None}
 use Rattle.std.specs.List.{list_all}
 use Rattle.std.specs.Option.{option_map}
-use Rattle.nitro_bytes.specs.Parts.{FixedParts, StateParts, IsState}
-use Rattle.nitro_bytes.specs.declared.chain.Signed.{Signed}
-use Rattle.nitro_bytes.specs.declared.value.AssetOutcome.{AssetOutcome}
-use Rattle.chain_laws.proofs.Chains.{parts, top_at}
-use Rattle.chain_laws.proofs.Tests.{some-eq, and-left, clash, le-true}
-use Rattle.channel_calls.specs.Marked.{marked_of}
-use Rattle.channel_calls.specs.declared.entry.Entry.{Entry}
-use Rattle.channel_model.specs.Chains.{last_of}
-use Rattle.channel_model.specs.Rules.{people, newest, turn_of}
-use Rattle.channel_name.specs.Digests.{name_of_person}
+use Rattle.channel_values.specs.Parts.{FixedParts, StateParts, IsState}
+use Rattle.channel_values.specs.declared.chain.Signed.{Signed}
+use Rattle.channel_values.specs.declared.value.AssetOutcome.{AssetOutcome}
+use Rattle.channel_safety.proofs.Chains.{parts, top_at}
+use Rattle.channel_safety.proofs.Tests.{some-eq, and-left, clash, le-true}
+use Rattle.call_history.specs.Marked.{marked_of}
+use Rattle.call_history.specs.declared.entry.Entry.{Entry}
+use Rattle.channel_values.specs.Rows.{last_of}
+use Rattle.channel_values.specs.Rules.{people, newest, turn_of}
+use Rattle.channel_values.specs.Digests.{name_of_person}
 use Rattle.channel_store.specs.Keeping.{is_held}
-use Rattle.held_laws.specs.Laws.{EndsPossibly}
-use Rattle.net_model.specs.Journals.{In, Line}
-use Rattle.node_model.specs.Places.{Told, lines_of}
-use Rattle.node_model.specs.Playing.{Signing}
+use Rattle.share_laws.specs.HeldLaws.{EndsPossibly}
+use Rattle.channel_safety.specs.Journals.{In, Line}
+use Rattle.channel_node.specs.Places.{Told, lines_of}
+use Rattle.channel_node.specs.Playing.{Signing}
 use Rattle.fairness_laws.specs.PaymentLaws.{At}
 use Rattle.fairness_laws.specs.PlanSeats.{SeatIs}
 use Rattle.fairness_laws.specs.PlanSettings.{IsFair}
@@ -26,9 +26,9 @@ use Rattle.fairness_laws.proofs.Payment.Ended.{top-there, own-last}
 use Rattle.fairness_laws.proofs.Payment.Made.{held-ends}
 use Rattle.fairness_laws.proofs.Seat.Sitting.{one-of, last-state}
 use Rattle.share_laws.specs.Finality.{StandsFor}
-use Rattle.share_model.specs.Places.{last_made, outcomes_of}
-use Rattle.stage_rules.specs.Seats.{Seat, state_is, holds, has_signed_past}
-use Rattle.support_chain.specs.Real.{real}
+use Rattle.share_laws.specs.Places.{last_made, outcomes_of}
+use Rattle.funding_plans.specs.Seats.{Seat, state_is, holds, has_signed_past}
+use Rattle.support_rules.specs.Real.{real}
 
 -- the state that was signed last of a channel
 abbrev pub last-of : List ℕ → List Line → Option StateParts

@@ -3,43 +3,43 @@ use Rattle.std.proofs.Common.{◌≡◌, ℕ, ◌+◌, ◌<◌, ◌≤◌, Bool,
 use Rattle.std.proofs.lemmas.List.{length-map}
 use Rattle.std.specs.Prelude.{nat_le, Option, Some, None, is_some}
 use Rattle.std.specs.Option.{option_map, option_or}
-use Rattle.nitro_bytes.specs.Parts.{FixedParts, StateParts}
-use Rattle.nitro_bytes.specs.declared.chain.Signed.{Signed}
-use Rattle.nitro_bytes.specs.declared.value.AssetOutcome.{AssetOutcome}
-use Rattle.chain_laws.proofs.Lists.{In-append_right, get-within}
-use Rattle.chain_laws.proofs.Tests.{some-eq, none-eq, le-true, true-le, cond-true, clash}
-use Rattle.channel_calls.specs.Marked.{Marked, marked_of, is_supported}
-use Rattle.channel_calls.specs.declared.entry.Entry.{Entry}
-use Rattle.channel_model.specs.Rules.{people}
-use Rattle.channel_name.specs.Digests.{name_of_person}
+use Rattle.channel_values.specs.Parts.{FixedParts, StateParts}
+use Rattle.channel_values.specs.declared.chain.Signed.{Signed}
+use Rattle.channel_values.specs.declared.value.AssetOutcome.{AssetOutcome}
+use Rattle.channel_safety.proofs.Lists.{In-append_right, get-within}
+use Rattle.channel_safety.proofs.Tests.{some-eq, none-eq, le-true, true-le, cond-true, clash}
+use Rattle.call_history.specs.Marked.{Marked, marked_of, is_supported}
+use Rattle.call_history.specs.declared.entry.Entry.{Entry}
+use Rattle.channel_values.specs.Rules.{people}
+use Rattle.channel_values.specs.Digests.{name_of_person}
 use Rattle.channel_store.proofs.Good.{held_is}
 use Rattle.channel_store.specs.Keeping.{is_held}
-use Rattle.history_laws.proofs.Keeps.{HoldsNewer}
-use Rattle.history_laws.proofs.Places.{made-not_watched, made-noted}
-use Rattle.history_laws.proofs.Safe.{honest-suffix, noted-held, known as in-plan}
-use Rattle.net_model.specs.Held.{held}
-use Rattle.net_model.specs.Honest.{HonestIn}
-use Rattle.net_model.specs.Journals.{In, Line, made_in, is_watched}
-use Rattle.net_model.specs.Occurring.{OccursFixed}
-use Rattle.node_laws.proofs.Bridging.{lines-append, In-lines}
-use Rattle.node_laws.proofs.Once.{played_journals_are_honest}
-use Rattle.node_model.specs.Places.{Told, lines_of, mind_at}
-use Rattle.node_model.specs.Playing.{Signing}
-use Rattle.node_share_laws.specs.Laws.{IsFront}
-use Rattle.node_tables.specs.Stages.{stages}
-use Rattle.node_laws.proofs.Agreeing.{Agree}
-use Rattle.node_laws.proofs.Standing.{known}
-use Rattle.history_laws.proofs.Rowing.{legal-suffix}
-use Rattle.channel_calls.specs.History.{Legal}
+use Rattle.channel_safety.proofs.Keeps.{HoldsNewer}
+use Rattle.channel_safety.proofs.Places.{made-not_watched, made-noted}
+use Rattle.channel_safety.proofs.Safe.{honest-suffix, noted-held, known as in-plan}
+use Rattle.channel_safety.specs.Held.{held}
+use Rattle.channel_safety.specs.Honest.{HonestIn}
+use Rattle.channel_safety.specs.Journals.{In, Line, made_in, is_watched}
+use Rattle.channel_safety.specs.Occurring.{OccursFixed}
+use Rattle.channel_node.proofs.Bridging.{lines-append, In-lines}
+use Rattle.channel_node.proofs.Once.{played_journals_are_honest}
+use Rattle.channel_node.specs.Places.{Told, lines_of, mind_at}
+use Rattle.channel_node.specs.Playing.{Signing}
+use Rattle.node_guarantees.specs.NodeShareLaws.{IsFront}
+use Rattle.stage_tables.specs.Stages.{stages}
+use Rattle.channel_node.proofs.Agreeing.{Agree}
+use Rattle.channel_node.proofs.Standing.{known}
+use Rattle.channel_safety.proofs.Rowing.{legal-suffix}
+use Rattle.call_history.specs.History.{Legal}
 use Rattle.channel_store.specs.Storing.{kept_of}
 use Rattle.channel_store.specs.declared.kept.Kept.{Kept}
 use Rattle.fairness_laws.specs.PlanSeats.{SeatIs}
 use Rattle.fairness_laws.specs.PlanSettings.{IsNodes, IsFair}
 use Rattle.share_laws.proofs.Finality.{lasts, opened-there}
-use Rattle.share_model.specs.Places.{channels, last_made}
-use Rattle.stage_rules.specs.Seats.{Seat, state_is, has_signed_past}
-use Rattle.support_chain.specs.Real.{real}
-use Rattle.support_chain.specs.Steps.{persons}
+use Rattle.share_laws.specs.Places.{channels, last_made}
+use Rattle.funding_plans.specs.Seats.{Seat, state_is, has_signed_past}
+use Rattle.support_rules.specs.Real.{real}
+use Rattle.support_rules.specs.Steps.{persons}
 
 pub as-many : (f : FixedParts) → length (persons f) ≡ people f
 as-many f = length-map f.keys name_of_person

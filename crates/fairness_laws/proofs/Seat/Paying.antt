@@ -4,27 +4,27 @@ use Rattle.std.specs.Prelude.{Option, Some, None}
 use Rattle.std.specs.List.{AllByRecursion}
 use Rattle.std.specs.Option.{option_map}
 use Rattle.std.specs.Str.{bytes_eq}
-use Rattle.nitro_bytes.specs.Outcomes.{is_same, pays_same, AreApart, IsItem}
-use Rattle.nitro_bytes.specs.Parts.{StateParts}
-use Rattle.nitro_bytes.specs.declared.value.AssetOutcome.{AssetOutcome}
-use Rattle.nitro_bytes.specs.declared.value.Dest.{Dest}
-use Rattle.nitro_bytes.specs.declared.value.Dest.TheVariants.{Person}
-use Rattle.nitro_bytes.specs.declared.value.Item.{Item}
-use Rattle.nitro_bytes.specs.declared.value.Shape.{Shape}
-use Rattle.nitro_bytes.specs.declared.value.Shape.TheVariants.{Allocation, Guarantee}
-use Rattle.channel_name.specs.Digests.{name_of_person}
-use Rattle.chain_laws.proofs.Tests.{clash, eqb-true}
-use Rattle.channel_calls.proofs.Names.{same_bytes}
-use Rattle.channel_calls.proofs.Payouts.{same_dest}
-use Rattle.channel_calls.specs.Dues.{shape_in}
-use Rattle.channel_model.specs.Amounts.{has}
-use Rattle.funding_value.specs.Shapes.{items_of, list_of, items_in}
-use Rattle.node_model.specs.Refusing.{moved_item, moved_shape, moved_asset, moved}
-use Rattle.signing_laws.specs.Fairly.{Pays}
-use Rattle.signing_laws.specs.Items.{pays, lowered, raised}
-use Rattle.signing_laws.specs.Wanted.{paid_over}
-use Rattle.support_chain.specs.Real.{real}
-use Rattle.target_laws.proofs.OneByOne.{or_false, no_other}
+use Rattle.channel_values.specs.Outcomes.{is_same, pays_same, AreApart, IsItem}
+use Rattle.channel_values.specs.Parts.{StateParts}
+use Rattle.channel_values.specs.declared.value.AssetOutcome.{AssetOutcome}
+use Rattle.channel_values.specs.declared.value.Dest.{Dest}
+use Rattle.channel_values.specs.declared.value.Dest.TheVariants.{Person}
+use Rattle.channel_values.specs.declared.value.Item.{Item}
+use Rattle.channel_values.specs.declared.value.Shape.{Shape}
+use Rattle.channel_values.specs.declared.value.Shape.TheVariants.{Allocation, Guarantee}
+use Rattle.channel_values.specs.Digests.{name_of_person}
+use Rattle.channel_safety.proofs.Tests.{clash, eqb-true}
+use Rattle.call_history.proofs.Names.{same_bytes}
+use Rattle.call_history.proofs.Payouts.{same_dest}
+use Rattle.call_history.specs.Dues.{shape_in}
+use Rattle.channel_values.specs.Amounts.{has}
+use Rattle.funding_plans.specs.Shapes.{items_of, list_of, items_in}
+use Rattle.channel_node.specs.Refusing.{moved_item, moved_shape, moved_asset, moved}
+use Rattle.share_laws.specs.Fairly.{Pays}
+use Rattle.share_laws.specs.Items.{pays, lowered, raised}
+use Rattle.share_laws.specs.Wanted.{paid_over}
+use Rattle.support_rules.specs.Real.{real}
+use Rattle.fairness_laws.proofs.OneByOne.{or_false, no_other}
 use Rattle.fairness_laws.proofs.Ledger.Moving.{Itemed, itemed}
 use Rattle.fairness_laws.specs.SeatLaws.{PaymentsAreFair}
 use Rattle.fairness_laws.proofs.Seat.Sitting.{Topped, topped, bare}

@@ -2,42 +2,42 @@
 use Rattle.std.proofs.Common.{◌≡◌, ◌≢◌, ℕ, ◌+◌, ◌*◌, ◌<◌, ◌≤◌, Bool, true, false, cond, ◌&&◌, not, List, [], ◌∷◌, ◌⊎◌, inl, inr, length, refl, sym, ◌∙◌, ap, subst, arith}
 use Rattle.std.specs.Prelude.{◌^◌, nat_le, nat_lt, Option, Some, None}
 use Rattle.std.specs.List.{AllByRecursion}
-use Rattle.nitro_bytes.specs.Outcomes.{IsOutcome}
-use Rattle.nitro_bytes.specs.Parts.{FixedParts, StateParts, IsState, state_with}
-use Rattle.nitro_bytes.specs.declared.chain.Signed.{Signed}
-use Rattle.nitro_bytes.specs.declared.value.AssetOutcome.{AssetOutcome}
-use Rattle.nitro_bytes.specs.declared.value.Dest.TheVariants.{Person}
-use Rattle.channel_name.specs.Digests.{name_of_person}
-use Rattle.app_rules.specs.Rules.{is_same_outcome}
-use Rattle.app_rules.specs.Toward.{wanted_toward}
-use Rattle.channel_model.specs.Amounts.{aff}
-use Rattle.channel_model.specs.Chains.{last_of}
-use Rattle.channel_model.specs.Rules.{people, newest}
-use Rattle.channel_calls.specs.Flows.{is_among}
-use Rattle.channel_calls.specs.History.{mode, rest_of_channel}
-use Rattle.channel_calls.specs.Marked.{next_after}
-use Rattle.channel_calls.specs.declared.entry.Entry.{Entry}
+use Rattle.channel_values.specs.Outcomes.{IsOutcome}
+use Rattle.channel_values.specs.Parts.{FixedParts, StateParts, IsState, state_with}
+use Rattle.channel_values.specs.declared.chain.Signed.{Signed}
+use Rattle.channel_values.specs.declared.value.AssetOutcome.{AssetOutcome}
+use Rattle.channel_values.specs.declared.value.Dest.TheVariants.{Person}
+use Rattle.channel_values.specs.Digests.{name_of_person}
+use Rattle.support_rules.specs.Rules.{is_same_outcome}
+use Rattle.support_rules.specs.Toward.{wanted_toward}
+use Rattle.channel_values.specs.Amounts.{aff}
+use Rattle.channel_values.specs.Rows.{last_of}
+use Rattle.channel_values.specs.Rules.{people, newest}
+use Rattle.call_history.specs.Flows.{is_among}
+use Rattle.call_history.specs.History.{mode, rest_of_channel}
+use Rattle.call_history.specs.Marked.{next_after}
+use Rattle.call_history.specs.declared.entry.Entry.{Entry}
 use Rattle.channel_store.specs.Keeping.{is_held}
 use Rattle.channel_store.specs.declared.kept.Kept.{Kept}
-use Rattle.chain_laws.proofs.Tests.{some-eq, none-eq, and-left, and-right, lt-true, cond-true, cond-false}
-use Rattle.deadline_clock.specs.Mode.{is_final}
-use Rattle.funding_value.specs.Shapes.{items_in, list_in}
-use Rattle.net_model.specs.Held.{held}
-use Rattle.net_model.specs.Journals.{In, Line}
-use Rattle.outcome_targets.specs.Limits.{is_valid}
+use Rattle.channel_safety.proofs.Tests.{some-eq, none-eq, and-left, and-right, lt-true, cond-true, cond-false}
+use Rattle.call_history.specs.Mode.{is_final}
+use Rattle.funding_plans.specs.Shapes.{items_in, list_in}
+use Rattle.channel_safety.specs.Held.{held}
+use Rattle.channel_safety.specs.Journals.{In, Line}
+use Rattle.funding_plans.specs.Limits.{is_valid}
 use Rattle.share_laws.specs.Finality.{StandsFor}
 use Rattle.share_laws.specs.Turns.{OneOf}
-use Rattle.share_model.specs.Bases.{all_bases}
-use Rattle.share_model.specs.Places as places
-use Rattle.share_model.specs.Places.{Order, plan, last_made, possible, possible_after, outcomes_of}
-use Rattle.signing_laws.specs.Fairly.{Wants, first, repeats, votes}
-use Rattle.signing_laws.specs.Wanted.{IsTarget}
-use Rattle.stage_rules.specs.Seats as seats
-use Rattle.stage_rules.specs.Seats.{Seat, when, is_turn, has_no_data, final_after, pass_after, toward_after}
-use Rattle.support_chain.specs.Real.{real}
-use Rattle.support_laws.proofs.Consensus.{same_outcome}
-use Rattle.wish_laws.proofs.Roots.{Whens, when-some}
-use Rattle.wish_laws.specs.Carried.{IsRepeatedIfAny}
+use Rattle.share_laws.specs.Bases.{all_bases}
+use Rattle.share_laws.specs.Places as places
+use Rattle.share_laws.specs.Places.{Order, plan, last_made, possible, possible_after, outcomes_of}
+use Rattle.share_laws.specs.Fairly.{Wants, first, repeats, votes}
+use Rattle.share_laws.specs.Wanted.{IsTarget}
+use Rattle.funding_plans.specs.Seats as seats
+use Rattle.funding_plans.specs.Seats.{Seat, when, is_turn, has_no_data, final_after, pass_after, toward_after}
+use Rattle.support_rules.specs.Real.{real}
+use Rattle.support_rules.proofs.ConsensusLaws.{same_outcome}
+use Rattle.fairness_laws.proofs.RootWishes.{Whens, when-some}
+use Rattle.fairness_laws.specs.Carried.{IsRepeatedIfAny}
 use Rattle.fairness_laws.proofs.Seat.Past.{supported}
 use Rattle.fairness_laws.specs.SeatSitting.{Sits}
 use Rattle.fairness_laws.specs.SeatLaws.{RepeatsAreFair, FinalsAreFair, PassesAreFair, MovesAreFair}

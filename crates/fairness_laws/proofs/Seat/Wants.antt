@@ -2,19 +2,19 @@
 use Rattle.std.proofs.Common.{◌≡◌, ◌≢◌, ℕ, ◌*◌, ◌≤◌, true, false, List, ◌⊎◌, sym, ◌∙◌, ap, subst}
 use Rattle.std.specs.Prelude.{Option, Some}
 use Rattle.std.specs.Str.{bytes_eq}
-use Rattle.nitro_bytes.specs.Outcomes.{IsOutcome}
-use Rattle.nitro_bytes.specs.Parts.{FixedParts, StateParts, IsState}
-use Rattle.nitro_bytes.specs.declared.value.AssetOutcome.{AssetOutcome}
-use Rattle.channel_calls.proofs.Names.{same_bytes}
-use Rattle.channel_calls.specs.History.{mode}
-use Rattle.channel_calls.specs.declared.entry.Entry.{Entry}
-use Rattle.channel_model.specs.Rules.{people}
-use Rattle.channel_name.specs.Digests.{name_of_person}
-use Rattle.deadline_clock.specs.Mode.{is_final}
-use Rattle.net_model.specs.Journals.{Line}
-use Rattle.node_model.specs.Places.{Told, lines_of}
-use Rattle.node_model.specs.Playing.{Signing}
-use Rattle.node_share_laws.specs.Orders.{orders_of}
+use Rattle.channel_values.specs.Outcomes.{IsOutcome}
+use Rattle.channel_values.specs.Parts.{FixedParts, StateParts, IsState}
+use Rattle.channel_values.specs.declared.value.AssetOutcome.{AssetOutcome}
+use Rattle.call_history.proofs.Names.{same_bytes}
+use Rattle.call_history.specs.History.{mode}
+use Rattle.call_history.specs.declared.entry.Entry.{Entry}
+use Rattle.channel_values.specs.Rules.{people}
+use Rattle.channel_values.specs.Digests.{name_of_person}
+use Rattle.call_history.specs.Mode.{is_final}
+use Rattle.channel_safety.specs.Journals.{Line}
+use Rattle.channel_node.specs.Places.{Told, lines_of}
+use Rattle.channel_node.specs.Playing.{Signing}
+use Rattle.node_guarantees.specs.Orders.{orders_of}
 use Rattle.fairness_laws.proofs.Channels.{one-named, channel-of, carried}
 use Rattle.fairness_laws.proofs.Seat.Sitting.{repeats_are_fair, finals_are_fair, passes_are_fair, moves_are_fair}
 use Rattle.fairness_laws.proofs.Signing.{sits}
@@ -22,14 +22,14 @@ use Rattle.fairness_laws.specs.PaymentLaws.{At}
 use Rattle.fairness_laws.specs.PlanSeats.{SeatIs}
 use Rattle.fairness_laws.specs.PlanSettings.{IsFair}
 use Rattle.fairness_laws.specs.SeatSitting.{Sits}
-use Rattle.outcome_targets.specs.Limits.{is_valid}
-use Rattle.share_model.specs.Places.{Order}
-use Rattle.signing_laws.specs.Fairly.{Wants}
-use Rattle.signing_laws.specs.Signatures.{IsOwn}
-use Rattle.signing_laws.specs.Wanted.{IsTarget}
-use Rattle.stage_rules.specs.Seats.{Seat, repeats, final_state, pass_on, toward}
-use Rattle.support_chain.specs.Real.{real}
-use Rattle.wish_laws.specs.Carried.{OpensWith}
+use Rattle.funding_plans.specs.Limits.{is_valid}
+use Rattle.share_laws.specs.Places.{Order}
+use Rattle.share_laws.specs.Fairly.{Wants}
+use Rattle.share_laws.specs.Signatures.{IsOwn}
+use Rattle.share_laws.specs.Wanted.{IsTarget}
+use Rattle.funding_plans.specs.Seats.{Seat, repeats, final_state, pass_on, toward}
+use Rattle.support_rules.specs.Real.{real}
+use Rattle.fairness_laws.specs.Carried.{OpensWith}
 
 -- of the channel f a state is asked for that the seat c of the channel x wants
 module _ (s : Signing) (h : List Entry) (journal : List Told) (fair : IsFair s h journal) (past : List Entry) (front : List Told) (at : At s h journal past front)

@@ -1,6 +1,6 @@
 use Rattle.std.proofs.Common.{◌≡◌, ◌<◌, List, [], ◌∷◌, ◌++◌, length, set, get_or, ◌∙◌, ap, arith}
 use Rattle.std.specs.List.{position_or_len}
-use Rattle.channel_calls.specs.declared.view.ChannelView.{ChannelView}
+use Rattle.call_history.specs.declared.view.ChannelView.{ChannelView}
 use Rattle.history_view.specs.Views.{is_of, view_of}
 use Rattle.history_view.proofs.Known.{view_there, view_added, changed_there, changed_added}
 use Rattle.history_view.proofs.channels.place_for.Goals as goal

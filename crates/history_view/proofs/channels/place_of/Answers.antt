@@ -2,7 +2,7 @@ use Rattle.std.proofs.Common.{ℕ, ◌<◌, length, arith, sym, ◌∙◌, ap}
 use Rattle.std.proofs.lemmas.List.{get_or_read}
 use Rattle.std.proofs.lemmas.List.Sums.{position_or_len_is}
 use Rattle.std.specs.Str.{bytes_eq}
-use Rattle.channel_calls.specs.declared.view.ChannelView.{ChannelView}
+use Rattle.call_history.specs.declared.view.ChannelView.{ChannelView}
 use Rattle.history_view.proofs.Known.{no_view}
 use Rattle.history_view.proofs.channels.place_of.Goals as goal
 

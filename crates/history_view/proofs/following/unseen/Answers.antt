@@ -1,5 +1,5 @@
 use Rattle.std.proofs.Common.{◌≡◌, [], subst}
-use Rattle.channel_calls.specs.declared.view.WorldView.{WorldView}
+use Rattle.call_history.specs.declared.view.WorldView.{WorldView}
 use Rattle.history_view.specs.Standing.{StandsFor}
 use Rattle.history_view.specs.Views.{unseen}
 use Rattle.history_view.proofs.Stands.{unseen_stands}

@@ -1,5 +1,5 @@
 use Rattle.std.proofs.Common.{◌≡◌, take}
-use Rattle.channel_calls.specs.Rest.{lower_outcome}
+use Rattle.call_history.specs.Rest.{lower_outcome}
 use Rattle.history_view.proofs.lowering.lowered_assets.Given as goal
 
 abbrev pub invariant-loop-o : goal.invariant-loop-o

@@ -1,7 +1,7 @@
 use Rattle.std.proofs.Common.{List, sym, ◌∙◌, ap, subst}
-use Rattle.nitro_bytes.specs.Outcomes.{IsOutcome}
-use Rattle.nitro_bytes.specs.declared.value.AssetOutcome.{AssetOutcome}
-use Rattle.channel_calls.specs.Rest.{lower_outcome}
+use Rattle.channel_values.specs.Outcomes.{IsOutcome}
+use Rattle.channel_values.specs.declared.value.AssetOutcome.{AssetOutcome}
+use Rattle.call_history.specs.Rest.{lower_outcome}
 use Rattle.history_view.proofs.Lowered.{lowered_is_outcome}
 use Rattle.history_view.proofs.lowering.lowered_outcome.Goals as goal
 

@@ -1,6 +1,6 @@
 -- A hop that was played ends with its report and text.
 use Rattle.std.proofs.Common.{◌∙◌}
-use Rattle.node_way_laws.specs.Ways.{ways}
+use Rattle.node_guarantees.specs.Ways.{ways}
 use Rattle.hop_cli.proofs.Ending.{ends_played}
 use Rattle.hop_cli.proofs.hop.played.Goals as goal
 

@@ -1,6 +1,6 @@
 use Rattle.std.proofs.Common.{◌≡◌, ◌==◌, ◌++◌, map, take, drop}
-use Rattle.funding_value.specs.declared.plan.Goal.{Goal}
-use Rattle.node_model.specs.Minds.{close_if}
+use Rattle.funding_plans.specs.declared.plan.Goal.{Goal}
+use Rattle.channel_node.specs.Minds.{close_if}
 use Rattle.node_knowledge.proofs.closing.close.Given as goal
 
 abbrev pub invariant-loop-goal : goal.invariant-loop-goal

@@ -1,9 +1,9 @@
 use Rattle.std.proofs.Common.{ℕ, ◌<◌, [], length, arith, sym, ◌∙◌}
 use Rattle.std.proofs.lemmas.List.Sums.{position_or_len_is}
-use Rattle.channel_calls.specs.Flows.{is_among}
-use Rattle.funding_value.specs.Parts.{channels_of}
-use Rattle.funding_value.specs.declared.plan.Part.{Part}
-use Rattle.funding_value.specs.declared.plan.Part.TheVariants.{Root}
+use Rattle.call_history.specs.Flows.{is_among}
+use Rattle.funding_plans.specs.Parts.{channels_of}
+use Rattle.funding_plans.specs.declared.plan.Part.{Part}
+use Rattle.funding_plans.specs.declared.plan.Part.TheVariants.{Root}
 use Rattle.node_knowledge.proofs.closing.place_with.Goals as goal
 
 pub returns-then-has_channel : goal.returns-then-has_channel

@@ -1,8 +1,8 @@
 use Rattle.std.proofs.Common.{◌≡◌, ℕ, ◌<◌, ◌≤◌, length, false, []}
 use Rattle.std.specs.Prelude.{slice_index_or}
-use Rattle.channel_calls.specs.Flows.{is_among}
-use Rattle.funding_value.specs.Parts.{channels_of}
-use Rattle.funding_value.specs.declared.plan.Part.TheVariants.{Root}
+use Rattle.call_history.specs.Flows.{is_among}
+use Rattle.funding_plans.specs.Parts.{channels_of}
+use Rattle.funding_plans.specs.declared.plan.Part.TheVariants.{Root}
 use Rattle.node_knowledge.proofs.closing.place_with.Given as goal
 
 abbrev pub invariant-loop-place : goal.invariant-loop-place

@@ -1,6 +1,6 @@
 use Rattle.std.proofs.Common.{◌≡◌, ◌++◌, take}
 use Rattle.std.specs.List.{flat_map}
-use Rattle.node_model.specs.Giving.{of_root}
+use Rattle.channel_node.specs.Giving.{of_root}
 use Rattle.node_knowledge.proofs.giving.put_roots.Given as goal
 
 abbrev pub invariant-loop-part : goal.invariant-loop-part

@@ -1,5 +1,5 @@
 use Rattle.std.proofs.Common.{◌≡◌, ◌++◌, ℕ, List, map, take}
-use Rattle.channel_calls.specs.Spelling.{message}
+use Rattle.call_history.specs.Spelling.{message}
 use Rattle.node_knowledge.proofs.giving.put_sends.Given as goal
 
 abbrev pub invariant-loop-person : goal.invariant-loop-person

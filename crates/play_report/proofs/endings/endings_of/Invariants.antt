@@ -1,5 +1,5 @@
 use Rattle.std.proofs.Common.{◌≡◌, map, take}
-use Rattle.net_world.specs.Members.{MemberOf}
+use Rattle.network.specs.Members.{MemberOf}
 use Rattle.play_report.specs.Shares.{known_ending}
 use Rattle.play_report.proofs.endings.endings_of.Given as goal
 

@@ -1,6 +1,6 @@
 use Rattle.std.proofs.Common.{take}
 use Rattle.play_report.specs.Reported.{IsJudged}
-use Rattle.reported_node.specs.Promised.{Pairwise}
+use Rattle.node_guarantees.specs.Promised.{Pairwise}
 use Rattle.play_report.proofs.judging.judge_all.Given as goal
 
 abbrev pub invariant-loop-journal : goal.invariant-loop-journal

@@ -1,8 +1,8 @@
 use Rattle.std.proofs.Common.{rules, List, ◌∙◌, ap, sym, subst, length, map, flat_map}
-use Rattle.channel_calls.specs.History.{flows_of, newest_first}
-use Rattle.channel_calls.specs.declared.entry.Entry.{Entry}
-use Rattle.flow_balances.specs.Receipts.{assets_of}
-use Rattle.record_rules.specs.Sums.{sums_of}
+use Rattle.call_history.specs.History.{flows_of, newest_first}
+use Rattle.call_history.specs.declared.entry.Entry.{Entry}
+use Rattle.asset_holder.specs.Receipts.{assets_of}
+use Rattle.run_record.specs.Sums.{sums_of}
 use Rattle.play_report.proofs.Made.{made_so}
 use Rattle.play_report.specs.Members.{AllFollowed}
 use Rattle.play_report.specs.Shares.{known_shares, known_exits, known_ending}

@@ -1,7 +1,7 @@
 use Rattle.std.proofs.Common.{◌≡◌, List, subst}
 use Rattle.std.specs.Prelude.{IfOk}
-use Rattle.channel_calls.specs.declared.funds.Flow.{Flow}
-use Rattle.record_rules.specs.Sums.{sums_of}
+use Rattle.call_history.specs.declared.funds.Flow.{Flow}
+use Rattle.run_record.specs.Sums.{sums_of}
 use Rattle.play_report.proofs.making.sums_in.Goals as goal
 
 pub returns : goal.returns

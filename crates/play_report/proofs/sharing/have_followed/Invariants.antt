@@ -1,6 +1,6 @@
 use Rattle.std.proofs.Common.{take}
 use Rattle.std.specs.List.{AllByRecursion}
-use Rattle.net_world.specs.Members.{MemberOf}
+use Rattle.network.specs.Members.{MemberOf}
 use Rattle.play_report.specs.Shares.{HasFollowed}
 use Rattle.play_report.proofs.sharing.have_followed.Given as goal
 

@@ -1,6 +1,6 @@
 use Rattle.std.proofs.Common.{◌≡◌, take}
 use Rattle.std.specs.Prelude.{flat_map}
-use Rattle.net_world.specs.Members.{MemberOf}
+use Rattle.network.specs.Members.{MemberOf}
 use Rattle.play_report.specs.Shares.{known_shares}
 use Rattle.play_report.proofs.sharing.shares_of.Given as goal
 

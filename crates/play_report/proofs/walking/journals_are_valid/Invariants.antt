@@ -1,6 +1,6 @@
 use Rattle.std.proofs.Common.{take}
 use Rattle.std.specs.List.{AllByRecursion}
-use Rattle.net_model.specs.Valid.{IsValidEvent}
+use Rattle.channel_safety.specs.Valid.{IsValidEvent}
 use Rattle.premises.specs.declared.journal.Journal.{Journal}
 use Rattle.play_report.proofs.walking.journals_are_valid.Given as goal
 

@@ -1,10 +1,10 @@
 use Rattle.std.proofs.Common.{ℕ, IfOk, IsTrue, ◌↔◌, List, reverse, subst}
-use Rattle.nitro_bytes.specs.Parts.{FixedParts}
-use Rattle.channel_calls.specs.History.{newest_first}
-use Rattle.channel_calls.specs.declared.event.Event.{Event}
-use Rattle.net_model.specs.Journals.{lines}
-use Rattle.net_model.specs.Premises.{InTime}
-use Rattle.support_chain.specs.Real.{real}
+use Rattle.channel_values.specs.Parts.{FixedParts}
+use Rattle.call_history.specs.History.{newest_first}
+use Rattle.call_history.specs.declared.event.Event.{Event}
+use Rattle.channel_safety.specs.Journals.{lines}
+use Rattle.channel_safety.specs.Premises.{InTime}
+use Rattle.support_rules.specs.Real.{real}
 use Rattle.premises.proofs.answers.is_in_time.Goals as goal
 
 pub returns : goal.returns

@@ -1,4 +1,4 @@
-use Rattle.support_chain.specs.Real.{real}
+use Rattle.support_rules.specs.Real.{real}
 use Rattle.premises.proofs.Orders.{timing-answered}
 use Rattle.premises.proofs.answers.looks_in_time.Goals as goal
 

@@ -1,5 +1,5 @@
 use Rattle.std.proofs.Common.{◌≡◌, Bool, ◌&&◌, List, map, sym, ◌∙◌, ap}
-use Rattle.support_chain.specs.Real.{real}
+use Rattle.support_rules.specs.Real.{real}
 use Rattle.premises.specs.Strings.{own_of, entries_pass, messages_pass}
 use Rattle.premises.specs.declared.forgery.Own.{Own}
 use Rattle.premises.proofs.Orders.{unforged-answered}

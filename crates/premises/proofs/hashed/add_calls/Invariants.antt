@@ -1,5 +1,5 @@
 use Rattle.std.proofs.Common.{◌≡◌, ◌++◌, take, flat_map}
-use Rattle.net_model.specs.Hashed.{of_call}
+use Rattle.channel_safety.specs.Hashed.{of_call}
 use Rattle.premises.proofs.hashed.add_calls.Given as goal
 
 abbrev pub invariant-loop-call : goal.invariant-loop-call

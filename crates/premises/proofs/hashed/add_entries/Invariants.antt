@@ -1,5 +1,5 @@
 use Rattle.std.proofs.Common.{◌≡◌, ◌++◌, take, flat_map}
-use Rattle.net_model.specs.Hashed.{of_entry}
+use Rattle.channel_safety.specs.Hashed.{of_entry}
 use Rattle.premises.proofs.hashed.add_entries.Given as goal
 
 abbrev pub invariant-loop-entry : goal.invariant-loop-entry

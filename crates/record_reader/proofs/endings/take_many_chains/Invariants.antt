@@ -1,6 +1,6 @@
 use Rattle.std.proofs.Common.{◌≡◌, ◌-◌, []}
-use Rattle.nitro_bytes.specs.Reading.{many_at}
-use Rattle.record_bytes.specs.Reading.{next_at, held_chain_at}
+use Rattle.channel_values.specs.Reading.{many_at}
+use Rattle.run_record.specs.Reading.{next_at, held_chain_at}
 use Rattle.record_reader.proofs.endings.take_many_chains.Given as goal
 
 abbrev pub invariant-chains : goal.invariant-chains

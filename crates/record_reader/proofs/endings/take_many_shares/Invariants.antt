@@ -1,6 +1,6 @@
 use Rattle.std.proofs.Common.{◌≡◌, ◌-◌, []}
-use Rattle.nitro_bytes.specs.Reading.{many_at}
-use Rattle.record_bytes.specs.Reading.{next_at, share_at}
+use Rattle.channel_values.specs.Reading.{many_at}
+use Rattle.run_record.specs.Reading.{next_at, share_at}
 use Rattle.record_reader.proofs.endings.take_many_shares.Given as goal
 
 abbrev pub invariant-shares : goal.invariant-shares

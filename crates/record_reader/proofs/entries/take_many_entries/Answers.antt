@@ -1,8 +1,8 @@
 use Rattle.std.proofs.Common.{[], refl}
 use Rattle.std.proofs.lemmas.Result.{err_from_is_err_and}
-use Rattle.nitro_bytes.specs.Reading.{many_at}
-use Rattle.nitro_bytes.proofs.Loop.{goes_on, ends, is_done}
-use Rattle.record_bytes.specs.Reading.{next_at, entry_at}
+use Rattle.channel_values.specs.Reading.{many_at}
+use Rattle.channel_values.proofs.Loop.{goes_on, ends, is_done}
+use Rattle.run_record.specs.Reading.{next_at, entry_at}
 use Rattle.record_reader.proofs.entries.take_many_entries.Goals as goal
 
 pub returns-in_err-entry : goal.returns-in_err-entry

@@ -1,6 +1,6 @@
 use Rattle.std.proofs.Common.{arith}
-use Rattle.nitro_bytes.proofs.Format.{is_found, is_only}
-use Rattle.record_bytes.proofs.Whole.{record_format, is_kept}
+use Rattle.channel_values.proofs.Format.{is_found, is_only}
+use Rattle.run_record.proofs.Whole.{record_format, is_kept}
 use Rattle.record_reader.proofs.reading.read_record.Goals as goal
 
 pub returns-clause-found : goal.returns-clause-found

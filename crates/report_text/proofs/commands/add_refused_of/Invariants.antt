@@ -1,7 +1,7 @@
 use Rattle.std.proofs.Common.{◌≡◌, ◌++◌, take}
 use Rattle.std.specs.Prelude.{flat_map}
-use Rattle.channel_calls.specs.declared.event.Event.{Event}
-use Rattle.channel_name.specs.Digests.{name_of_person}
+use Rattle.call_history.specs.declared.event.Event.{Event}
+use Rattle.channel_values.specs.Digests.{name_of_person}
 use Rattle.report_text.specs.People.{refused_in}
 use Rattle.report_text.proofs.commands.add_refused_of.Given as goal
 

@@ -1,5 +1,5 @@
 use Rattle.std.proofs.Common.{◌≡◌, take}
-use Rattle.channel_calls.specs.History.{flows_of}
+use Rattle.call_history.specs.History.{flows_of}
 use Rattle.report_text.proofs.flows.flows_of.Given as goal
 
 abbrev pub invariant-loop-entry : goal.invariant-loop-entry

@@ -1,6 +1,6 @@
 use Rattle.std.proofs.Common.{◌≡◌, ◌++◌, string_bytes}
 use Rattle.std.specs.Prelude.{flat_map}
-use Rattle.flow_balances.specs.Receipts.{assets_of}
+use Rattle.asset_holder.specs.Receipts.{assets_of}
 use Rattle.report_text.specs.Text.{asset_line}
 use Rattle.report_text.proofs.text.append_assets.Given as goal
 

@@ -1,5 +1,5 @@
 use Rattle.std.proofs.Common.{◌≡◌, take}
-use Rattle.channel_calls.specs.History.{now_of, newest_first}
+use Rattle.call_history.specs.History.{now_of, newest_first}
 use Rattle.report_text.proofs.text.now_of.Given as goal
 
 abbrev pub invariant-loop-entry : goal.invariant-loop-entry

@@ -2,13 +2,13 @@ use Rattle.std.proofs.Common.{◌≡◌, ℕ, ◌+◌, ◌<◌, List, length, ge
 use Rattle.std.specs.List.{cons_option}
 use Rattle.std.specs.Prelude.{Option}
 use Rattle.std.proofs.lemmas.List.Sums.{sum_by-drop_more}
-use Rattle.sign_index.specs.Signing.{Signing}
-use Rattle.script_rules.specs.Bounds.{persons, signers_of}
+use Rattle.lms_signatures.specs.Signing.{Signing}
+use Rattle.script_steps.specs.Bounds.{persons, signers_of}
 use Rattle.script_play.specs.Growth.{weight}
-use Rattle.script_rules.specs.Conditions.{signer_of}
+use Rattle.script_steps.specs.Conditions.{signer_of}
 use Rattle.script_play.proofs.Weights.{has_room}
 use Rattle.script_play.specs.Play.{SceneOf, numbered, played}
-use Rattle.script_rules.specs.declared.step.Step.{Step}
+use Rattle.script_steps.specs.declared.step.Step.{Step}
 use Rattle.script_play.proofs.Steps.{goes_on, signers_go_on}
 use Rattle.script_play.proofs.replay.play.Goals as goal
 

@@ -1,5 +1,5 @@
 use Rattle.std.proofs.Common.{◌≡◌, ◌≤◌, ◌<◌, ◌+◌, ◌^◌, length, drop, fold}
-use Rattle.script_rules.specs.Bounds.{persons_of, signers_of}
+use Rattle.script_steps.specs.Bounds.{persons_of, signers_of}
 use Rattle.script_play.specs.Growth.{weight_of}
 use Rattle.script_play.specs.Play.{numbered, played, play_steps}
 use Rattle.script_play.proofs.replay.play.Given as goal

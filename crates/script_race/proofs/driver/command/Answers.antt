@@ -1,5 +1,5 @@
-use Rattle.net_world.proofs.Places.{nobody_changes, nobody_gives, gives_there}
-use Rattle.net_world.specs.Members.{told, accepted}
+use Rattle.network.proofs.Places.{nobody_changes, nobody_gives, gives_there}
+use Rattle.network.specs.Members.{told, accepted}
 use Rattle.script_race.specs.Driving.{world_of}
 use Rattle.script_race.proofs.Nodes.{changes_at}
 use Rattle.script_race.proofs.driver.command.Goals as goal

@@ -1,5 +1,5 @@
 use Rattle.std.proofs.Common.{subst}
-use Rattle.channel_calls.specs.declared.call.Op.{Op}
+use Rattle.call_history.specs.declared.call.Op.{Op}
 use Rattle.script_race.proofs.Driving.{enters_op}
 use Rattle.script_race.specs.Driving.{EntersOp}
 use Rattle.script_race.proofs.driver.enter.Goals as goal

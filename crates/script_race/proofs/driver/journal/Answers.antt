@@ -1,6 +1,6 @@
 use Rattle.std.proofs.Common.{[], refl, ◌∙◌, ap}
-use Rattle.net_world.proofs.Places.{nobody_tells, tells_there}
-use Rattle.net_world.specs.Members.{MemberOf}
+use Rattle.network.proofs.Places.{nobody_tells, tells_there}
+use Rattle.network.specs.Members.{MemberOf}
 use Rattle.script_race.specs.Driving.{world_of}
 use Rattle.script_race.proofs.driver.journal.Goals as goal
 

@@ -1,10 +1,10 @@
 use Rattle.std.proofs.Common.{List, sym, ◌∙◌, ap}
 use Rattle.std.proofs.lemmas.List.{reverse-reverse}
-use Rattle.channel_calls.specs.declared.entry.Entry.{Entry}
-use Rattle.channel_calls.specs.History.{newest_first}
-use Rattle.net_world.proofs.Places.{nobody_changes}
-use Rattle.net_world.specs.Entered.{oldest_first}
-use Rattle.net_world.specs.Members.{sees}
+use Rattle.call_history.specs.declared.entry.Entry.{Entry}
+use Rattle.call_history.specs.History.{newest_first}
+use Rattle.network.proofs.Places.{nobody_changes}
+use Rattle.network.specs.Entered.{oldest_first}
+use Rattle.network.specs.Members.{sees}
 use Rattle.script_race.specs.Driving.{world_of}
 use Rattle.script_race.proofs.Nodes.{in_at, changes_at}
 use Rattle.script_race.proofs.driver.see.Goals as goal

@@ -1,12 +1,12 @@
 use Rattle.std.proofs.Common.{◌≤◌, List, length, refl, sym, ◌∙◌, ap, subst, take, fold}
 use Rattle.std.proofs.lemmas.List.Sums.{fold_more}
-use Rattle.channel_calls.specs.declared.entry.Entry.{Entry}
-use Rattle.net_model.specs.Journals.{In}
-use Rattle.net_world.specs.Worlds.{WorldOf, happened}
-use Rattle.net_world.specs.declared.happening.Happening.TheVariants as happenings
-use Rattle.script_people.specs.declared.people.Person.{Person}
+use Rattle.call_history.specs.declared.entry.Entry.{Entry}
+use Rattle.channel_safety.specs.Journals.{In}
+use Rattle.network.specs.Worlds.{WorldOf, happened}
+use Rattle.network.specs.declared.happening.Happening.TheVariants as happenings
+use Rattle.step_meanings.specs.declared.people.Person.{Person}
 use Rattle.script_race.specs.Driving.{world_of}
-use Rattle.world_rounds.specs.Rounds.{seen_by}
+use Rattle.script_play.specs.Rounds.{seen_by}
 use Rattle.script_race.proofs.driver.see_all.Goals as goal
 
 pub loop-person-init : goal.loop-person-init

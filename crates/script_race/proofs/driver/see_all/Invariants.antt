@@ -1,6 +1,6 @@
 use Rattle.std.proofs.Common.{◌≡◌, take, fold}
 use Rattle.script_race.specs.Driving.{world_of, HasLookedOn}
-use Rattle.world_rounds.specs.Rounds.{seen_by}
+use Rattle.script_play.specs.Rounds.{seen_by}
 use Rattle.script_race.proofs.driver.see_all.Given as goal
 
 abbrev pub invariant-loop-person : goal.invariant-loop-person

@@ -1,5 +1,5 @@
 use Rattle.std.proofs.Common.{◌≤◌, length, sym, subst}
-use Rattle.net_world.specs.Members.{MemberOf}
+use Rattle.network.specs.Members.{MemberOf}
 use Rattle.script_race.proofs.Nodes.{room_after, shows}
 use Rattle.script_race.proofs.driver.show.Goals as goal
 

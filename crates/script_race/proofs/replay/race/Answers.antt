@@ -2,19 +2,19 @@ use Rattle.std.proofs.Common.{◌≡◌, ℕ, ◌+◌, ◌<◌, true, List, leng
 use Rattle.std.specs.List.{cons_option}
 use Rattle.std.specs.Prelude.{Option}
 use Rattle.std.proofs.lemmas.List.Sums.{sum_by-drop_more}
-use Rattle.net_actors.specs.Views.{player_of}
-use Rattle.race_plays.proofs.Staying.{ends_stay}
-use Rattle.race_plays.specs.Races.{RaceOf, stage_of, DoesAs, Races}
-use Rattle.round_laws.specs.Races.{IsRacing}
-use Rattle.script_names.specs.Meanings.{meaning}
+use Rattle.network_rounds.specs.Views.{player_of}
+use Rattle.script_race.proofs.Staying.{ends_stay}
+use Rattle.script_race.specs.Races.{RaceOf, stage_of, DoesAs, Races}
+use Rattle.network_rounds.specs.Races.{IsRacing}
+use Rattle.step_meanings.specs.Meanings.{meaning}
 use Rattle.script_play.proofs.Steps.{signers_go_on}
 use Rattle.script_play.specs.Play.{numbered}
 use Rattle.script_race.proofs.Lasting.{no_notes, starts_racing, plays_on, races_on, races_end}
 use Rattle.script_race.specs.Driving.{race_of}
-use Rattle.script_rules.specs.Bounds.{Fits, persons, signers_of}
-use Rattle.script_rules.specs.Conditions.{signer_of, runs_in_race}
-use Rattle.script_rules.specs.declared.step.Step.{Step}
-use Rattle.sign_index.specs.Signing.{Signing}
+use Rattle.script_steps.specs.Bounds.{Fits, persons, signers_of}
+use Rattle.script_steps.specs.Conditions.{signer_of, runs_in_race}
+use Rattle.script_steps.specs.declared.step.Step.{Step}
+use Rattle.lms_signatures.specs.Signing.{Signing}
 use Rattle.script_race.proofs.replay.race.Goals as goal
 
 -- the signer that is taken is the step's, and the later ones stay

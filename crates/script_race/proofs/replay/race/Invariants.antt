@@ -1,8 +1,8 @@
 use Rattle.std.proofs.Common.{◌≡◌, ◌≤◌, ◌+◌, length, drop}
-use Rattle.race_plays.specs.Races.{RaceOf, Races}
+use Rattle.script_race.specs.Races.{RaceOf, Races}
 use Rattle.script_play.specs.Play.{numbered}
 use Rattle.script_race.specs.Driving.{race_of, IsSeated, Racing}
-use Rattle.script_rules.specs.Bounds.{persons_of, signers_of}
+use Rattle.script_steps.specs.Bounds.{persons_of, signers_of}
 use Rattle.script_race.proofs.replay.race.Given as goal
 
 abbrev pub invariant-loop-step : goal.invariant-loop-step

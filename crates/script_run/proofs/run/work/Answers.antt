@@ -1,10 +1,10 @@
 -- What words ask for has 1 to 1,000 payments, and a load reads nothing.
 use Rattle.std.proofs.Common.{◌≡◌, Some, refl, rules}
-use Rattle.byte_source.proofs.Known.{keeps_all}
+use Rattle.byte_streams.proofs.Known.{keeps_all}
 use Rattle.script_run.proofs.Counts.{some_payments, few_payments}
 use Rattle.script_run.specs.Run.{given}
-use Rattle.word_reader.specs.Words.{asked}
-use Rattle.word_reader.specs.declared.asking.Asked.TheVariants.{Load}
+use Rattle.command_words.specs.Words.{asked}
+use Rattle.command_words.specs.declared.asking.Asked.TheVariants.{Load}
 use Rattle.script_run.proofs.run.work.Goals as goal
 
 pub run_load-requires-clause-some : goal.run_load-requires-clause-some

@@ -1,7 +1,7 @@
 use Rattle.std.proofs.Common.{◌≡◌, take}
 use Rattle.std.specs.Prelude.{fold}
-use Rattle.support_chain.specs.Real.{real}
-use Rattle.tower_replay.specs.Replay.{enrolling}
+use Rattle.support_rules.specs.Real.{real}
+use Rattle.watchtower.specs.Replay.{enrolling}
 use Rattle.tower_cli.proofs.replaying.enroll_all.Given as goal
 
 abbrev pub invariant-loop-end : goal.invariant-loop-end

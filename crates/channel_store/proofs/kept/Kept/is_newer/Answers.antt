@@ -1,7 +1,7 @@
 -- Where no chain is held with that turn, support alone decides.
 use Rattle.std.proofs.Common.{sym, ◌∙◌}
-use Rattle.channel_calls.specs.Marked.{marked_of}
-use Rattle.support_chain.specs.Real.{real}
+use Rattle.call_history.specs.Marked.{marked_of}
+use Rattle.support_rules.specs.Real.{real}
 use Rattle.channel_store.proofs.Good.{newer}
 use Rattle.channel_store.proofs.kept.Kept.is_newer.Goals as goal
 

@@ -1,10 +1,10 @@
 -- The state is added to the chain that is kept, and is the last one signed where the participant signed it.
 use Rattle.std.proofs.Common.{◌∙◌, ap}
 use Rattle.std.specs.Prelude.{Option}
-use Rattle.nitro_bytes.specs.Parts.{StateParts}
-use Rattle.nitro_bytes.specs.declared.chain.Chain.{Chain}
-use Rattle.channel_calls.specs.Marked.{marked_of, chain_of, answered}
-use Rattle.support_chain.specs.Real.{real}
+use Rattle.channel_values.specs.Parts.{StateParts}
+use Rattle.channel_values.specs.declared.chain.Chain.{Chain}
+use Rattle.call_history.specs.Marked.{marked_of, chain_of, answered}
+use Rattle.support_rules.specs.Real.{real}
 use Rattle.channel_store.specs.declared.kept.Kept.{Kept}
 use Rattle.channel_store.proofs.Held.{noted_is}
 use Rattle.channel_store.proofs.kept.Kept.noted.Goals as goal

@@ -1,5 +1,5 @@
 use Rattle.std.proofs.Common.{rules, ◌≡◌, ◌++◌, ◌∷◌, [], sym, subst}
-use Rattle.support_chain.specs.Real.{real}
+use Rattle.support_rules.specs.Real.{real}
 use Rattle.channel_store.specs.Good.{IsLent, AreGood}
 use Rattle.channel_store.specs.Storing.{added}
 use Rattle.channel_store.proofs.Good.{added_well}

@@ -1,6 +1,6 @@
 use Rattle.std.proofs.Common.{rules, ◌≡◌, Some, true}
-use Rattle.channel_calls.specs.Marked.{marked_of}
-use Rattle.support_chain.specs.Real.{real}
+use Rattle.call_history.specs.Marked.{marked_of}
+use Rattle.support_rules.specs.Real.{real}
 use Rattle.channel_store.specs.Keeping.{with_chain}
 use Rattle.channel_store.specs.Storing.{place_of, kept_of}
 use Rattle.channel_store.specs.Noting.{is_adopted}

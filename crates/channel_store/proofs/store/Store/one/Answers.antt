@@ -1,5 +1,5 @@
 use Rattle.std.proofs.Common.{rules, ◌≡◌, Some}
-use Rattle.support_chain.specs.Real.{real}
+use Rattle.support_rules.specs.Real.{real}
 use Rattle.channel_store.specs.Storing.{kept_of}
 use Rattle.channel_store.proofs.Good.{kept_few}
 use Rattle.channel_store.proofs.store.Store.one.Goals as goal

@@ -1,6 +1,6 @@
 use Rattle.std.proofs.Common.{◌≡◌, List, true, false, ap}
-use Rattle.channel_calls.specs.History.{newest_first}
-use Rattle.channel_calls.specs.declared.entry.Entry.{Entry}
+use Rattle.call_history.specs.History.{newest_first}
+use Rattle.call_history.specs.declared.entry.Entry.{Entry}
 use Rattle.script_race.proofs.racing.Race.into_parts.Goals as goal
 
 never : false ≡ true → ⊥

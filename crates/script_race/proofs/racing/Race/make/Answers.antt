@@ -1,8 +1,8 @@
 use Rattle.std.proofs.Common.{false, map, sym, ◌∙◌, ap, subst}
-use Rattle.adjudicator_book.specs.Caller.{Caller, IsCaller}
-use Rattle.channel_calls.specs.History.{newest_first, now_of}
-use Rattle.channel_calls.specs.declared.entry.Entry.{Entry}
-use Rattle.net_actors.specs.Views.{player_of}
+use Rattle.shared_object.specs.Caller.{Caller, IsCaller}
+use Rattle.call_history.specs.History.{newest_first, now_of}
+use Rattle.call_history.specs.declared.entry.Entry.{Entry}
+use Rattle.network_rounds.specs.Views.{player_of}
 use Rattle.script_race.proofs.Driving.{opens}
 use Rattle.script_race.proofs.racing.Race.make.Goals as goal
 

@@ -1,5 +1,5 @@
 use Rattle.std.proofs.Common.{◌≡◌, ℕ, refl, subst, arith}
-use Rattle.race_plays.specs.Races.{RunsRounds}
+use Rattle.script_race.specs.Races.{RunsRounds}
 use Rattle.script_race.proofs.Scenes.{raced_on, one_round_more}
 use Rattle.script_race.specs.Driving.{race_of}
 use Rattle.script_race.proofs.racing.Race.play_rounds.Goals as goal

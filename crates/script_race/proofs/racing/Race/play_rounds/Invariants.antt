@@ -1,4 +1,4 @@
-use Rattle.race_plays.specs.Races.{RunsRounds}
+use Rattle.script_race.specs.Races.{RunsRounds}
 use Rattle.script_race.specs.Driving.{race_of, IsSeated}
 use Rattle.script_race.proofs.racing.Race.play_rounds.Given as goal
 

@@ -1,6 +1,6 @@
 use Rattle.std.proofs.Common.{◌≡◌, length, sym, ap, subst, arith}
-use Rattle.race_plays.specs.Races.{FitsRace, DoesAs}
-use Rattle.script_names.specs.Meanings.{Meaning, meaning}
+use Rattle.script_race.specs.Races.{FitsRace, DoesAs}
+use Rattle.step_meanings.specs.Meanings.{Meaning, meaning}
 use Rattle.script_play.proofs.Meant.{meaning_grows}
 use Rattle.script_race.proofs.Fitting.{meaning_fits, does_people}
 use Rattle.script_race.specs.Driving.{race_of}

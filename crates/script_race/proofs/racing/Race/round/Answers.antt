@@ -1,5 +1,5 @@
 use Rattle.std.proofs.Common.{refl, sym, ◌∙◌, arith}
-use Rattle.round_laws.proofs.Whole.{runs_are_rounds}
+use Rattle.network_rounds.proofs.Whole.{runs_are_rounds}
 use Rattle.script_race.proofs.Lasting.{early_by_now, all_followed}
 use Rattle.script_race.proofs.Timing.{count_before, time_stays, time_next, round_runs}
 use Rattle.script_race.specs.Driving.{race_of}

@@ -1,11 +1,11 @@
 use Rattle.std.proofs.Common.{List, take, fold, refl, sym, ◌∙◌, ap}
-use Rattle.channel_calls.specs.History.{newest_first, now_of}
-use Rattle.channel_calls.specs.declared.entry.Entry.{Entry}
-use Rattle.net_world.specs.Worlds.{WorldOf}
-use Rattle.script_people.specs.declared.people.Person.{Person}
+use Rattle.call_history.specs.History.{newest_first, now_of}
+use Rattle.call_history.specs.declared.entry.Entry.{Entry}
+use Rattle.network.specs.Worlds.{WorldOf}
+use Rattle.step_meanings.specs.declared.people.Person.{Person}
 use Rattle.script_race.proofs.Scenes.{seen_on}
 use Rattle.script_race.specs.Driving.{race_of, world_of}
-use Rattle.world_rounds.specs.Rounds.{seen_by}
+use Rattle.script_play.specs.Rounds.{seen_by}
 use Rattle.script_race.proofs.racing.Race.see_all.Goals as goal
 
 pub see_all-requires-clause-followed : goal.see_all-requires-clause-followed

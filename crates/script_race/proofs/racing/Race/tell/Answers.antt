@@ -1,7 +1,7 @@
 use Rattle.std.proofs.Common.{List, ◌++◌, sym, ◌∙◌, ap}
-use Rattle.channel_calls.specs.History.{newest_first, now_of}
-use Rattle.channel_calls.specs.declared.entry.Entry.{Entry}
-use Rattle.round_model.specs.Members.{Letter}
+use Rattle.call_history.specs.History.{newest_first, now_of}
+use Rattle.call_history.specs.declared.entry.Entry.{Entry}
+use Rattle.network_rounds.specs.Members.{Letter}
 use Rattle.script_play.specs.Play.{SceneOf}
 use Rattle.script_race.proofs.Scenes.{tells_one}
 use Rattle.script_race.specs.Driving.{race_of}

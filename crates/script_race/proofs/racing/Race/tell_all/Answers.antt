@@ -1,6 +1,6 @@
 use Rattle.std.proofs.Common.{take, get_or, refl, sym, ◌∙◌, ap}
 use Rattle.std.proofs.lemmas.List.Sums.{fold_more}
-use Rattle.race_plays.specs.Races.{RaceOf}
+use Rattle.script_race.specs.Races.{RaceOf}
 use Rattle.script_play.specs.Play.{SceneOf, told}
 use Rattle.script_race.proofs.Scenes.{told_on, seen_by_all}
 use Rattle.script_race.specs.Driving.{race_of}

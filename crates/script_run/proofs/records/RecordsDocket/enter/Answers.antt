@@ -1,9 +1,9 @@
 use Rattle.std.proofs.Common.{◌≡◌, ◌+◌, [], ◌∷◌, ◌++◌, suc, length, sym, ◌∙◌, ap, subst, arith}
 use Rattle.std.proofs.lemmas.List.{length-reverse, reverse-append}
-use Rattle.channel_calls.specs.History.{Legal, newest_first}
-use Rattle.channel_calls.specs.declared.entry.Entry.{Entry}
-use Rattle.support_chain.specs.Real.{real}
-use Rattle.adjudicator_core.specs.Standing.{StandsFor}
+use Rattle.call_history.specs.History.{Legal, newest_first}
+use Rattle.call_history.specs.declared.entry.Entry.{Entry}
+use Rattle.support_rules.specs.Real.{real}
+use Rattle.adjudicator.specs.Standing.{StandsFor}
 use Rattle.script_run.proofs.records.RecordsDocket.enter.Goals as goal
 
 pub invariant_of-self-2 : goal.invariant_of-self-2

@@ -1,11 +1,11 @@
 -- The tower whose text is told has the people of the endings, and follows the record's history.
 use Rattle.std.proofs.Common.{◌≡◌, ◌∙◌, ap, List, subst}
 use Rattle.std.specs.Prelude.{fold, IfOk}
-use Rattle.channel_calls.specs.declared.entry.Entry.{Entry}
-use Rattle.support_chain.specs.Real.{real}
-use Rattle.tower_replay.specs.Replay.{enrolling, replay_text}
-use Rattle.tower_service.specs.Towers.{Towering}
-use Rattle.tower_service.specs.declared.client.Client.{Client}
+use Rattle.call_history.specs.declared.entry.Entry.{Entry}
+use Rattle.support_rules.specs.Real.{real}
+use Rattle.watchtower.specs.Replay.{enrolling, replay_text}
+use Rattle.watchtower.specs.Towers.{Towering}
+use Rattle.watchtower.specs.declared.client.Client.{Client}
 use Rattle.tower_cli.specs.Replaying.{enrolled}
 use Rattle.tower_cli.proofs.replaying.ReplayAnswering.answer.Goals as goal
 

@@ -1,5 +1,0 @@
-use Rattle.adjudicator_book.specs.Turn.{Waits}
-use Rattle.adjudicator_book.proofs.turn.wait.Given as goal
-
-abbrev pub invariant-loop : goal.invariant-loop
-invariant-loop g l = Waits l.words.table_id l.ticket l.fn.token.me.0 l.token

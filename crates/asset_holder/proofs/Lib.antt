@@ -1,0 +1,10 @@
+pub mod Totals
+pub mod Changes
+pub mod Keys
+pub mod Moving
+pub mod Pairs
+pub mod Fronts
+pub mod Adding
+pub mod LessPaid
+pub mod Paying
+pub mod Shapes

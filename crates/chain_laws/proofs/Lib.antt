@@ -1,5 +1,0 @@
-pub mod Tests
-pub mod Lists
-pub mod Chains
-pub mod Answering
-pub mod Growing

@@ -1,8 +1,0 @@
-use Rattle.challenge_laws.proofs.Owning.{nodes_own, own_calls}
-use Rattle.challenge_laws.proofs.nodes_call_own_challenges.Goals as goal
-
-pub returns-clause-keeps : goal.returns-clause-keeps
-returns-clause-keeps c = nodes_own
-
-pub returns-clause-calls : goal.returns-clause-calls
-returns-clause-calls c = own_calls

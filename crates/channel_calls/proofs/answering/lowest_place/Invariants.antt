@@ -1,6 +1,0 @@
-use Rattle.std.proofs.Common.{◌≡◌, take}
-use Rattle.channel_calls.specs.Marked.{lowest}
-use Rattle.channel_calls.proofs.answering.lowest_place.Given as goal
-
-abbrev pub invariant-loop-mark : goal.invariant-loop-mark
-invariant-loop-mark l = l.least ≡ lowest l.place (take l.mark-index l.marks)

@@ -1,6 +1,0 @@
-use Rattle.std.proofs.Common.{arith}
-use Rattle.channel_calls.proofs.Conservation.{held_is_left}
-use Rattle.channel_calls.proofs.balances.held_by_all.Goals as goal
-
-pub overflow_sub-result : goal.overflow_sub-result
-overflow_sub-result c = omega (arith, held_is_left c.args.flows.now c.args.asset c.requires)

@@ -1,9 +1,0 @@
-use Rattle.std.proofs.Common.{◌≡◌, ◌≤◌, ◌*◌, take}
-use Rattle.channel_calls.specs.Flows.{out_of}
-use Rattle.channel_calls.proofs.balances.sent.Given as goal
-
-abbrev pub invariant-loop-flow : goal.invariant-loop-flow
-invariant-loop-flow l = record {
-  sum : l.sum ≡ out_of (take l.flow-index l.flows) l.channel l.asset;
-  fits : l.sum ≤ 18446744073709551615 * l.flow-index;
-}

@@ -1,5 +1,0 @@
-use Rattle.std.proofs.Common.{length}
-use Rattle.channel_calls.proofs.items.+shape_among.Given as goal
-
-abbrev pub decreases-shape_among : goal.decreases-shape_among
-decreases-shape_among l = length l.assets.now

@@ -1,5 +1,0 @@
-use Rattle.channel_model.proofs.Exact.{support_is_exact}
-use Rattle.channel_model.proofs.laws.support_is_exact.Goals as goal
-
-pub returns : goal.returns
-returns c = support_is_exact

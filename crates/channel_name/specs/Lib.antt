@@ -1,4 +1,0 @@
-pub mod Digests
-pub mod Messages
-pub mod Collisions
-pub mod Laws

@@ -1,0 +1,22 @@
+pub mod Found
+pub mod Texts
+pub mod Loop
+pub mod Fields
+pub mod Apart
+pub mod Takes
+pub mod Again
+pub mod States
+pub mod Fixeds
+pub mod Chains
+pub mod Format
+pub mod Formats
+pub mod Fronts
+pub mod Telling
+mod NameExamples
+pub mod Lines
+pub mod Turns
+pub mod Rows
+pub mod Exact
+pub mod Challenges
+pub mod Examples
+pub mod Before

@@ -1,3 +1,0 @@
-pub mod LessPaid
-pub mod Paying
-pub mod Shapes

@@ -1,5 +1,0 @@
-use Rattle.fairness_laws.proofs.Children.{children_want_fairly}
-use Rattle.fairness_laws.proofs.children_want_fairly.Goals as goal
-
-pub returns : goal.returns
-returns c = children_want_fairly

@@ -1,5 +1,0 @@
-use Rattle.fairness_laws.proofs.Ledger.Whole.{closings_keep}
-use Rattle.fairness_laws.proofs.closings_keep.Goals as goal
-
-pub returns : goal.returns
-returns c = closings_keep

@@ -1,5 +1,0 @@
-use Rattle.fairness_laws.proofs.Ledger.Moving.{down_is_outcome}
-use Rattle.fairness_laws.proofs.down_is_outcome.Goals as goal
-
-pub returns : goal.returns
-returns c = down_is_outcome

@@ -1,5 +1,0 @@
-use Rattle.fairness_laws.proofs.Ledger.Whole.{drifts_keep}
-use Rattle.fairness_laws.proofs.drifts_keep.Goals as goal
-
-pub returns : goal.returns
-returns c = drifts_keep

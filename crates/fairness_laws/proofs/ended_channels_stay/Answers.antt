@@ -1,5 +1,0 @@
-use Rattle.fairness_laws.proofs.Payment.Ended.{ended_stay}
-use Rattle.fairness_laws.proofs.ended_channels_stay.Goals as goal
-
-pub returns : goal.returns
-returns c = ended_stay

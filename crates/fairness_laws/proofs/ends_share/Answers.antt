@@ -1,5 +1,0 @@
-use Rattle.fairness_laws.proofs.Payment.Shares.{ends_share as shares}
-use Rattle.fairness_laws.proofs.ends_share.Goals as goal
-
-pub returns : goal.returns
-returns c = shares

@@ -1,5 +1,0 @@
-use Rattle.fairness_laws.proofs.Joint.Splits.{ends_split}
-use Rattle.fairness_laws.proofs.ends_split.Goals as goal
-
-pub returns : goal.returns
-returns c = ends_split

@@ -1,5 +1,0 @@
-use Rattle.fairness_laws.proofs.Ledger.Standing.{known_ledgers_keep}
-use Rattle.fairness_laws.proofs.known_ledgers_keep.Goals as goal
-
-pub returns : goal.returns
-returns c = known_ledgers_keep

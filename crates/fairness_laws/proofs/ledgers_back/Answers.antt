@@ -1,5 +1,0 @@
-use Rattle.fairness_laws.proofs.Ledger.Standing.{ledgers_back}
-use Rattle.fairness_laws.proofs.ledgers_back.Goals as goal
-
-pub returns : goal.returns
-returns c = ledgers_back

@@ -1,5 +1,0 @@
-use Rattle.fairness_laws.proofs.Joint.MiddlesKeep.{middles_keep as keep}
-use Rattle.fairness_laws.proofs.middles_keep.Goals as goal
-
-pub returns : goal.returns
-returns c = keep

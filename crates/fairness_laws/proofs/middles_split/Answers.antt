@@ -1,5 +1,0 @@
-use Rattle.fairness_laws.proofs.Joint.Splits.{middles_split}
-use Rattle.fairness_laws.proofs.middles_split.Goals as goal
-
-pub returns : goal.returns
-returns c = middles_split

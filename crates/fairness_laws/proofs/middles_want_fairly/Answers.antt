@@ -1,5 +1,0 @@
-use Rattle.fairness_laws.proofs.MiddlePart.{middles_want_fairly}
-use Rattle.fairness_laws.proofs.middles_want_fairly.Goals as goal
-
-pub returns : goal.returns
-returns c = middles_want_fairly

@@ -1,5 +1,0 @@
-use Rattle.fairness_laws.proofs.Seat.Sitting.{moves_are_fair}
-use Rattle.fairness_laws.proofs.moves_are_fair.Goals as goal
-
-pub returns : goal.returns
-returns c = moves_are_fair

@@ -1,5 +1,0 @@
-use Rattle.fairness_laws.proofs.Ledger.Whole.{moves_keep}
-use Rattle.fairness_laws.proofs.moves_keep.Goals as goal
-
-pub returns : goal.returns
-returns c = moves_keep

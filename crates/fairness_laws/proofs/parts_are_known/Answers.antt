@@ -1,5 +1,0 @@
-use Rattle.fairness_laws.proofs.Plan.Parts.{parts_are_known}
-use Rattle.fairness_laws.proofs.parts_are_known.Goals as goal
-
-pub returns : goal.returns
-returns c = parts_are_known

@@ -1,5 +1,0 @@
-use Rattle.fairness_laws.proofs.Seat.Sitting.{passes_are_fair}
-use Rattle.fairness_laws.proofs.passes_are_fair.Goals as goal
-
-pub returns : goal.returns
-returns c = passes_are_fair

@@ -1,5 +1,0 @@
-use Rattle.fairness_laws.proofs.Kept.{plans_keep_shares}
-use Rattle.fairness_laws.proofs.plans_keep_shares.Goals as goal
-
-pub returns : goal.returns
-returns c = plans_keep_shares

@@ -1,5 +1,0 @@
-use Rattle.fairness_laws.proofs.Seat.Sitting.{repeats_are_fair}
-use Rattle.fairness_laws.proofs.repeats_are_fair.Goals as goal
-
-pub returns : goal.returns
-returns c = repeats_are_fair

@@ -1,5 +1,0 @@
-use Rattle.fairness_laws.proofs.Roots.{roots_want_fairly}
-use Rattle.fairness_laws.proofs.roots_want_fairly.Goals as goal
-
-pub returns : goal.returns
-returns c = roots_want_fairly

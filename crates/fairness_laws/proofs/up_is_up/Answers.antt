@@ -1,5 +1,0 @@
-use Rattle.fairness_laws.proofs.Ledger.Moving.{up_is_up}
-use Rattle.fairness_laws.proofs.up_is_up.Goals as goal
-
-pub returns : goal.returns
-returns c = up_is_up

@@ -1,5 +1,0 @@
-use Rattle.fairness_laws.proofs.Leaving.{wanting_plans_leave}
-use Rattle.fairness_laws.proofs.wanting_plans_leave.Goals as goal
-
-pub returns : goal.returns
-returns c = wanting_plans_leave

@@ -1,0 +1,12 @@
+pub mod Known
+pub mod Shapes
+pub mod Parts
+pub mod Outcomes
+pub mod Targets
+pub mod Behind
+pub mod Aims
+pub mod Limits
+pub mod Laws
+pub mod Seats
+pub mod Rows
+pub mod Gathered

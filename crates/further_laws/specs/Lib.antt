@@ -1,0 +1,12 @@
+pub mod Words
+pub mod ChildRuns
+pub mod EndRuns
+pub mod MiddleRuns
+pub mod Race
+pub mod NodeWitness
+pub mod Premises
+pub mod AnyRules
+pub mod Network
+pub mod RaceWitness
+pub mod Happens
+pub mod Example

@@ -1,5 +1,0 @@
-use Rattle.held_laws.proofs.Ends.{chains_end}
-use Rattle.held_laws.proofs.held_chains_end_possibly.Goals as goal
-
-pub returns : goal.returns
-returns c = chains_end

@@ -1,6 +1,0 @@
-use Rattle.std.proofs.Common.{◌≡◌, ◌++◌, take}
-use Rattle.history_check.specs.Seen.{assets_in}
-use Rattle.history_check.proofs.shares.put_assets.Given as goal
-
-abbrev pub invariant-loop-o : goal.invariant-loop-o
-invariant-loop-o l = l.named.items ≡ l.initial.named.items ++ assets_in (take l.o-index l.assets)

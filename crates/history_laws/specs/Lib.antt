@@ -1,4 +1,0 @@
-pub mod Laws
-pub mod Hashing
-pub mod Settled
-pub mod Witness

@@ -1,0 +1,16 @@
+pub mod Lanes
+pub mod Types
+pub mod Ots
+pub mod Runs
+pub mod Tree
+pub mod Parts
+pub mod Verifies
+pub mod IsSigned
+pub mod VerifyLaws
+pub mod Secret
+pub mod Starts
+pub mod Made
+pub mod Signing
+pub mod IsSigner
+pub mod Calls
+pub mod SignLaws

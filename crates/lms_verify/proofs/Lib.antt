@@ -1,4 +1,0 @@
-pub mod Steps
-pub mod Beside
-pub mod Signed
-mod Examples

@@ -1,7 +1,0 @@
-use Rattle.std.proofs.Common.{◌≡◌, ◌≤◌, ◌*◌}
-use Rattle.lms_verify.specs.Types.{width}
-use Rattle.lms_verify.specs.Ots.{coef_gap}
-use Rattle.lms_verify.proofs.ots.checksum.Given as goal
-
-abbrev pub invariant-loop-i : goal.invariant-loop-i
-invariant-loop-i l = record { gap : l.sum ≡ coef_gap l.s (width l.ots) l.i; small : l.sum ≤ l.max_digit * l.i }

@@ -1,0 +1,16 @@
+pub mod Load
+pub mod Messages
+pub mod Entries
+pub mod Pair
+pub mod Signed
+pub mod Table
+pub mod Taken
+pub mod TwoPeople
+pub mod Finish
+pub mod Phases
+pub mod Rounds
+pub mod Standing
+pub mod Timely
+pub mod Whole
+pub mod Paying
+pub mod Laws

@@ -1,5 +1,0 @@
-//! The scripts of loads.
-#![tactic(auto)]
-
-#[cfg(test)]
-mod loads;

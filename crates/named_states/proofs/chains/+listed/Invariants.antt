@@ -1,5 +1,0 @@
-use Rattle.std.proofs.Common.{length}
-use Rattle.named_states.proofs.chains.+listed.Given as goal
-
-abbrev pub decreases-listed : goal.decreases-listed
-decreases-listed l = length l.names.now

@@ -1,5 +1,0 @@
-use Rattle.std.proofs.Common.{length}
-use Rattle.named_states.proofs.chains.+state_count.Given as goal
-
-abbrev pub decreases-state_count : goal.decreases-state_count
-decreases-state_count l = length l.listed.now

@@ -1,5 +1,0 @@
-use Rattle.net_laws.proofs.Any.{any-cleared}
-use Rattle.net_laws.proofs.any_rules.few_of_any_challenges_are_cleared.Goals as goal
-
-pub returns : goal.returns
-returns c adds fixed = any-cleared _ _ (c.values_are_valid.ensures adds fixed)

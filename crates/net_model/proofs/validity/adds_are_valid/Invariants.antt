@@ -1,7 +1,0 @@
-use Rattle.std.proofs.Common.{take}
-use Rattle.std.specs.List.{AllByRecursion}
-use Rattle.nitro_bytes.specs.Parts.{IsFixed}
-use Rattle.net_model.proofs.validity.adds_are_valid.Given as goal
-
-abbrev pub invariant-loop-added : goal.invariant-loop-added
-invariant-loop-added l = AllByRecursion (AllByRecursion IsFixed) (take l.added-index l.adds)

@@ -1,7 +1,0 @@
-use Rattle.std.proofs.Common.{take}
-use Rattle.std.specs.List.{AllByRecursion}
-use Rattle.nitro_bytes.specs.Parts.{IsFixed}
-use Rattle.net_model.proofs.validity.fixed_parts_are_valid.Given as goal
-
-abbrev pub invariant-loop-fixed : goal.invariant-loop-fixed
-invariant-loop-fixed l = AllByRecursion IsFixed (take l.fixed-index l.fixed_parts)

@@ -1,5 +1,0 @@
-pub mod Followed
-pub mod Kept
-pub mod Gaining
-pub mod Own
-pub mod Few

@@ -1,5 +1,0 @@
-use Rattle.net_node.proofs.Followed.{Seeing}
-use Rattle.net_node.proofs.node.see_all.Given as goal
-
-abbrev pub invariant-loop-entry : goal.invariant-loop-entry
-invariant-loop-entry l = Seeing l.entries l.initial.node l.entry-index l.node

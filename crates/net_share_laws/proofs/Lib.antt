@@ -1,3 +1,0 @@
-pub mod RealShares
-pub mod RealHeld
-pub mod RealExits

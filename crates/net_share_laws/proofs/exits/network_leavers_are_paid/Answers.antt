@@ -1,5 +1,0 @@
-use Rattle.net_share_laws.proofs.RealExits.{leavers_are_paid}
-use Rattle.net_share_laws.proofs.exits.network_leavers_are_paid.Goals as goal
-
-pub returns : goal.returns
-returns c adds fixed = leavers_are_paid _ _ (c.values_are_valid.ensures adds fixed)

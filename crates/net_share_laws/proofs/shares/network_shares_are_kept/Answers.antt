@@ -1,5 +1,0 @@
-use Rattle.net_share_laws.proofs.RealShares.{shares_kept}
-use Rattle.net_share_laws.proofs.shares.network_shares_are_kept.Goals as goal
-
-pub returns : goal.returns
-returns c adds fixed = shares_kept _ _ (c.values_are_valid.ensures adds fixed)

@@ -1,4 +1,0 @@
-pub mod Keeping
-pub mod Shares
-pub mod Held
-pub mod Exits

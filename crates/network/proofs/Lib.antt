@@ -1,0 +1,11 @@
+pub mod Watching
+pub mod Mapped
+pub mod Places
+pub mod Real
+pub mod Valid
+pub mod Any
+pub mod Fronts
+pub mod Standing
+pub mod Sample
+pub mod Commanded
+pub mod Safe

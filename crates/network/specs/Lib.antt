@@ -1,0 +1,14 @@
+pub mod Watching
+pub mod Rows
+pub mod Laws
+pub mod Ways
+pub mod Histories
+pub mod Entered
+pub mod Members
+pub mod Worlds
+pub mod Valid
+pub mod Network
+pub mod AnyRules
+pub mod Standing
+pub mod Commanded
+pub mod Safe

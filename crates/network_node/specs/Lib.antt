@@ -1,0 +1,13 @@
+pub mod Minds
+pub mod Openings
+pub mod Shares
+pub mod Gets
+pub mod Knows
+pub mod Leaving
+pub mod Got
+pub mod Ruled
+pub mod Notes
+pub mod Holds
+pub mod Few
+pub mod RaceFairnessLaws
+pub mod JournalLaws

@@ -1,0 +1,14 @@
+pub mod Acts
+pub mod Working
+pub mod Seats
+pub mod Members
+pub mod Players
+pub mod Workers
+pub mod Rounds
+pub mod Crews
+pub mod Told
+pub mod Journals
+pub mod Races
+pub mod Laws
+pub mod Views
+pub mod Jobs

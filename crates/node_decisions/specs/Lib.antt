@@ -1,0 +1,3 @@
+pub mod Paying
+pub mod Telling
+pub mod Lines

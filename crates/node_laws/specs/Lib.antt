@@ -1,4 +1,0 @@
-pub mod Laws
-pub mod Stored
-pub mod Exits
-pub mod Keys

@@ -1,6 +1,0 @@
-pub mod Among
-pub mod Tests
-pub mod Shares
-pub mod Accepted
-pub mod Taken
-pub mod Paid

@@ -1,5 +1,0 @@
-use Rattle.std.proofs.Common.{length}
-use Rattle.node_refusals.proofs.planned.+channel_count.Given as goal
-
-abbrev pub decreases-channel_count : goal.decreases-channel_count
-decreases-channel_count l = length l.parts.now

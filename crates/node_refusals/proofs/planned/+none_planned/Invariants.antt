@@ -1,5 +1,0 @@
-use Rattle.std.proofs.Common.{length}
-use Rattle.node_refusals.proofs.planned.+none_planned.Given as goal
-
-abbrev pub decreases-none_planned : goal.decreases-none_planned
-decreases-none_planned l = length l.names.now

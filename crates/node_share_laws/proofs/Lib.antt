@@ -1,8 +1,0 @@
-pub mod Ordering
-pub mod Apart
-pub mod Keeping
-pub mod Growing
-pub mod Placing
-pub mod Telling
-pub mod Nothing
-pub mod Unheld

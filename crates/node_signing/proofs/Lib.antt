@@ -1,4 +1,0 @@
-mod Moved
-mod Signed
-mod Told
-pub mod Payable

@@ -1,5 +1,0 @@
-pub mod Staying
-pub mod Following
-pub mod Kept
-pub mod Answering
-pub mod Commanding

@@ -1,8 +1,0 @@
--- What a node's ways keep.
-use Rattle.node_way_laws.specs.Ways.{ways}
-use Rattle.node_way_laws.specs.Placed.{IsPlaced}
-use Rattle.world_laws.specs.Standing.{AreKept}
-
--- whatever a node with these ways is told, handed or shown, it stands for the history, over which its journal is honest
-abbrev pub NodesAreKept : Type 0
-NodesAreKept = AreKept ways IsPlaced

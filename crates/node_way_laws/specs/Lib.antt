@@ -1,5 +1,0 @@
-pub mod Gains
-pub mod Ways
-pub mod Laws
-pub mod Commanded
-pub mod Placed

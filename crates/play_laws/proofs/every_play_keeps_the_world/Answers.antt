@@ -1,5 +1,0 @@
-use Rattle.play_laws.proofs.Played.{plays_are_kept}
-use Rattle.play_laws.proofs.every_play_keeps_the_world.Goals as goal
-
-pub returns : goal.returns
-returns g c = λ kept. plays_are_kept g.P.Party.ways g.P.Party.stands kept

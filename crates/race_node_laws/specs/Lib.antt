@@ -1,3 +1,0 @@
-pub mod Races
-pub mod Laws
-pub mod Network

@@ -1,4 +1,0 @@
-pub mod Walked
-pub mod Followed
-pub mod Lasting
-pub mod Raced

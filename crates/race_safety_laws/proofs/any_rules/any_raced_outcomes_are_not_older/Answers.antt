@@ -1,5 +1,0 @@
-use Rattle.race_safety_laws.proofs.Real.{any-raced_safe}
-use Rattle.race_safety_laws.proofs.any_rules.any_raced_outcomes_are_not_older.Goals as goal
-
-pub returns : goal.returns
-returns c = any-raced_safe

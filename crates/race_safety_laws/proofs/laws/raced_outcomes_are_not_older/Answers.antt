@@ -1,5 +1,0 @@
-use Rattle.race_safety_laws.proofs.Real.{raced-safe}
-use Rattle.race_safety_laws.proofs.laws.raced_outcomes_are_not_older.Goals as goal
-
-pub returns : goal.returns
-returns c adds fixed = raced-safe _ _ (c.values_are_valid.ensures adds fixed)

@@ -1,5 +1,0 @@
-use Rattle.race_safety_laws.proofs.Real.{raced-in_time}
-use Rattle.race_safety_laws.proofs.laws.raced_watchers_are_in_time.Goals as goal
-
-pub returns : goal.returns
-returns c adds fixed = raced-in_time _ _ (c.values_are_valid.ensures adds fixed)

@@ -1,5 +1,0 @@
-use Rattle.race_safety_laws.proofs.Real.{raced-exits}
-use Rattle.race_safety_laws.proofs.models.raced_exits_of_models_pay.Goals as goal
-
-pub returns : goal.returns
-returns c = raced-exits

@@ -1,5 +1,0 @@
-use Rattle.race_safety_laws.proofs.Real.{raced-in_time}
-use Rattle.race_safety_laws.proofs.models.raced_watchers_of_models_are_in_time.Goals as goal
-
-pub returns : goal.returns
-returns c = raced-in_time

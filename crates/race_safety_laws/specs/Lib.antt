@@ -1,3 +1,0 @@
-pub mod AnyRules
-pub mod Network
-pub mod Witness

@@ -1,9 +1,0 @@
-//! The premises of the laws can hold together.
-
-ghost use Rattle.race_safety_laws.specs.Witness.{PremisesHold};
-
-/// There is a race of two rounds in which every premise of `any_raced_outcomes_are_not_older` holds, a watcher answers
-/// old states, and a channel of the participant becomes final.
-pub fn premises_can_hold()
-    ensures { PremisesHold }
-{}

@@ -1,7 +1,0 @@
-use Rattle.std.proofs.Common.{[], ◌∙◌}
-use Rattle.round_model.specs.Members.{HasFollowed}
-use Rattle.race_tests.proofs.Fresh.{all_of_one}
-use Rattle.race_tests.proofs.crews.mixed.Goals as goal
-
-pub returns : goal.returns
-returns g c = all_of_one (HasFollowed g.P.Party.ways []) _ _ (c.crew.ensures ∙ c.in-Ok.ensures) c.in_ok-member.ensures

@@ -1,0 +1,9 @@
+pub mod Seeing
+pub mod Leaving
+pub mod Joining
+pub mod Naming
+pub mod Walks
+pub mod Faults
+pub mod Lacking
+pub mod Ending
+pub mod Completes

@@ -1,0 +1,2 @@
+pub mod ReplyFronts
+pub mod Records

@@ -1,7 +1,0 @@
-use Rattle.std.proofs.Common.{◌≡◌, ◌++◌, take}
-use Rattle.std.specs.Prelude.{map}
-use Rattle.record_rules.specs.Sums.{deposited_sum}
-use Rattle.record_rules.proofs.sums.put_deposited.Given as goal
-
-abbrev pub invariant-loop-asset : goal.invariant-loop-asset
-invariant-loop-asset l = l.all.items ≡ l.initial.all.items ++ map (deposited_sum l.balances) (take l.asset-index l.assets)

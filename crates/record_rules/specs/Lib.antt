@@ -1,3 +1,0 @@
-pub mod Sums
-pub mod Plans
-pub mod Sound

@@ -1,4 +1,0 @@
-pub mod Finding
-pub mod People
-pub mod States
-pub mod Happens

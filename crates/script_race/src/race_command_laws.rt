@@ -1,0 +1,9 @@
+//! A law alone: the channels that the commands of a race open stand open for two at least. The function is empty: its contract
+//! is the law.
+
+ghost use Rattle.script_race.specs.CommandLaws.{CommandsOpenLasting};
+
+/// No command of a script whose steps may all stand in a race opens a channel of duration 1.
+pub fn commands_open_lasting_channels()
+    ensures { CommandsOpenLasting }
+{}

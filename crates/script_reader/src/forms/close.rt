@@ -1,0 +1,20 @@
+//! The close step.
+
+ghost use Rattle.std.specs.Prelude.{◌≡◌};
+ghost use Rattle.serde_json.specs.View.{view};
+ghost use Rattle.script_steps.specs.Rules.{Gives};
+ghost use Rattle.script_reader.specs.Forms.{close_of};
+
+use crate::kinds::{keys, name_at, names_at};
+use script_steps::{Step, StepFault};
+use serde_json::Value;
+use std::alloc::Global;
+
+pub(crate) fn close_of(alloc: Global, step: &Value) -> Result<Step, StepFault>
+    ensures { Gives (λ s. s) result (close_of (view step.now)) }
+{
+    keys(step, 3)?;
+    let who = names_at(alloc, step, "who")?;
+    let channel = name_at(alloc, step, "channel")?;
+    Ok(Step::Close { who, channel })
+}

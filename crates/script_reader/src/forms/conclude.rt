@@ -1,0 +1,20 @@
+//! The conclude step.
+
+ghost use Rattle.std.specs.Prelude.{◌≡◌};
+ghost use Rattle.serde_json.specs.View.{view};
+ghost use Rattle.script_steps.specs.Rules.{Gives};
+ghost use Rattle.script_reader.specs.Forms.{conclude_of};
+
+use crate::kinds::{keys, name_at, names_at};
+use script_steps::{Step, StepFault};
+use serde_json::Value;
+use std::alloc::Global;
+
+pub(crate) fn conclude_of(alloc: Global, step: &Value) -> Result<Step, StepFault>
+    ensures { Gives (λ s. s) result (conclude_of (view step.now)) }
+{
+    keys(step, 3)?;
+    let channel = name_at(alloc, step, "channel")?;
+    let chain = names_at(alloc, step, "chain")?;
+    Ok(Step::Conclude { channel, chain })
+}

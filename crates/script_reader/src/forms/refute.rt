@@ -1,0 +1,20 @@
+//! The refute step.
+
+ghost use Rattle.std.specs.Prelude.{◌≡◌};
+ghost use Rattle.serde_json.specs.View.{view};
+ghost use Rattle.script_steps.specs.Rules.{Gives};
+ghost use Rattle.script_reader.specs.Forms.{refute_of};
+
+use crate::kinds::{keys, name_at};
+use script_steps::{Step, StepFault};
+use serde_json::Value;
+use std::alloc::Global;
+
+pub(crate) fn refute_of(alloc: Global, step: &Value) -> Result<Step, StepFault>
+    ensures { Gives (λ s. s) result (refute_of (view step.now)) }
+{
+    keys(step, 3)?;
+    let channel = name_at(alloc, step, "channel")?;
+    let state = name_at(alloc, step, "state")?;
+    Ok(Step::Refute { channel, state })
+}

@@ -1,5 +1,0 @@
-use Rattle.std.proofs.Common.{length}
-use Rattle.script_rules.proofs.context.+repeats.Given as goal
-
-abbrev pub decreases-repeats : goal.decreases-repeats
-decreases-repeats l = length l.names.now

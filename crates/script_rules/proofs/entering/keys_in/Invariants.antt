@@ -1,6 +1,0 @@
-use Rattle.std.proofs.Common.{◌≡◌, take}
-use Rattle.script_rules.specs.Conditions.{keys_in}
-use Rattle.script_rules.proofs.entering.keys_in.Given as goal
-
-abbrev pub invariant-loop-name : goal.invariant-loop-name
-invariant-loop-name l = l.keys.items ≡ keys_in l.context (take l.name-index l.names)

@@ -1,8 +1,0 @@
-use Rattle.std.proofs.Common.{◌≡◌, drop, length}
-use Rattle.channel_model.specs.Chains as rows
-use Rattle.support_chain.proofs.support.marked_turn.Given as goal
-
-abbrev pub invariant-loop-j : goal.invariant-loop-j
-invariant-loop-j l =
-    rows.marks_fault (length l.chain.fixed.keys) l.turn l.chain.states l.j (drop l.j l.chain.marks) (drop l.j l.verified)
-    ≡ rows.marks_fault (length l.chain.fixed.keys) l.turn l.chain.states 0 l.chain.marks l.verified

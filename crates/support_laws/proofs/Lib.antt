@@ -1,5 +1,0 @@
-pub mod Payment
-pub mod Consensus
-pub mod Kept
-pub mod Finals
-pub mod Ends

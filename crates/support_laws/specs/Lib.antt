@@ -1,2 +1,0 @@
-pub mod NoWorse
-pub mod May

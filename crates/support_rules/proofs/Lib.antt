@@ -1,0 +1,10 @@
+pub mod Along
+pub mod Lengths
+pub mod Making
+pub mod TowardSteps
+pub mod Checked
+pub mod PaymentLaws
+pub mod ConsensusLaws
+pub mod Kept
+pub mod Finals
+pub mod Ends

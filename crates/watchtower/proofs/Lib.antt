@@ -1,0 +1,12 @@
+pub mod Rising
+pub mod Places
+pub mod Kept
+pub mod Opening
+pub mod Timing
+pub mod Concerning
+pub mod Collecting
+pub mod Admitting
+pub mod Finding
+pub mod Apart
+pub mod Looked
+pub mod NextLook

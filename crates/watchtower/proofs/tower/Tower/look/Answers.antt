@@ -1,0 +1,9 @@
+-- What was followed is the history's, and so is what is answered.
+use Rattle.watchtower.proofs.Looked.{stands_on, told_well}
+use Rattle.watchtower.proofs.tower.Tower.look.Goals as goal
+
+pub returns-clause-answer : goal.returns-clause-answer
+returns-clause-answer c r h names st legal = told_well r h c.args.entries.now c.args.self.now c.look_now.new.self c.args.self.now.clients _ names st legal c.in_ok-told.ensures.seen c.in_ok-told.ensures.calls
+
+pub returns-clause-stands : goal.returns-clause-stands
+returns-clause-stands c r h names st legal = stands_on r h c.args.entries.now c.args.self.now c.look_now.new.self names st legal c.in_ok-told.ensures.seen
