@@ -31,7 +31,8 @@ impl Sources {
     fn spend(&mut self, flows: &[Flow], place: usize) -> Result<(), NoMemory>
         requires place { place < length flows.now }
         requires sources { AreSources (take place flows.now) self.old.spent.entries self.old.deposited.entries }
-        ensures { OnOk result (AreSources (take (place + 1) flows.now) self.new.spent.entries self.new.deposited.entries) }
+        ensures { OnOk result (AreSources
+            (take (place + 1) flows.now) self.new.spent.entries self.new.deposited.entries) }
     {
         let flow = flows[place];
         let amount = amount_of(&flow);

@@ -78,7 +78,8 @@ impl Sink for ListSink<'_> {
 
         // It fails for no other cause than the list and want of room, and else takes as much as it may.
         ensures caused { result ≡ Gave.Failed → Contains self.old.failing.now self.old.calls
-            ⊎ (vec_capacity self.old.bytes - length self.old.bytes.items < min (length piece.now) (max self.old.most 1)) }
+            ⊎ (vec_capacity self.old.bytes - length self.old.bytes.items
+            < min (length piece.now) (max self.old.most 1)) }
         ensures took { (n : ℕ) → result ≡ Gave.Took n → n ≡ min (length piece.now) (max self.old.most 1) }
         ensures counted { self.new.calls ≡ min (self.old.calls + 1) (2 ^ 64 - 1) }
         ensures failing { self.new.failing.now ≡ self.old.failing.now }

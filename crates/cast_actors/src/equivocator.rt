@@ -126,7 +126,8 @@ fn repeated(alloc: Global, from: &State) -> Result<State, NoMemory>
 
 fn paid(alloc: Global, fixed: &Fixed, from: &State, asset: u32) -> Result<State, NoMemory>
     ensures { IfOk result (λ s. s ≡ state_with (from.now.turn + 1) false
-        (refusing.moved (equivocates.giver fixed.now (from.now.turn + 1)) (equivocates.taker fixed.now (from.now.turn + 1)) asset 1 from.now.outcome) []) }
+        (refusing.moved (equivocates.giver fixed.now (from.now.turn + 1))
+        (equivocates.taker fixed.now (from.now.turn + 1)) asset 1 from.now.outcome) []) }
 {
     let turn = from.turn() + 1;
     let payment = Payment {
@@ -181,7 +182,8 @@ impl Equivocator {
 
     /// The next signature.
     fn signature(&mut self, message: &[u8]) -> Result<Listed<u8>, NoMemory>
-        ensures made { IfOk result (λ bytes. bytes ≡ made_bytes self.old.signer.seed self.old.signer.id self.old.signer.h self.old.signer.used message.now) }
+        ensures made { IfOk result (λ bytes.
+            bytes ≡ made_bytes self.old.signer.seed self.old.signer.id self.old.signer.h self.old.signer.used message.now) }
         ensures signer { OnOk result (self.new.signer ≡ equivocates.used_once self.old.signer) }
         ensures kept { OnErr result (self.new.signer ≡ self.old.signer) }
     {
@@ -211,7 +213,8 @@ impl Equivocator {
 
     /// Its answer to a challenge of a state, if there is one.
     fn responding(&mut self, fixed: &Fixed, from: Option<&State>) -> Result<Act, NoMemory>
-        ensures act { IfOk result (λ act. act ≡ equivocates.responds self.old.signer fixed.now (option_map (λ s. s.now) from.entry)) }
+        ensures act { IfOk result (λ act.
+            act ≡ equivocates.responds self.old.signer fixed.now (option_map (λ s. s.now) from.entry)) }
         ensures signer { IfOk result (λ act. self.new.signer ≡ equivocates.signer_after self.old.signer act) }
         ensures kept { OnErr result (self.new.signer ≡ self.old.signer) }
     {
@@ -259,7 +262,8 @@ impl Equivocator {
 
     /// What it does, by its notes and by how often it has signed.
     pub fn answer(&mut self, seen: &Notes) -> Act
-        ensures act { (result ≡ acts.NoMemory) ⊎ (result ≡ equivocates.equivocated self.old.signer seen.now.entries.items) }
+        ensures act { (result ≡ acts.NoMemory)
+            ⊎ (result ≡ equivocates.equivocated self.old.signer seen.now.entries.items) }
         ensures signer { self.new.signer ≡ equivocates.signer_after self.old.signer result }
     {
         match self.answering(seen.entries.as_slice()) {

@@ -26,7 +26,8 @@ fn put_claim_of(
     to: &Dest,
     asset: u32,
 ) -> Result<(), NoMemory>
-    ensures value { OnOk result (calls.new.items ≡ calls.old.items ++ spelled.claim_if guarantor.now (Some promise.now) target.now (Some ended.now) to.now asset) }
+    ensures value { OnOk result (calls.new.items ≡ calls.old.items
+        ++ spelled.claim_if guarantor.now (Some promise.now) target.now (Some ended.now) to.now asset) }
     ensures few { OnOk result (length calls.new.items ≤ length calls.old.items + 1) }
 {
     if is_claimable(promise, ended, to, asset) {
@@ -53,7 +54,8 @@ pub(crate) fn put_claim(
     to: &Dest,
     asset: u32,
 ) -> Result<(), NoMemory>
-    ensures value { OnOk result (calls.new.items ≡ calls.old.items ++ spelled.claim_for (ended_in world.entry.now) guarantor.now target.now to.now asset) }
+    ensures value { OnOk result (calls.new.items ≡ calls.old.items
+        ++ spelled.claim_for (ended_in world.entry.now) guarantor.now target.now to.now asset) }
     ensures few { OnOk result (length calls.new.items ≤ length calls.old.items + 1) }
 {
     match (ended_in(world, guarantor), ended_in(world, target)) {

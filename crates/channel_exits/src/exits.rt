@@ -47,7 +47,8 @@ fn put_end_calls(
     asset: u32,
 ) -> Result<(), NoMemory>
     requires { names.now ≡ channels parts.now }
-    ensures value { OnOk result (calls.new.items ≡ calls.old.items ++ spelled.other_calls (ended_in world.entry.now) me.now parts.now (variants.End v.now) asset) }
+    ensures value { OnOk result (calls.new.items ≡ calls.old.items
+        ++ spelled.other_calls (ended_in world.entry.now) me.now parts.now (variants.End v.now) asset) }
     ensures few { OnOk result (length calls.new.items ≤ length calls.old.items + 19) }
 {
     let guarantor = v.own_guarantor();
@@ -73,7 +74,8 @@ fn put_middle_calls(
     v: &Virtual,
     asset: u32,
 ) -> Result<(), NoMemory>
-    ensures value { OnOk result (calls.new.items ≡ calls.old.items ++ spelled.other_calls (ended_in world.entry.now) me.now parts.now (variants.Middle v.now) asset) }
+    ensures value { OnOk result (calls.new.items ≡ calls.old.items
+        ++ spelled.other_calls (ended_in world.entry.now) me.now parts.now (variants.Middle v.now) asset) }
     ensures few { OnOk result (length calls.new.items ≤ length calls.old.items + 4) }
 {
     let channel = Dest::Channel(v.channel);
@@ -94,7 +96,8 @@ fn put_other_calls(
     asset: u32,
 ) -> Result<(), NoMemory>
     requires { names.now ≡ channels parts.now }
-    ensures value { OnOk result (calls.new.items ≡ calls.old.items ++ spelled.other_calls (ended_in world.entry.now) me.now parts.now part.now asset) }
+    ensures value { OnOk result (calls.new.items ≡ calls.old.items
+        ++ spelled.other_calls (ended_in world.entry.now) me.now parts.now part.now asset) }
     ensures few { OnOk result (length calls.new.items ≤ length calls.old.items + 19) }
 {
     match part {
@@ -117,7 +120,9 @@ fn put_root_of(
     root: &Name,
     assets: &[u32],
 ) -> Result<(), NoMemory>
-    ensures value { OnOk result (calls.new.items ≡ calls.old.items ++ flat_map (spelled.root_calls (ended_in world.entry.now) me.now names.now (variants.Root root.now)) assets.now) }
+    ensures value { OnOk result (calls.new.items ≡ calls.old.items
+        ++ flat_map (spelled.root_calls (ended_in world.entry.now) me.now names.now
+        (variants.Root root.now)) assets.now) }
     ensures few { OnOk result (length calls.new.items ≤ length calls.old.items + 17 * length assets.now) }
 {
     for asset in assets {
@@ -136,7 +141,8 @@ fn put_other_of(
     assets: &[u32],
 ) -> Result<(), NoMemory>
     requires { names.now ≡ channels parts.now }
-    ensures value { OnOk result (calls.new.items ≡ calls.old.items ++ flat_map (spelled.other_calls (ended_in world.entry.now) me.now parts.now part.now) assets.now) }
+    ensures value { OnOk result (calls.new.items ≡ calls.old.items
+        ++ flat_map (spelled.other_calls (ended_in world.entry.now) me.now parts.now part.now) assets.now) }
     ensures few { OnOk result (length calls.new.items ≤ length calls.old.items + 19 * length assets.now) }
 {
     for asset in assets {
@@ -153,7 +159,9 @@ fn put_root(
     names: &[Name],
     part: &Part,
 ) -> Result<(), NoMemory>
-    ensures value { OnOk result (calls.new.items ≡ calls.old.items ++ spelled.of_each (ended_in world.entry.now) (spelled.root_calls (ended_in world.entry.now) me.now names.now) part.now) }
+    ensures value { OnOk result (calls.new.items ≡ calls.old.items
+        ++ spelled.of_each (ended_in world.entry.now)
+        (spelled.root_calls (ended_in world.entry.now) me.now names.now) part.now) }
     ensures few { OnOk result (length calls.new.items ≤ length calls.old.items + 68) }
 {
     match part {
@@ -177,7 +185,9 @@ fn put_other(
     part: &Part,
 ) -> Result<(), NoMemory>
     requires { names.now ≡ channels parts.now }
-    ensures value { OnOk result (calls.new.items ≡ calls.old.items ++ spelled.of_each (ended_in world.entry.now) (spelled.other_calls (ended_in world.entry.now) me.now parts.now) part.now) }
+    ensures value { OnOk result (calls.new.items ≡ calls.old.items
+        ++ spelled.of_each (ended_in world.entry.now)
+        (spelled.other_calls (ended_in world.entry.now) me.now parts.now) part.now) }
     ensures few { OnOk result (length calls.new.items ≤ length calls.old.items + 152) }
 {
     let assets = assets_of_part(alloc, world, part)?;
@@ -192,7 +202,9 @@ fn put_all_roots(
     names: &[Name],
     parts: &[Part],
 ) -> Result<(), NoMemory>
-    ensures value { OnOk result (calls.new.items ≡ calls.old.items ++ flat_map (spelled.of_each (ended_in world.entry.now) (spelled.root_calls (ended_in world.entry.now) me.now names.now)) parts.now) }
+    ensures value { OnOk result (calls.new.items ≡ calls.old.items
+        ++ flat_map (spelled.of_each (ended_in world.entry.now)
+        (spelled.root_calls (ended_in world.entry.now) me.now names.now)) parts.now) }
     ensures few { OnOk result (length calls.new.items ≤ length calls.old.items + 68 * length parts.now) }
 {
     for part in parts {
@@ -210,7 +222,9 @@ fn put_all_others(
     parts: &[Part],
 ) -> Result<(), NoMemory>
     requires { names.now ≡ channels parts.now }
-    ensures value { OnOk result (calls.new.items ≡ calls.old.items ++ flat_map (spelled.of_each (ended_in world.entry.now) (spelled.other_calls (ended_in world.entry.now) me.now parts.now)) parts.now) }
+    ensures value { OnOk result (calls.new.items ≡ calls.old.items
+        ++ flat_map (spelled.of_each (ended_in world.entry.now)
+        (spelled.other_calls (ended_in world.entry.now) me.now parts.now)) parts.now) }
     ensures few { OnOk result (length calls.new.items ≤ length calls.old.items + 152 * length parts.now) }
 {
     for part in parts {

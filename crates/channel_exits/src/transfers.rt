@@ -20,7 +20,8 @@ fn put_transfer_of(
     to: &Dest,
     asset: u32,
 ) -> Result<(), NoMemory>
-    ensures value { OnOk result (calls.new.items ≡ calls.old.items ++ spelled.transfer_if channel.now (Some ended.now) to.now asset) }
+    ensures value { OnOk result (calls.new.items ≡ calls.old.items
+        ++ spelled.transfer_if channel.now (Some ended.now) to.now asset) }
     ensures few { OnOk result (length calls.new.items ≤ length calls.old.items + 1) }
 {
     let items = items_in(ended, asset);
@@ -45,7 +46,8 @@ pub(crate) fn put_transfer(
     to: &Dest,
     asset: u32,
 ) -> Result<(), NoMemory>
-    ensures value { OnOk result (calls.new.items ≡ calls.old.items ++ spelled.transfer_to (ended_in world.entry.now) channel.now to.now asset) }
+    ensures value { OnOk result (calls.new.items ≡ calls.old.items
+        ++ spelled.transfer_to (ended_in world.entry.now) channel.now to.now asset) }
     ensures few { OnOk result (length calls.new.items ≤ length calls.old.items + 1) }
 {
     match ended_in(world, channel) {
@@ -68,7 +70,8 @@ fn put_transfer_among(
     asset: u32,
     to: &Dest,
 ) -> Result<(), NoMemory>
-    ensures value { OnOk result (calls.new.items ≡ calls.old.items ++ spelled.transfer_among (ended_in world.entry.now) root.now names.now asset to.now) }
+    ensures value { OnOk result (calls.new.items ≡ calls.old.items
+        ++ spelled.transfer_among (ended_in world.entry.now) root.now names.now asset to.now) }
     ensures few { OnOk result (length calls.new.items ≤ length calls.old.items + 1) }
 {
     match to {
@@ -91,7 +94,8 @@ fn put_transfers_among(
     asset: u32,
     items: &[Item],
 ) -> Result<(), NoMemory>
-    ensures value { OnOk result (calls.new.items ≡ calls.old.items ++ flat_map (λ item. spelled.transfer_among (ended_in world.entry.now) root.now names.now asset item.to) items.now) }
+    ensures value { OnOk result (calls.new.items ≡ calls.old.items ++ flat_map (λ item.
+        spelled.transfer_among (ended_in world.entry.now) root.now names.now asset item.to) items.now) }
     ensures few { OnOk result (length calls.new.items ≤ length calls.old.items + length items.now) }
 {
     for item in items {
@@ -119,7 +123,8 @@ pub(crate) fn put_transfers(
     root: &Name,
     asset: u32,
 ) -> Result<(), NoMemory>
-    ensures value { OnOk result (calls.new.items ≡ calls.old.items ++ spelled.transfers_of (ended_in world.entry.now) me.now names.now root.now asset) }
+    ensures value { OnOk result (calls.new.items ≡ calls.old.items
+        ++ spelled.transfers_of (ended_in world.entry.now) me.now names.now root.now asset) }
     ensures few { OnOk result (length calls.new.items ≤ length calls.old.items + 17) }
 {
     let items = items_ended(ended_in(world, root), asset);

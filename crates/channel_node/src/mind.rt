@@ -63,15 +63,20 @@ pub trait Knowing {
 
     /// Notes the state of a message, or says why not.
     fn handle(&mut self, bytes: &[u8]) -> Result<Option<NodeRefusal>, NoMemory>
-        ensures refusal { IfOk result (λ refusal. refusal ≡ message_refusal tables rules (mind self.old) (message_of bytes.now)) }
-        ensures noted { IfOk result (λ refusal. mind self.new ≡ did rules (deeds.Handled bytes.now refusal) None (mind self.old)) }
+        ensures refusal { IfOk result (λ refusal.
+            refusal ≡ message_refusal tables rules (mind self.old) (message_of bytes.now)) }
+        ensures noted { IfOk result (λ refusal.
+            mind self.new ≡ did rules (deeds.Handled bytes.now refusal) None (mind self.old)) }
         ensures used { OnOk result (times self.new ≡ times self.old) }
         ensures signer { signer self.new ≡ signer self.old };
 
     /// Takes a command up, or says why not.
     fn command(&mut self, command: &Command) -> Result<Option<NodeRefusal>, NoMemory>
-        ensures refusal { IfOk result (λ refusal. refusal ≡ command_refusal tables rules (signing_of (signer self.old)).limit (times self.old) (mind self.old) command.now) }
-        ensures commanded { IfOk result (λ refusal. mind self.new ≡ commanded_if rules (Some command.now) refusal (mind self.old)) }
+        ensures refusal { IfOk result (λ refusal.
+            refusal ≡ command_refusal tables rules (signing_of (signer self.old)).limit (times self.old)
+            (mind self.old) command.now) }
+        ensures commanded { IfOk result (λ refusal.
+            mind self.new ≡ commanded_if rules (Some command.now) refusal (mind self.old)) }
         ensures used { OnOk result (times self.new ≡ times self.old) }
         ensures signer { signer self.new ≡ signer self.old };
 
@@ -108,8 +113,10 @@ pub trait Knowing {
 
     /// The state of a payment that isn't refused, in its channel.
     fn paying(&self, channel: &Name, asset: u32, amount: u64) -> Result<Option<State>, NoMemory>
-        requires { command_refusal tables rules (signing_of (signer self.now)).limit (times self.now) (mind self.now) (Pay channel.now asset amount) ≡ None }
-        ensures { IfOk result (λ state. state ≡ signs_in tables rules (Some (Pay channel.now asset amount)) (mind self.now) channel.now) };
+        requires { command_refusal tables rules (signing_of (signer self.now)).limit (times self.now) (mind self.now)
+            (Pay channel.now asset amount) ≡ None }
+        ensures { IfOk result (λ state.
+            state ≡ signs_in tables rules (Some (Pay channel.now asset amount)) (mind self.now) channel.now) };
 
     fn used(&self) -> u32
         ensures { result ≡ times self.now };
@@ -122,8 +129,12 @@ pub trait Knowing {
     fn sign(&mut self, channel: &Name, state: &State) -> Result<Listed<u8>, NoMemory>
         requires room { times self.old < (signing_of (signer self.old)).limit }
         requires wanted { IsWanted tables rules (mind self.old) channel.now state.now }
-        ensures signature { IfOk result (λ signature. signature ≡ (signing_of (signer self.old)).made (times self.old) (message_of_state (rules.digest channel.now state.now))) }
-        ensures noted { IfOk result (λ signature. mind self.new ≡ noted rules true channel.now (record { state = state.now; signature = signature }) (mind self.old)) }
+        ensures signature { IfOk result (λ signature.
+            signature ≡ (signing_of (signer self.old)).made (times self.old)
+            (message_of_state (rules.digest channel.now state.now))) }
+        ensures noted { IfOk result (λ signature.
+            mind self.new ≡ noted rules true channel.now (record { state = state.now; signature = signature })
+            (mind self.old)) }
         ensures used { OnOk result (times self.new ≡ suc (times self.old)) }
         ensures signer { signer self.new ≡ signer self.old };
 
@@ -131,7 +142,9 @@ pub trait Knowing {
     fn sign_challenge(&mut self, channel: &Name, own: &OwnChallenge) -> Result<Listed<u8>, NoMemory>
         requires room { times self.old < (signing_of (signer self.old)).limit }
         requires wanted { challenge_in (mind self.old) channel.now ≡ Some own.now }
-        ensures signature { IfOk result (λ signature. signature ≡ (signing_of (signer self.old)).made (times self.old) (message_of_challenge (rules.digest channel.now own.now.state) own.now.who)) }
+        ensures signature { IfOk result (λ signature.
+            signature ≡ (signing_of (signer self.old)).made (times self.old)
+            (message_of_challenge (rules.digest channel.now own.now.state) own.now.who)) }
         ensures known { OnOk result (mind self.new ≡ mind self.old) }
         ensures used { OnOk result (times self.new ≡ suc (times self.old)) }
         ensures signer { signer self.new ≡ signer self.old };

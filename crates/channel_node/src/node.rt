@@ -111,7 +111,9 @@ impl<M: Knowing + Drop> Node<M> {
     }
 
     fn handle_now(&mut self, bytes: Listed<u8>) -> Result<Option<NodeRefusal>, NoMemory>
-        ensures ok { IfOk result (λ refusal. (refusal ≡ message_refusal M.tables M.rules self.old.mind (message_of bytes)) × (self.new ≡ handled M.tables M.rules bytes self.old)) }
+        ensures ok { IfOk result (λ refusal.
+            (refusal ≡ message_refusal M.tables M.rules self.old.mind (message_of bytes))
+            × (self.new ≡ handled M.tables M.rules bytes self.old)) }
         ensures err { OnErr result (SameJournal self.old self.new) }
         ensures signer { self.new.signer ≡ self.old.signer }
     {
@@ -144,8 +146,11 @@ impl<M: Knowing + Drop> Node<M> {
 
     /// Puts a command and its event into the journal and among the commands.
     fn take_up(&mut self, step: u32, command: Command) -> Result<Option<NodeRefusal>, NoMemory>
-        ensures refusal { IfOk result (λ refusal. refusal ≡ command_refusal M.tables M.rules (signing_of self.old.signer).limit self.old.used self.old.mind command) }
-        ensures ok { IfOk result (λ refusal. self.new ≡ asked M.rules (signing_of self.old.signer) step command refusal self.old) }
+        ensures refusal { IfOk result (λ refusal.
+            refusal ≡ command_refusal M.tables M.rules
+            (signing_of self.old.signer).limit self.old.used self.old.mind command) }
+        ensures ok { IfOk result (λ refusal.
+            self.new ≡ asked M.rules (signing_of self.old.signer) step command refusal self.old) }
         ensures err { OnErr result (SameJournal self.old self.new) }
         ensures signer { self.new.signer ≡ self.old.signer }
     {
@@ -164,9 +169,13 @@ impl<M: Knowing + Drop> Node<M> {
     /// Signs the state of a payment that isn't refused.
     #[tactic(auto, using(crate::proofs::Wanting::wanted_so))]
     fn pay(&mut self, channel: &Name, asset: u32, amount: u64) -> Result<Sent, NoMemory>
-        requires { command_refusal M.tables M.rules (signing_of self.old.signer).limit self.old.used self.old.mind (Pay channel.now asset amount) ≡ None }
-        ensures sends { IfOk result (λ sent. sent.sends.items ≡ paid_sends M.tables M.rules (signing_of self.old.signer) (Pay channel.now asset amount) self.old) }
-        ensures ok { OnOk result (self.new ≡ paid_if M.tables M.rules (signing_of self.old.signer) None (Pay channel.now asset amount) self.old) }
+        requires { command_refusal M.tables M.rules (signing_of self.old.signer).limit self.old.used self.old.mind
+            (Pay channel.now asset amount) ≡ None }
+        ensures sends { IfOk result (λ sent.
+            sent.sends.items ≡ paid_sends M.tables M.rules (signing_of self.old.signer)
+            (Pay channel.now asset amount) self.old) }
+        ensures ok { OnOk result (self.new
+            ≡ paid_if M.tables M.rules (signing_of self.old.signer) None (Pay channel.now asset amount) self.old) }
         ensures err { OnErr result (SameJournal self.old self.new) }
         ensures signer { self.new.signer ≡ self.old.signer }
     {
@@ -181,10 +190,18 @@ impl<M: Knowing + Drop> Node<M> {
         asset: u32,
         amount: u64,
     ) -> Result<Answered, NoMemory>
-        ensures refusal { IfOk result (λ told. told.refusal ≡ command_refusal M.tables M.rules (signing_of self.old.signer).limit self.old.used self.old.mind (Pay channel asset amount)) }
-        ensures sends { IfOk result (λ told. told.refusal ≡ None → told.sends.items ≡ paid_sends M.tables M.rules (signing_of self.old.signer) (Pay channel asset amount) (asked M.rules (signing_of self.old.signer) step (Pay channel asset amount) None self.old)) }
-        ensures ok { IfOk result (λ told. self.new ≡ paid_if M.tables M.rules (signing_of self.old.signer) told.refusal (Pay channel asset amount) (asked M.rules (signing_of self.old.signer) step (Pay channel asset amount) told.refusal self.old)) }
-        ensures err { OnErr result (IsPartly M.tables M.rules (signing_of self.old.signer) step (Pay channel asset amount) self.old self.new) }
+        ensures refusal { IfOk result (λ told.
+            told.refusal ≡ command_refusal M.tables M.rules
+            (signing_of self.old.signer).limit self.old.used self.old.mind (Pay channel asset amount)) }
+        ensures sends { IfOk result (λ told.
+            told.refusal ≡ None → told.sends.items
+            ≡ paid_sends M.tables M.rules (signing_of self.old.signer) (Pay channel asset amount)
+            (asked M.rules (signing_of self.old.signer) step (Pay channel asset amount) None self.old)) }
+        ensures ok { IfOk result (λ told.
+            self.new ≡ paid_if M.tables M.rules (signing_of self.old.signer) told.refusal (Pay channel asset amount)
+            (asked M.rules (signing_of self.old.signer) step (Pay channel asset amount) told.refusal self.old)) }
+        ensures err { OnErr result (IsPartly M.tables M.rules (signing_of self.old.signer) step
+            (Pay channel asset amount) self.old self.new) }
         ensures signer { self.new.signer ≡ self.old.signer }
     {
         let refusal = self.take_up(
@@ -219,9 +236,12 @@ impl<M: Knowing + Drop> Node<M> {
     }
 
     fn take_up_quietly(&mut self, step: u32, command: Command) -> Result<Answered, NoMemory>
-        ensures refusal { IfOk result (λ told. told.refusal ≡ command_refusal M.tables M.rules (signing_of self.old.signer).limit self.old.used self.old.mind command) }
+        ensures refusal { IfOk result (λ told.
+            told.refusal ≡ command_refusal M.tables M.rules
+            (signing_of self.old.signer).limit self.old.used self.old.mind command) }
         ensures sends { IfOk result (λ told. told.sends.items ≡ []) }
-        ensures ok { IfOk result (λ told. self.new ≡ asked M.rules (signing_of self.old.signer) step command told.refusal self.old) }
+        ensures ok { IfOk result (λ told.
+            self.new ≡ asked M.rules (signing_of self.old.signer) step command told.refusal self.old) }
         ensures err { OnErr result (SameJournal self.old self.new) }
         ensures signer { self.new.signer ≡ self.old.signer }
     {
@@ -230,10 +250,17 @@ impl<M: Knowing + Drop> Node<M> {
     }
 
     fn command_now(&mut self, step: u32, command: Command) -> Result<Answered, NoMemory>
-        ensures refusal { IfOk result (λ told. told.refusal ≡ command_refusal M.tables M.rules (signing_of self.old.signer).limit self.old.used self.old.mind command) }
-        ensures sends { IfOk result (λ told. told.refusal ≡ None → told.sends.items ≡ paid_sends M.tables M.rules (signing_of self.old.signer) command (asked M.rules (signing_of self.old.signer) step command None self.old)) }
-        ensures ok { IfOk result (λ told. self.new ≡ told_to M.tables M.rules (signing_of self.old.signer) step command self.old) }
-        ensures err { OnErr result (IsPartly M.tables M.rules (signing_of self.old.signer) step command self.old self.new) }
+        ensures refusal { IfOk result (λ told.
+            told.refusal ≡ command_refusal M.tables M.rules
+            (signing_of self.old.signer).limit self.old.used self.old.mind command) }
+        ensures sends { IfOk result (λ told.
+            told.refusal ≡ None → told.sends.items
+            ≡ paid_sends M.tables M.rules (signing_of self.old.signer) command
+            (asked M.rules (signing_of self.old.signer) step command None self.old)) }
+        ensures ok { IfOk result (λ told.
+            self.new ≡ told_to M.tables M.rules (signing_of self.old.signer) step command self.old) }
+        ensures err { OnErr result (IsPartly M.tables M.rules
+            (signing_of self.old.signer) step command self.old self.new) }
         ensures signer { self.new.signer ≡ self.old.signer }
     {
         match command {
@@ -286,7 +313,8 @@ impl<M: Knowing + Drop> Node<M> {
 
     /// Takes a command up, or says why not; a payment it signs.
     pub fn command(&mut self, step: u32, command: Command) -> Result<Outs, NodeFault>
-        ensures answer { CommandAnswers M.tables M.rules (signing_of self.old.signer) step command self.old self.new result }
+        ensures answer { CommandAnswers M.tables M.rules
+            (signing_of self.old.signer) step command self.old self.new result }
         ensures keeps { StaysForAll M.tables M.rules self.old self.new }
         ensures signer { self.new.signer ≡ self.old.signer }
         ensures still { self.old.is_lost ≡ true → self.new ≡ self.old }
@@ -322,7 +350,8 @@ impl<M: Knowing + Drop> Node<M> {
     pub fn see(&mut self, entry: &Entry) -> Result<(), NoMemory>
         ensures ok { OnOk result ((self.old.is_lost ≡ false) × (self.new ≡ saw_one M.rules self.old entry.now)) }
         ensures err { OnErr result ((self.new.is_lost ≡ true) × SameJournal self.old self.new) }
-        ensures keeps { (h : List AnEntry) → Legal M.rules h → ComesNext h entry.now self.old → StaysFor M.tables M.rules h self.old self.new }
+        ensures keeps { (h : List AnEntry) → Legal M.rules h → ComesNext h entry.now self.old
+            → StaysFor M.tables M.rules h self.old self.new }
         ensures signer { self.new.signer ≡ self.old.signer }
         ensures still { self.old.is_lost ≡ true → self.new ≡ self.old }
     {
@@ -341,9 +370,11 @@ impl<M: Knowing + Drop> Node<M> {
     /// Signs a state, if it is given one and the key isn't spent.
     fn sign_state(&mut self, channel: &Name, state: Option<State>) -> Result<Sent, NoMemory>
         requires { IfSome state (λ s. IsWanted M.tables M.rules self.old.mind channel.now s) }
-        ensures sends { IfOk result (λ sent. sent.sends.items ≡ sent_if M.rules (signing_of self.old.signer) channel.now state self.old) }
+        ensures sends { IfOk result (λ sent.
+            sent.sends.items ≡ sent_if M.rules (signing_of self.old.signer) channel.now state self.old) }
         ensures spent { IfOk result (λ sent. sent.spent ≡ spent_if (signing_of self.old.signer) state self.old) }
-        ensures ok { OnOk result (self.new ≡ signed_if M.rules (signing_of self.old.signer) channel.now state self.old) }
+        ensures ok { OnOk result (self.new
+            ≡ signed_if M.rules (signing_of self.old.signer) channel.now state self.old) }
         ensures err { OnErr result (SameJournal self.old self.new) }
         ensures signer { self.new.signer ≡ self.old.signer }
     {
@@ -371,9 +402,15 @@ impl<M: Knowing + Drop> Node<M> {
 
     #[tactic(auto, using(crate::proofs::Wanting::wanted_so))]
     fn sign_one(&mut self, channel: &Name) -> Result<Sent, NoMemory>
-        ensures sends { IfOk result (λ sent. sent.sends.items ≡ sent_if M.rules (signing_of self.old.signer) channel.now (signs_in M.tables M.rules None self.old.mind channel.now) self.old) }
-        ensures spent { IfOk result (λ sent. sent.spent ≡ spent_if (signing_of self.old.signer) (signs_in M.tables M.rules None self.old.mind channel.now) self.old) }
-        ensures ok { OnOk result (self.new ≡ signed_if M.rules (signing_of self.old.signer) channel.now (signs_in M.tables M.rules None self.old.mind channel.now) self.old) }
+        ensures sends { IfOk result (λ sent.
+            sent.sends.items ≡ sent_if M.rules (signing_of self.old.signer) channel.now
+            (signs_in M.tables M.rules None self.old.mind channel.now) self.old) }
+        ensures spent { IfOk result (λ sent.
+            sent.spent ≡ spent_if (signing_of self.old.signer)
+            (signs_in M.tables M.rules None self.old.mind channel.now) self.old) }
+        ensures ok { OnOk result (self.new
+            ≡ signed_if M.rules (signing_of self.old.signer) channel.now
+            (signs_in M.tables M.rules None self.old.mind channel.now) self.old) }
         ensures err { OnErr result (SameJournal self.old self.new) }
         ensures signer { self.new.signer ≡ self.old.signer }
     {
@@ -384,10 +421,13 @@ impl<M: Knowing + Drop> Node<M> {
     fn sign_all(&mut self, all: &mut Sent, channels: &[Name]) -> Result<(), NoMemory>
         requires { self.old.is_lost ≡ false }
         ensures kept { OnOk result (self.new.is_lost ≡ false) }
-        ensures sends { OnOk result (all.new.sends.items ≡ all.old.sends.items ++ sent M.tables M.rules (signing_of self.old.signer) channels.now self.old) }
-        ensures spent { OnOk result (all.new.spent ≡ option_or all.old.spent (spent M.tables M.rules (signing_of self.old.signer) channels.now self.old)) }
+        ensures sends { OnOk result (all.new.sends.items ≡ all.old.sends.items
+            ++ sent M.tables M.rules (signing_of self.old.signer) channels.now self.old) }
+        ensures spent { OnOk result (all.new.spent
+            ≡ option_or all.old.spent (spent M.tables M.rules (signing_of self.old.signer) channels.now self.old)) }
         ensures stands { OnOk result (StaysForAll M.tables M.rules self.old self.new) }
-        ensures ok { OnOk result (self.new ≡ ticked M.tables M.rules (signing_of self.old.signer) channels.now self.old) }
+        ensures ok { OnOk result (self.new
+            ≡ ticked M.tables M.rules (signing_of self.old.signer) channels.now self.old) }
         ensures err { OnErr result (StandsPartly M.tables M.rules (signing_of self.old.signer) self.old self.new) }
         ensures signer { self.new.signer ≡ self.old.signer }
     {
@@ -432,9 +472,11 @@ impl<M: Knowing + Drop> Node<M> {
         own: Option<OwnChallenge>,
     ) -> Result<Challenged, NoMemory>
         requires { IfSome own (λ c. challenge_in self.old.mind channel.now ≡ Some c) }
-        ensures calls { IfOk result (λ given. given.calls.items ≡ challenge_call M.rules (signing_of self.old.signer) channel.now own self.old) }
+        ensures calls { IfOk result (λ given.
+            given.calls.items ≡ challenge_call M.rules (signing_of self.old.signer) channel.now own self.old) }
         ensures spent { IfOk result (λ given. given.spent ≡ spent_if (signing_of self.old.signer) own self.old) }
-        ensures ok { OnOk result (self.new ≡ challenged_if M.rules (signing_of self.old.signer) channel.now own self.old) }
+        ensures ok { OnOk result (self.new
+            ≡ challenged_if M.rules (signing_of self.old.signer) channel.now own self.old) }
         ensures err { OnErr result (SameJournal self.old self.new) }
         ensures signer { self.new.signer ≡ self.old.signer }
     {
@@ -459,9 +501,14 @@ impl<M: Knowing + Drop> Node<M> {
 
     #[tactic(auto, using(crate::proofs::Wanting::own_so))]
     fn challenge_one(&mut self, channel: &Name) -> Result<Challenged, NoMemory>
-        ensures calls { IfOk result (λ given. given.calls.items ≡ challenge_call M.rules (signing_of self.old.signer) channel.now (challenge_in self.old.mind channel.now) self.old) }
-        ensures spent { IfOk result (λ given. given.spent ≡ spent_if (signing_of self.old.signer) (challenge_in self.old.mind channel.now) self.old) }
-        ensures ok { OnOk result (self.new ≡ challenged_if M.rules (signing_of self.old.signer) channel.now (challenge_in self.old.mind channel.now) self.old) }
+        ensures calls { IfOk result (λ given.
+            given.calls.items ≡ challenge_call M.rules (signing_of self.old.signer) channel.now
+            (challenge_in self.old.mind channel.now) self.old) }
+        ensures spent { IfOk result (λ given.
+            given.spent ≡ spent_if (signing_of self.old.signer) (challenge_in self.old.mind channel.now) self.old) }
+        ensures ok { OnOk result (self.new
+            ≡ challenged_if M.rules (signing_of self.old.signer) channel.now
+            (challenge_in self.old.mind channel.now) self.old) }
         ensures err { OnErr result (SameJournal self.old self.new) }
         ensures signer { self.new.signer ≡ self.old.signer }
     {
@@ -472,10 +519,13 @@ impl<M: Knowing + Drop> Node<M> {
     fn challenge_all(&mut self, all: &mut Challenged, channels: &[Name]) -> Result<(), NoMemory>
         requires { self.old.is_lost ≡ false }
         ensures kept { OnOk result (self.new.is_lost ≡ false) }
-        ensures calls { OnOk result (all.new.calls.items ≡ all.old.calls.items ++ challenge_calls M.rules (signing_of self.old.signer) channels.now self.old) }
-        ensures spent { OnOk result (all.new.spent ≡ option_or all.old.spent (spent_challenging M.rules (signing_of self.old.signer) channels.now self.old)) }
+        ensures calls { OnOk result (all.new.calls.items ≡ all.old.calls.items
+            ++ challenge_calls M.rules (signing_of self.old.signer) channels.now self.old) }
+        ensures spent { OnOk result (all.new.spent
+            ≡ option_or all.old.spent (spent_challenging M.rules (signing_of self.old.signer) channels.now self.old)) }
         ensures stands { OnOk result (StaysForAll M.tables M.rules self.old self.new) }
-        ensures ok { OnOk result (self.new ≡ challenged_all M.rules (signing_of self.old.signer) channels.now self.old) }
+        ensures ok { OnOk result (self.new
+            ≡ challenged_all M.rules (signing_of self.old.signer) channels.now self.old) }
         ensures err { OnErr result (StandsPartly M.tables M.rules (signing_of self.old.signer) self.old self.new) }
         ensures signer { self.new.signer ≡ self.old.signer }
     {
@@ -555,7 +605,8 @@ impl<M: Knowing + Drop> Node<M> {
     pub fn tick(&mut self) -> Result<Outs, NoMemory>
         ensures gives { IfOk result (λ outs. outs ≡ tick_gives M.tables M.rules (signing_of self.old.signer) self.old) }
         ensures few { IfOk result (λ outs. length outs.calls ≤ 16384) }
-        ensures ok { OnOk result ((self.old.is_lost ≡ false) × (self.new ≡ after_tick M.tables M.rules (signing_of self.old.signer) self.old)) }
+        ensures ok { OnOk result ((self.old.is_lost ≡ false)
+            × (self.new ≡ after_tick M.tables M.rules (signing_of self.old.signer) self.old)) }
         ensures err { OnErr result (self.new.is_lost ≡ true) }
         ensures keeps { StaysForAll M.tables M.rules self.old self.new }
         ensures signer { self.new.signer ≡ self.old.signer }
@@ -591,7 +642,8 @@ impl<M: Knowing + Drop> Node<M> {
         ensures err { OnErr result ((self.new.is_lost ≡ true) × SameJournal self.old self.new) }
 
         // Where these are the calls of a look by the chains that it holds.
-        ensures keeps { (h : List AnEntry) → Legal M.rules h → Looks M.rules h seen calls self.old → StaysFor M.tables M.rules h self.old self.new }
+        ensures keeps { (h : List AnEntry) → Legal M.rules h → Looks M.rules h seen calls self.old
+            → StaysFor M.tables M.rules h self.old self.new }
         ensures signer { self.new.signer ≡ self.old.signer }
         ensures still { self.old.is_lost ≡ true → self.new ≡ self.old }
     {

@@ -120,7 +120,8 @@ impl Child {
 
 impl Child {
     fn behind_own_up<'b>(&self, bytes: &'b [u8], items: &[Item]) -> Option<&'b [u8]>
-        ensures { option_copied result ≡ spells.behind_shape (Allocation (outcomes.items_up self.now items.now)) bytes.now }
+        ensures { option_copied result
+            ≡ spells.behind_shape (Allocation (outcomes.items_up self.now items.now)) bytes.now }
     {
         let rest = behind(bytes, &[1, byte_of(items.len() + 1)])?;
         self.behind_up(rest, items)
@@ -143,7 +144,8 @@ impl Child {
     }
 
     fn behind_own_down<'b>(&self, bytes: &'b [u8], items: &[Item]) -> Option<&'b [u8]>
-        ensures { option_copied result ≡ spells.behind_shape (Allocation (outcomes.items_down self.now items.now)) bytes.now }
+        ensures { option_copied result
+            ≡ spells.behind_shape (Allocation (outcomes.items_down self.now items.now)) bytes.now }
     {
         let rest = behind(bytes, &[1, byte_of(self.left(items))])?;
         self.behind_down(rest, items)
@@ -151,7 +153,12 @@ impl Child {
 
     #[tactic(auto, unfolding(crate::specs::Behind::behind_asset))]
     fn behind_own<'b>(&self, is_up: bool, bytes: &'b [u8], items: &[Item]) -> Option<&'b [u8]>
-        ensures { option_copied result ≡ spells.behind_asset (record { asset = self.now.asset; shape = Allocation (outcomes.changed_items is_up self.now items.now) }) bytes.now }
+        ensures { option_copied result
+            ≡ spells.behind_asset (record {
+              asset = self.now.asset;
+              shape = Allocation
+                  (outcomes.changed_items is_up self.now items.now);
+            }) bytes.now }
     {
         let rest = behind(bytes, &self.asset.to_be_bytes())?;
         if is_up {
@@ -169,7 +176,9 @@ impl Child {
         items: &[Item],
         o: &AssetOutcome,
     ) -> Option<&'b [u8]>
-        ensures { option_copied result ≡ spells.behind_asset (outcomes.with_items_at self.now.asset (outcomes.changed_items is_up self.now items.now) o.now) bytes.now }
+        ensures { option_copied result
+            ≡ spells.behind_asset (outcomes.with_items_at self.now.asset
+            (outcomes.changed_items is_up self.now items.now) o.now) bytes.now }
     {
         if o.asset == self.asset {
             self.behind_own(is_up, bytes, items)
@@ -185,7 +194,9 @@ impl Child {
         items: &[Item],
         assets: &[AssetOutcome],
     ) -> Option<&'b [u8]>
-        ensures { option_copied result ≡ spells.behind_assets (outcomes.with_items self.now.asset (outcomes.changed_items is_up self.now items.now) assets.now) bytes.now }
+        ensures { option_copied result
+            ≡ spells.behind_assets (outcomes.with_items self.now.asset
+            (outcomes.changed_items is_up self.now items.now) assets.now) bytes.now }
     {
         match assets {
             [] => Some(bytes),
@@ -274,7 +285,8 @@ impl Child {
         items: &[Item],
         o: &AssetOutcome,
     ) -> Result<AssetOutcome, NoMemory>
-        ensures { IfOk result (λ x. x ≡ outcomes.with_items_at self.now.asset (outcomes.changed_items is_up self.now items.now) o.now) }
+        ensures { IfOk result (λ x. x ≡ outcomes.with_items_at self.now.asset
+            (outcomes.changed_items is_up self.now items.now) o.now) }
     {
         if o.asset == self.asset {
             let items = self.items_changed(alloc, is_up, items)?;

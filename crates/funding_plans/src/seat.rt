@@ -374,7 +374,8 @@ impl<'a> SeatView<'a> {
     }
 
     fn takes_ballot(&self, target: &Option<Aim>, state: &State) -> bool
-        ensures { result ≡ seats.takes_ballot (seats.is_spelled target.now) (ballot_of (length self.now.people) state.now.app_bytes) }
+        ensures { result ≡ seats.takes_ballot (seats.is_spelled target.now)
+            (ballot_of (length self.now.people) state.now.app_bytes) }
     {
         match votes_of(self.people.len(), state.app_bytes()) {
             None => false,

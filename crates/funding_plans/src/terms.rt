@@ -20,7 +20,8 @@ pub struct Terms {
 impl Terms {
     /// The total for the payment channel, and the same for the intermediary.
     pub fn together(&self) -> [Item; 2]
-        ensures { result ≡ targets.pays (Channel self.now.channel) self.now.total ∷ targets.pays (Person self.now.middle) self.now.total ∷ [] }
+        ensures { result ≡ targets.pays (Channel self.now.channel) self.now.total
+            ∷ targets.pays (Person self.now.middle) self.now.total ∷ [] }
     {
         [
             Item {
@@ -36,7 +37,8 @@ impl Terms {
 
     /// Two amounts for the ends, and the total for the intermediary.
     pub fn apart(&self, a: u64, b: u64) -> [Item; 3]
-        ensures { result ≡ targets.pays (Person self.now.first) a ∷ targets.pays (Person self.now.second) b ∷ targets.pays (Person self.now.middle) self.now.total ∷ [] }
+        ensures { result ≡ targets.pays (Person self.now.first) a ∷ targets.pays (Person self.now.second) b
+            ∷ targets.pays (Person self.now.middle) self.now.total ∷ [] }
     {
         [
             Item {

@@ -11,5 +11,6 @@ use network::Party;
 /// nodes of its people do: no name stands for nothing, no state isn't valid, and no key is spent. Only a state that a step was
 /// to catch of a node may be missing.
 pub fn every_passed_step_happens<P: Party>()
-    ensures { (race : Bool) (steps : List Step) → AreChecked (start race) steps → All HasOutcomes steps → EachHappens P.ways steps }
+    ensures { (race : Bool) (steps : List Step) → AreChecked (start race) steps → All HasOutcomes steps
+        → EachHappens P.ways steps }
 {}

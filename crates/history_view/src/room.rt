@@ -39,7 +39,8 @@ fn held_after(view: &WorldView, from: Option<Name>, channel: &Name, asset: u32, 
 
 fn has_room(view: &WorldView, flow: Flow) -> bool
     ensures { IsTrue result
-        ↔ HasRoom flow.to flow.asset flow.amount (views_gave flow.from flow.asset flow.amount view.entry.now.channels) view.entry.now.paid }
+        ↔ HasRoom flow.to flow.asset flow.amount
+        (views_gave flow.from flow.asset flow.amount view.entry.now.channels) view.entry.now.paid }
 {
     match flow.to {
         Dest::Person(person) => flow.amount <= u64::MAX - paid_amount(view, &person, flow.asset),

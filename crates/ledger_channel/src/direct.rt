@@ -282,7 +282,8 @@ impl<'a> DirectView<'a> {
     }
 
     fn post(&self, alloc: Global) -> Result<Option<State>, NoMemory>
-        ensures { IfOk result (λ o. o ≡ seats.repeats (roots.people self.now) (2 * roots.people self.now) self.now.channel) }
+        ensures { IfOk result (λ o. o ≡ seats.repeats (roots.people self.now)
+            (2 * roots.people self.now) self.now.channel) }
     {
         let people = self.people();
         self.channel.repeats(alloc, people, 2 * people)

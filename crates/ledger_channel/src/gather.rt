@@ -69,7 +69,8 @@ fn chain_of<'a>(held: Option<&'a HeldChain>) -> Option<&'a Chain>
 }
 
 fn direct_with<'a>(facts: &Facts<'a>, name: &Name, goal: &'a Goal) -> Option<DirectView<'a>>
-    ensures { result ≡ told.direct_of facts.now name.now (seat_with facts.now name.now goal.now.opening) (Some goal.now) }
+    ensures { result ≡ told.direct_of facts.now name.now (seat_with facts.now name.now goal.now.opening)
+        (Some goal.now) }
 {
     let channel = seat_with(facts, name, Aim::make(AimKind::Given(&goal.opening)))?;
     let held = chain_in(facts.chains, name);

@@ -117,7 +117,8 @@ impl<P: Party> Member<P> {
     ) -> Result<Vec<Call>, NoMemory>
         requires { length history.now < 2 ^ 32 }
         ensures looks { OnOk result (self.new ≡ looks P.ways history.now place self.old) }
-        ensures calls { IfOk result (λ calls. calls.items ≡ calls_if P.ways history.now self.old (slice_get self.old.watchers place)) }
+        ensures calls { IfOk result (λ calls.
+            calls.items ≡ calls_if P.ways history.now self.old (slice_get self.old.watchers place)) }
         ensures few { IfOk result (λ calls. length calls.items ≤ 64) }
     {
         if place as usize >= self.watchers.len() {

@@ -59,7 +59,8 @@ pub trait Party: Drop {
         ensures saw { OnOk result (self.new ≡ ways.saw entries.now self.old) }
         ensures loses { OnErr result (lost self.new ≡ true) }
         ensures stays_lost { lost self.old ≡ true → IsErr result × (self.new ≡ self.old) }
-        ensures keeps { (h : List AnEntry) → Legal real h → ComeNext h entries.now (ways.seen self.old) → stands h self.old → stands h self.new };
+        ensures keeps { (h : List AnEntry) → Legal real h → ComeNext h entries.now (ways.seen self.old)
+            → stands h self.old → stands h self.new };
 
     fn command(&mut self, step: u32, command: Command) -> Result<Outs, NodeFault>
         ensures commanded { result ≢ Err faults.NoMemory → self.new ≡ ways.commanded step command self.old }
@@ -99,7 +100,8 @@ pub trait Party: Drop {
         ensures watched { IfOk result (λ calls. self.new ≡ ways.watched lookout.new.seen place calls.items self.old) }
         ensures loses { OnErr result (lost self.new ≡ true) }
         ensures stays_lost { lost self.old ≡ true → IsErr result × (self.new ≡ self.old) }
-        ensures keeps { (h : List AnEntry) → Legal real h → HasLooked real h (ways.seen self.old) lookout.old entries.now → stands h self.old → stands h self.new };
+        ensures keeps { (h : List AnEntry) → Legal real h
+            → HasLooked real h (ways.seen self.old) lookout.old entries.now → stands h self.old → stands h self.new };
 
     // What it stands for grows with the history; and over a history of values its journal is honest.
     ghost grows: { (h : List AnEntry) (e : AnEntry) (p : Self) → Legal real (e ∷ h) → stands h p → stands (e ∷ h) p };

@@ -124,7 +124,8 @@ impl Watcher {
     pub fn look(&mut self, entries: &[Entry], chains: &[HeldChain]) -> Result<Vec<Call>, NoMemory>
         // Over every legal history that goes on from one that it stands for.
         ensures answer { (r : Rules) (h : List AnEntry) → NamesChannels r → StandsFor r h self.old
-            → Legal r (history_after h entries.now) → IfOk result (λ calls. calls.items ≡ looks r (history_after h entries.now) chains.now) }
+            → Legal r (history_after h entries.now) → IfOk result (λ calls.
+            calls.items ≡ looks r (history_after h entries.now) chains.now) }
         ensures stands { (r : Rules) (h : List AnEntry) → NamesChannels r → StandsFor r h self.old
             → Legal r (history_after h entries.now) → OnOk result (StandsFor r (history_after h entries.now) self.new) }
 

@@ -73,8 +73,10 @@ impl Mind {
     /// The next signature.
     fn signature(&mut self, message: &[u8]) -> Result<Listed<u8>, NoMemory>
         requires { self.old.signer.used < 2 ^ self.old.signer.h }
-        ensures made { IfOk result (λ bytes. bytes ≡ made_bytes self.old.signer.seed self.old.signer.id self.old.signer.h self.old.signer.used message.now) }
-        ensures verifies { IfOk result (λ bytes. real.verifies (key_of (made_of self.old.signer)) message.now bytes ≡ true) }
+        ensures made { IfOk result (λ bytes.
+            bytes ≡ made_bytes self.old.signer.seed self.old.signer.id self.old.signer.h self.old.signer.used message.now) }
+        ensures verifies { IfOk result (λ bytes.
+            real.verifies (key_of (made_of self.old.signer)) message.now bytes ≡ true) }
         ensures used { OnOk result (self.new.signer.used ≡ self.old.signer.used + 1) }
         ensures known { self.new.known ≡ self.old.known }
         ensures signer { made_of self.new.signer ≡ made_of self.old.signer }

@@ -164,7 +164,8 @@ impl Node {
     /// What is to be noted of a command to exit, where that wasn't noted before: what its person can get. The command itself
     /// doesn't change that, and after it memory can't fail the note.
     fn noted_for(&self, command: &Command) -> Result<Option<Listed<(u32, u128)>>, NoMemory>
-        ensures { IfOk result (λ noted. noted ≡ note_if (leaves command.now) self.now.exits (shares_known self.now.node.mind)) }
+        ensures { IfOk result (λ noted.
+            noted ≡ note_if (leaves command.now) self.now.exits (shares_known self.now.node.mind)) }
     {
         if is_exit(command) {
             if self.exits.is_none() {

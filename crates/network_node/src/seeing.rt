@@ -46,7 +46,8 @@ fn has_room(view: &WorldView, op: &Op) -> bool
 /// Whether the entry is the next one, and what it pays and the answer that it gives have room.
 pub(crate) fn can_see(view: &WorldView, entry: &Entry) -> bool
     ensures enough { IsTrue result → CanSee entry.now view.entry.now }
-    ensures exact { IsTrue result ↔ (CanFollow name_of entry.now view.entry.now × FewIn view.entry.now entry.now.op (fixed_of entry.now.op)) }
+    ensures exact { IsTrue result ↔ (CanFollow name_of entry.now view.entry.now
+        × FewIn view.entry.now entry.now.op (fixed_of entry.now.op)) }
 {
     can_follow(view, entry) && has_room(view, &entry.op)
 }

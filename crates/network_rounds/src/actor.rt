@@ -34,5 +34,6 @@ pub trait Actor: Drop {
     /// What it does, given what it has seen. A call that it enters keeps the limits.
     fn act(&mut self, seen: &Notes) -> Act
         ensures limits { IsWithinLimits result }
-        ensures told { tells self.old ≡ true → (tells self.new ≡ true) × (told self.new ≡ told self.old ++ result ∷ []) };
+        ensures told { tells self.old ≡ true → (tells self.new ≡ true)
+            × (told self.new ≡ told self.old ++ result ∷ []) };
 }

@@ -43,7 +43,8 @@ pub(crate) fn enter<R: Threads + Wait + Sync>(
 ) -> Result<(), RoundFault>
     requires { seat.old.book ≡ book.now }
     ensures book { seat.new.book ≡ seat.old.book }
-    ensures works { OnOk result ((seen : ℕ) → seen ≤ length seat.old.seen → Works (given_at by seen (call ∷ [])) seat.old seat.new) }
+    ensures works { OnOk result ((seen : ℕ) → seen ≤ length seat.old.seen
+        → Works (given_at by seen (call ∷ [])) seat.old seat.new) }
 {
     let Ok(checked) = CheckedOp::make(rt, alloc, Op::Call(call)) else {
         return Err(RoundFault::NoMemory);
@@ -65,7 +66,8 @@ pub(crate) fn enter_all<R: Threads + Wait + Sync>(
 ) -> Result<(), RoundFault>
     requires { seat.old.book ≡ book.now }
     ensures book { OnOk result (seat.new.book ≡ seat.old.book) }
-    ensures works { OnOk result ((seen : ℕ) → seen ≤ length seat.old.seen → Works (given_at by seen calls.items) seat.old seat.new) }
+    ensures works { OnOk result ((seen : ℕ) → seen ≤ length seat.old.seen
+        → Works (given_at by seen calls.items) seat.old seat.new) }
 {
     while !calls.is_empty() {
         let call = calls.remove(0);

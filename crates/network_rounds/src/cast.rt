@@ -36,7 +36,9 @@ fn shown<R: Wait>(
     ensures book { OnOk result (seat.new.book ≡ seat.old.book) }
     ensures works { OnOk result (Works [] seat.old seat.new) }
     ensures notes { IfOk result (λ x. x.notes.entries.items ≡ seat.new.seen) }
-    ensures same { IfOk result (λ x. (x.number ≡ cast.number) × (x.done ≡ cast.done) × (tells x.actor ≡ tells cast.actor) × (told x.actor ≡ told cast.actor)) }
+    ensures same { IfOk result (λ x.
+        (x.number ≡ cast.number) × (x.done ≡ cast.done) × (tells x.actor ≡ tells cast.actor)
+        × (told x.actor ≡ told cast.actor)) }
 {
     let entries = look(rt, alloc, book, seat, 0)?;
     cast.notes = Notes { entries };
@@ -45,8 +47,10 @@ fn shown<R: Wait>(
 
 // It answers.
 fn asked(mut cast: Cast) -> (Cast, Act)
-    ensures same { (result.0.number ≡ cast.number) × (result.0.done ≡ cast.done) × (result.0.notes.entries.items ≡ cast.notes.entries.items) }
-    ensures told { tells cast.actor ≡ true → (tells result.0.actor ≡ true) × (told result.0.actor ≡ told cast.actor ++ result.1 ∷ []) }
+    ensures same { (result.0.number ≡ cast.number) × (result.0.done ≡ cast.done)
+        × (result.0.notes.entries.items ≡ cast.notes.entries.items) }
+    ensures told { tells cast.actor ≡ true → (tells result.0.actor ≡ true)
+        × (told result.0.actor ≡ told cast.actor ++ result.1 ∷ []) }
 {
     let act = cast.actor.act(&cast.notes);
     (cast, act)
@@ -63,7 +67,9 @@ pub(crate) fn play<R: Threads + Wait + Sync>(
     requires awake { cast.done ≡ false }
     requires book { seat.old.book ≡ book.now }
     ensures book { OnOk result (seat.new.book ≡ seat.old.book) }
-    ensures plays { IfOk result (λ r. Working (Asks (player_of (λ c. tells c.actor) (λ c. told c.actor) cast) (player_of (λ c. tells c.actor) (λ c. told c.actor) r.0) (posted r.1)) seat.old seat.new) }
+    ensures plays { IfOk result (λ r.
+        Working (Asks (player_of (λ c. tells c.actor) (λ c. told c.actor) cast) (player_of (λ c. tells c.actor) (λ c.
+        told c.actor) r.0) (posted r.1)) seat.old seat.new) }
 {
     let cast = shown(rt, alloc, book, cast, seat)?;
     let (mut cast, act) = asked(cast);

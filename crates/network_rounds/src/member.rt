@@ -53,7 +53,8 @@ pub(crate) fn act<R: Threads + Wait + Sync, P: Party>(
     requires book { seat.old.book ≡ book.now }
     requires followed { P.ways.seen member.old.node ≤ length seat.old.seen }
     ensures book { OnOk result (seat.new.book ≡ seat.old.book) }
-    ensures acts { IfOk result (λ sent. Working (NodeActs P.ways post.now member.old member.new sent.items) seat.old seat.new) }
+    ensures acts { IfOk result (λ sent.
+        Working (NodeActs P.ways post.now member.old member.new sent.items) seat.old seat.new) }
 {
     let who = person_name(member.node.key());
     let from = member.node.seen();

@@ -17,7 +17,8 @@ pub(crate) fn half(
     seat: &mut Seat<Adjudicator>,
 ) -> Result<Seat<Adjudicator>, NoMemory>
     requires { seat.old.book ≡ book.now }
-    ensures { IfOk result (λ s. (s ≡ fresh_half seat.old) × (seat.new ≡ halved seat.old) × (seat.old.part % 2 ≡ 0) × IsCaller seat.new) }
+    ensures { IfOk result (λ s. (s ≡ fresh_half seat.old) × (seat.new ≡ halved seat.old) × (seat.old.part % 2 ≡ 0)
+        × IsCaller seat.new) }
 {
     match book.split(seat) {
         Ok(other) => Ok(other),
@@ -58,7 +59,8 @@ pub(crate) fn collect<P: Party>(
     mut results: Vec<Result<Job<P>, RoundFault>>,
 ) -> Result<Vec<Worker<P>>, RoundFault>
     requires seat { seat.old.book ≡ book.now }
-    requires results { (i : ℕ) (d : _) → i < vec_len results → IfOk (slice_index_or results.items i d) (λ job. job.seat.book ≡ book.now) }
+    requires results { (i : ℕ) (d : _) → i < vec_len results → IfOk (slice_index_or results.items i d) (λ job.
+        job.seat.book ≡ book.now) }
     ensures book { OnOk result (seat.new.book ≡ seat.old.book) }
     ensures collects { IfOk result (λ workers. Collects results.items workers.items seat.old seat.new) }
 {

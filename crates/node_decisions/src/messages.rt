@@ -73,7 +73,8 @@ fn not_open_now(known: &Known) -> Option<NodeRefusal>
 /// Why a state of a channel is refused.
 #[tactic(auto, using(crate::proofs::Told::unknown, crate::proofs::Told::closed))]
 fn state_refusal(known: &Known, channel: &Name, signed: &Signed) -> Option<NodeRefusal>
-    ensures { result ≡ refusing.state_refusal stages real known.now channel.now signed.now (kept_of channel.now known.now.kept) }
+    ensures { result ≡ refusing.state_refusal stages real known.now channel.now signed.now
+        (kept_of channel.now known.now.kept) }
 {
     let Some(_) = known.store().kept(channel) else {
         return Some(NodeRefusal::UnknownChannel);
@@ -103,7 +104,8 @@ pub fn message_refusal(
 /// Notes the state of a message, or says why not.
 #[tactic(auto, using(crate::proofs::Told::can_note))]
 pub fn handle(known: &mut Known, bytes: &[u8]) -> Result<Option<NodeRefusal>, NoMemory>
-    ensures refusal { IfOk result (λ refusal. refusal ≡ refusing.message_refusal stages real known.old (message_of bytes.now)) }
+    ensures refusal { IfOk result (λ refusal.
+        refusal ≡ refusing.message_refusal stages real known.old (message_of bytes.now)) }
     ensures noted { IfOk result (λ refusal. known.new ≡ did real (deeds.Handled bytes.now refusal) None known.old) }
     ensures key { known.new.key ≡ known.old.key }
 {

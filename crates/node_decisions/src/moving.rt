@@ -38,14 +38,16 @@ fn sum_of(amount: u64, more: u64) -> Result<u64, ByteFault>
 impl Payment {
     /// Whether the amount is there, and somebody to get it.
     pub(crate) fn is_covered(&self, items: &[Item]) -> bool
-        ensures { result ≡ (nat_le self.now.amount (amounts.amt items.now self.now.from) && (self.now.amount == 0 || amounts.has items.now self.now.to)) }
+        ensures { result ≡ (nat_le self.now.amount (amounts.amt items.now self.now.from) &&
+            (self.now.amount == 0 || amounts.has items.now self.now.to)) }
     {
         self.amount <= amt(items, &self.from) && (self.amount == 0 || has(items, &self.to))
     }
 
     fn item(&self, item: &Item) -> Result<Item, ByteFault>
         ensures value { IfOk result (λ i. i ≡ refusing.moved_item self.now.from self.now.to self.now.amount item.now) }
-        ensures large { OnErr result (2 ^ 64 ≤ (refusing.moved_item self.now.from self.now.to self.now.amount item.now).amount) }
+        ensures large { OnErr result (2 ^ 64
+            ≤ (refusing.moved_item self.now.from self.now.to self.now.amount item.now).amount) }
     {
         if item.to.is(&self.from) {
             return Ok(Item {
@@ -65,8 +67,10 @@ impl Payment {
 
     #[tactic(auto, using(crate::proofs::Moved::first_within, crate::proofs::Moved::others_within))]
     fn put_items(&self, out: &mut Vec<Item>, items: &[Item]) -> Result<(), ByteFault>
-        ensures value { OnOk result (out.new.items ≡ out.old.items ++ map (refusing.moved_item self.now.from self.now.to self.now.amount) items.now) }
-        ensures large { OnlyMemory (total (map (refusing.moved_item self.now.from self.now.to self.now.amount) items.now) < 2 ^ 64) result }
+        ensures value { OnOk result (out.new.items ≡ out.old.items
+            ++ map (refusing.moved_item self.now.from self.now.to self.now.amount) items.now) }
+        ensures large { OnlyMemory (total
+            (map (refusing.moved_item self.now.from self.now.to self.now.amount) items.now) < 2 ^ 64) result }
     {
         match items {
             [] => Ok(()),
@@ -79,8 +83,10 @@ impl Payment {
     }
 
     fn shape(&self, alloc: Global, shape: &Shape) -> Result<Shape, ByteFault>
-        ensures value { IfOk result (λ s. s ≡ refusing.moved_shape self.now.from self.now.to self.now.amount shape.now) }
-        ensures large { OnlyMemory (total_of (refusing.moved_shape self.now.from self.now.to self.now.amount shape.now) < 2 ^ 64) result }
+        ensures value { IfOk result (λ s.
+            s ≡ refusing.moved_shape self.now.from self.now.to self.now.amount shape.now) }
+        ensures large { OnlyMemory (total_of
+            (refusing.moved_shape self.now.from self.now.to self.now.amount shape.now) < 2 ^ 64) result }
     {
         match shape {
             Shape::Allocation(items) => {
@@ -96,8 +102,11 @@ impl Payment {
     }
 
     fn asset_outcome(&self, alloc: Global, o: &AssetOutcome) -> Result<AssetOutcome, ByteFault>
-        ensures value { IfOk result (λ moved. moved ≡ refusing.moved_asset self.now.from self.now.to self.now.asset self.now.amount o.now) }
-        ensures large { OnlyMemory (total_of (refusing.moved_asset self.now.from self.now.to self.now.asset self.now.amount o.now).shape < 2 ^ 64) result }
+        ensures value { IfOk result (λ moved.
+            moved ≡ refusing.moved_asset self.now.from self.now.to self.now.asset self.now.amount o.now) }
+        ensures large { OnlyMemory (total_of
+            (refusing.moved_asset self.now.from self.now.to self.now.asset self.now.amount o.now).shape
+            < 2 ^ 64) result }
     {
         if o.asset == self.asset {
             let shape = self.shape(alloc, &o.shape)?;
@@ -117,8 +126,10 @@ impl Payment {
         out: &mut Vec<AssetOutcome>,
         assets: &[AssetOutcome],
     ) -> Result<(), ByteFault>
-        ensures value { OnOk result (out.new.items ≡ out.old.items ++ refusing.moved self.now.from self.now.to self.now.asset self.now.amount assets.now) }
-        ensures large { OnlyMemory (AreWithin (refusing.moved self.now.from self.now.to self.now.asset self.now.amount assets.now)) result }
+        ensures value { OnOk result (out.new.items ≡ out.old.items
+            ++ refusing.moved self.now.from self.now.to self.now.asset self.now.amount assets.now) }
+        ensures large { OnlyMemory (AreWithin
+            (refusing.moved self.now.from self.now.to self.now.asset self.now.amount assets.now)) result }
     {
         match assets {
             [] => Ok(()),
@@ -136,8 +147,12 @@ impl Payment {
         alloc: Global,
         outcome: Option<&Outcome>,
     ) -> Result<Vec<AssetOutcome>, ByteFault>
-        ensures value { IfOk result (λ v. v.items ≡ refusing.moved self.now.from self.now.to self.now.asset self.now.amount (or_nothing (option_copied outcome.entry))) }
-        ensures large { OnlyMemory (AreWithin (refusing.moved self.now.from self.now.to self.now.asset self.now.amount (or_nothing (option_copied outcome.entry)))) result }
+        ensures value { IfOk result (λ v.
+            v.items ≡ refusing.moved self.now.from self.now.to self.now.asset self.now.amount
+            (or_nothing (option_copied outcome.entry))) }
+        ensures large { OnlyMemory (AreWithin
+            (refusing.moved self.now.from self.now.to self.now.asset self.now.amount
+            (or_nothing (option_copied outcome.entry)))) result }
     {
         let mut moved = Vec::new(alloc);
         if let Some(outcome) = outcome {
@@ -174,8 +189,13 @@ pub fn state_of(
     payment: &Payment,
     outcome: Option<&Outcome>,
 ) -> Result<State, ByteFault>
-    ensures value { IfOk result (λ s. s ≡ state_with turn false (refusing.moved payment.now.from payment.now.to payment.now.asset payment.now.amount (or_nothing (option_copied outcome.entry))) []) }
-    ensures large { turn < 2 ^ 48 → OnlyMemory (payment.now.amount ≤ amounts.amt (shapes.items_in payment.now.asset (or_nothing (option_copied outcome.entry))) payment.now.from) result }
+    ensures value { IfOk result (λ s.
+        s ≡ state_with turn false
+        (refusing.moved payment.now.from payment.now.to payment.now.asset payment.now.amount
+        (or_nothing (option_copied outcome.entry))) []) }
+    ensures large { turn < 2 ^ 48 → OnlyMemory (payment.now.amount
+        ≤ amounts.amt (shapes.items_in payment.now.asset
+        (or_nothing (option_copied outcome.entry))) payment.now.from) result }
 {
     valid_of(outcome);
     let assets = payment.assets(alloc, outcome)?;

@@ -92,7 +92,9 @@ fn paid_state(
 ) -> Result<State, ByteFault>
     requires { k.now.me < people k.now.chain.fixed }
     ensures value { IfOk result (λ s. s ≡ refusing.paying known.now channel.now asset amount k.now) }
-    ensures large { next_of k.now < 2 ^ 48 → OnlyMemory (amount ≤ amounts.amt (items_in asset (refusing.latest_outcome known.now channel.now k.now)) (refusing.own k.now)) result }
+    ensures large { next_of k.now < 2 ^ 48
+        → OnlyMemory (amount ≤ amounts.amt (items_in asset (refusing.latest_outcome known.now channel.now k.now))
+        (refusing.own k.now)) result }
 {
     let payment = payment_of(k, asset, amount);
     let outcome = latest_outcome(known, channel, k);
@@ -149,7 +151,8 @@ fn refusal_in(
     amount: u64,
     k: &Kept,
 ) -> Result<Option<NodeRefusal>, NoMemory>
-    ensures { IfOk result (λ o. o ≡ refusing.pay_refusal stages real limit used known.now channel.now asset amount (Some k.now)) }
+    ensures { IfOk result (λ o. o ≡ refusing.pay_refusal stages real limit used known.now channel.now asset amount
+        (Some k.now)) }
 {
     let facts = known.facts();
     if let Some(refusal) = not_open(&facts) {
@@ -182,7 +185,8 @@ pub fn pay_refusal(
     asset: u32,
     amount: u64,
 ) -> Result<Option<NodeRefusal>, NoMemory>
-    ensures { IfOk result (λ o. o ≡ refusing.pay_refusal stages real limit used known.now channel.now asset amount (kept_of channel.now known.now.kept)) }
+    ensures { IfOk result (λ o. o ≡ refusing.pay_refusal stages real limit used known.now channel.now asset amount
+        (kept_of channel.now known.now.kept)) }
 {
     match known.store().kept(channel) {
         None => Ok(Some(NodeRefusal::UnknownChannel)),
@@ -199,7 +203,8 @@ pub fn paying(
     amount: u64,
 ) -> Result<Option<State>, NoMemory>
     requires { IsPayable known.now channel.now asset amount (kept_of channel.now known.now.kept) }
-    ensures { IfOk result (λ o. o ≡ refusing.signs_in stages real (Some (Pay channel.now asset amount)) known.now channel.now) }
+    ensures { IfOk result (λ o. o ≡ refusing.signs_in stages real
+        (Some (Pay channel.now asset amount)) known.now channel.now) }
 {
     if known.left() {
         return Ok(None);

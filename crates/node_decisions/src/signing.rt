@@ -40,7 +40,8 @@ pub(crate) fn follows(k: &Kept, state: &State) -> bool
 }
 
 fn is_next(k: &Kept, state: &State) -> bool
-    ensures { result ≡ ((state.now.turn == next_of k.now) && (mover (people k.now.chain.fixed) state.now.turn == k.now.me)) }
+    ensures { result ≡ ((state.now.turn == next_of k.now) &&
+        (mover (people k.now.chain.fixed) state.now.turn == k.now.me)) }
 {
     state.turn() == k.next() && mover_at(&k.chain.fixed, state.turn()) == k.me as usize
 }
@@ -74,7 +75,8 @@ pub(crate) fn signable_if(
 
 /// What the stage wants while every live channel is open.
 fn wished(alloc: Global, facts: &Facts, channel: &Name) -> Result<Option<State>, NoMemory>
-    ensures { IfOk result (λ o. o ≡ (if is_none (refusing.not_open stages facts.now) then stages.wanted facts.now channel.now else None)) }
+    ensures { IfOk result (λ o. o ≡ (if is_none
+        (refusing.not_open stages facts.now) then stages.wanted facts.now channel.now else None)) }
 {
     match not_open(facts) {
         None => wanted(alloc, facts, channel),
@@ -84,7 +86,9 @@ fn wished(alloc: Global, facts: &Facts, channel: &Name) -> Result<Option<State>,
 
 /// The same of a node that didn't leave; nothing is wanted once it left.
 fn wished_by(known: &Known, channel: &Name) -> Result<Option<State>, NoMemory>
-    ensures { IfOk result (λ o. o ≡ (if known.now.left then None else (if is_none (refusing.not_open stages (facts_of known.now)) then stages.wanted (facts_of known.now) channel.now else None))) }
+    ensures { IfOk result (λ o. o ≡ (if known.now.left then None else
+        (if is_none (refusing.not_open stages (facts_of known.now)) then stages.wanted
+        (facts_of known.now) channel.now else None))) }
 {
     if known.left() {
         return Ok(None);

@@ -105,7 +105,8 @@ fn message_of(
     state: &State,
     signature: &[u8],
 ) -> Result<Listed<u8>, NoMemory>
-    ensures { IfOk result (λ bytes. bytes ≡ message (channel.now, record { state = state.now; signature = signature.now })) }
+    ensures { IfOk result (λ bytes.
+        bytes ≡ message (channel.now, record { state = state.now; signature = signature.now })) }
 {
     let mut out = Vec::new(alloc);
     out.extend_from_slice(channel)?;
@@ -121,7 +122,8 @@ fn put_sends(
     state: &State,
     signature: &[u8],
 ) -> Result<(), NoMemory>
-    ensures { OnOk result (sends.new.items ≡ sends.old.items ++ map (λ person. (person, message (channel.now, record { state = state.now; signature = signature.now }))) people.now) }
+    ensures { OnOk result (sends.new.items ≡ sends.old.items ++ map (λ person.
+        (person, message (channel.now, record { state = state.now; signature = signature.now }))) people.now) }
 {
     for person in people {
         let bytes = message_of(*sends.allocator(), channel, state, signature)?;
@@ -138,7 +140,12 @@ fn sends_among(
     signature: &[u8],
     k: &Kept,
 ) -> Result<Vec<(Name, Listed<u8>)>, NoMemory>
-    ensures { IfOk result (λ sends. sends.items ≡ map (λ person. (person, message (channel.now, record { state = state.now; signature = signature.now }))) (giving.others k.now)) }
+    ensures { IfOk result (λ sends.
+        sends.items ≡ map (λ person. (
+          person,
+          message
+              (channel.now, record { state = state.now; signature = signature.now }),
+        )) (giving.others k.now)) }
 {
     let people = people_of(&k.chain.fixed);
     let me = k.me as usize;
@@ -168,7 +175,8 @@ pub(crate) fn sends_to(
     signature: &[u8],
     kept: Option<&Kept>,
 ) -> Result<Vec<(Name, Listed<u8>)>, NoMemory>
-    ensures { IfOk result (λ sends. sends.items ≡ giving.sends_to channel.now state.now signature.now (option_map (λ m. m.now) kept.entry)) }
+    ensures { IfOk result (λ sends.
+        sends.items ≡ giving.sends_to channel.now state.now signature.now (option_map (λ m. m.now) kept.entry)) }
 {
     match kept {
         None => Ok(Vec::new(alloc)),

@@ -76,7 +76,9 @@ fn shown_before<'a>(view: &'a WorldView, name: &Name) -> Option<&'a Chain>
 fn shown_of(view: &WorldView, fixed: &Fixed, op: &Op) -> Result<(Name, Chain), NoMemory>
     requires { FewUnder op.now (view_of view.now.channels (name_of_channel (spelled fixed.now))).shown }
     ensures name { IfOk result (λ shown. shown.0 ≡ name_of_channel (spelled fixed.now)) }
-    ensures chain { IfOk result (λ shown. marked_of shown.1 ≡ shown_by op.now (view_of view.entry.now.channels (name_of_channel (spelled fixed.now))).shown) }
+    ensures chain { IfOk result (λ shown.
+        marked_of shown.1 ≡ shown_by op.now
+        (view_of view.entry.now.channels (name_of_channel (spelled fixed.now))).shown) }
 {
     let name = channel_name(fixed.bytes());
     let before = shown_before(view, &name);
@@ -87,7 +89,10 @@ fn shown_of(view: &WorldView, fixed: &Fixed, op: &Op) -> Result<(Name, Chain), N
 /// What an accepted entry shows: the channel's name and the chain, which may have no state.
 fn shown_in(view: &WorldView, entry: &Entry) -> Result<Option<(Name, Chain)>, NoMemory>
     requires { is_accepted entry.now.reply ≡ true → FewIn view.now entry.now.op (fixed_of entry.now.op) }
-    ensures { IfOk result (λ shown. (kept : List AKept) → kept_shown shown kept ≡ cond (is_accepted entry.now.reply) (kept_seeing real view.entry.now entry.now.op (fixed_of entry.now.op) kept) kept) }
+    ensures { IfOk result (λ shown.
+        (kept : List AKept) → kept_shown shown kept
+        ≡ cond (is_accepted entry.now.reply)
+        (kept_seeing real view.entry.now entry.now.op (fixed_of entry.now.op) kept) kept) }
 {
     if !is_accepted(&entry.reply) {
         return Ok(None);
@@ -244,7 +249,8 @@ impl Known {
         amounts: &(u64, u64),
     ) -> Result<(), NoMemory>
         requires { length self.old.parts < 64 }
-        ensures opened { OnOk result (self.new ≡ with_part part (goal_with (length self.old.parts) opening amounts.now) self.old) }
+        ensures opened { OnOk result (self.new
+            ≡ with_part part (goal_with (length self.old.parts) opening amounts.now) self.old) }
         ensures key { self.new.key ≡ self.old.key }
     {
         let place = self.plan.parts.as_slice().len() as u8;
@@ -277,7 +283,8 @@ impl Known {
     ) -> Result<(), NoMemory>
         requires channels { CanOpen self.old (fixed.now ∷ []) }
         requires opening { CanShare fixed.now amounts.now }
-        ensures opened { OnOk result (self.new ≡ with_opened real (commands.OpenOn ledger.now fixed.now asset amounts.now) self.old) }
+        ensures opened { OnOk result (self.new
+            ≡ with_opened real (commands.OpenOn ledger.now fixed.now asset amounts.now) self.old) }
         ensures key { self.new.key ≡ self.old.key }
     {
         let opening = shared(*self.goals.allocator(), fixed, asset, amounts)?;
@@ -297,7 +304,8 @@ impl Known {
     ) -> Result<(), NoMemory>
         requires channels { CanOpen self.old (guarantors.now.0 ∷ guarantors.now.1 ∷ joint.now ∷ channel.now ∷ []) }
         requires opening { CanShare channel.now amounts.now }
-        ensures opened { OnOk result (self.new ≡ with_opened real (commands.OpenVirtual Plain ledgers.now guarantors.now joint.now channel.now asset amounts.now) self.old) }
+        ensures opened { OnOk result (self.new
+            ≡ with_opened real (commands.OpenVirtual Plain ledgers.now guarantors.now joint.now channel.now asset amounts.now) self.old) }
         ensures key { self.new.key ≡ self.old.key }
     {
         let opening = shared(*self.goals.allocator(), channel, asset, amounts)?;

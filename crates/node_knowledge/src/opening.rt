@@ -86,7 +86,8 @@ pub(crate) fn join_virtual(
     channel: &Fixed,
 ) -> Result<(), NoMemory>
     requires { CanJoin key.now (guarantors.now.0 ∷ guarantors.now.1 ∷ joint.now ∷ channel.now ∷ []) store.old }
-    ensures joined { OnOk result (store.new ≡ store.old ++ joined key.now (guarantors.now.0 ∷ guarantors.now.1 ∷ joint.now ∷ channel.now ∷ [])) }
+    ensures joined { OnOk result (store.new ≡ store.old
+        ++ joined key.now (guarantors.now.0 ∷ guarantors.now.1 ∷ joint.now ∷ channel.now ∷ [])) }
     ensures owned { AreOwned key.now store.old → AreOwned key.now store.new }
 {
     let (first, second) = guarantors;
@@ -194,7 +195,8 @@ pub(crate) fn part_of_virtual(
     amounts: &(u64, u64),
 ) -> Part
     requires { amounts.now.0 + amounts.now.1 < 2 ^ 64 }
-    ensures { openings.parts_of real key.now (OpenVirtual Plain ledgers.now guarantors.now joint.now channel.now asset amounts.now) ≡ result ∷ [] }
+    ensures { openings.parts_of real key.now
+        (OpenVirtual Plain ledgers.now guarantors.now joint.now channel.now asset amounts.now) ≡ result ∷ [] }
 {
     let v = virtual_of(key, ledgers, guarantors, joint, channel, asset, amounts);
     if takes_part(key, channel) {

@@ -39,7 +39,8 @@ fn with_answer(
     next: &Signed,
 ) -> Result<Chain, NoMemory>
     requires { HasFew (option_map (λ m. m.now) before) }
-    ensures { IfOk result (λ chain. marked_of chain ≡ answered_or fixed.now next.now (option_map (λ m. m.now) before.entry)) }
+    ensures { IfOk result (λ chain.
+        marked_of chain ≡ answered_or fixed.now next.now (option_map (λ m. m.now) before.entry)) }
 {
     match before {
         None => no_chain(alloc, fixed),

@@ -221,7 +221,9 @@ fn read_ending<'a>(
     view: &'a WorldView,
     known: &'a Known,
 ) -> Result<Option<Ending<'a>>, NoMemory>
-    ensures { IfOk result (λ e. listed e ≡ counting_of known.now.channel (possible_seen view.entry.now.now (view_of view.entry.now.channels known.now.channel) known.now.last)) }
+    ensures { IfOk result (λ e. listed e
+        ≡ counting_of known.now.channel
+        (possible_seen view.entry.now.now (view_of view.entry.now.channels known.now.channel) known.now.last)) }
 {
     if is_final_in(view, &known.channel) {
         let rest = rest_in(view, &known.channel);

@@ -52,7 +52,8 @@ impl<'a> Page<'a> {
         ledger: &Name,
         channel: &Name,
     ) -> bool
-        ensures { result ≡ funded.is_part_funded (books_of self.now) person.now (reaches rows.now) (parts.OnLedger ledger.now channel.now) }
+        ensures { result ≡ funded.is_part_funded (books_of self.now) person.now (reaches rows.now)
+            (parts.OnLedger ledger.now channel.now) }
     {
         self.is_covered(rows, ledger)
             && self.reaches_person(person, ledger, channel, self.child(rows, ledger, channel))
@@ -61,7 +62,8 @@ impl<'a> Page<'a> {
     /// An end's guarantor reaches as far as the joint channel's items for the channel and the person, where its ledger has
     /// an item for it.
     fn is_claim_funded(&self, person: &Name, v: &Virtual, reach: u64) -> bool
-        ensures { result ≡ funded.if_so (has ((books_of self.now).items (own_ledger v.now)) (Channel (own_guarantor v.now)))
+        ensures { result ≡ funded.if_so
+            (has ((books_of self.now).items (own_ledger v.now)) (Channel (own_guarantor v.now)))
             (nat_le (amt ((books_of self.now).items v.now.joint) (Channel v.now.channel)
             + amt ((books_of self.now).items v.now.joint) (Person person.now)) reach) }
     {
@@ -88,7 +90,8 @@ impl<'a> Page<'a> {
     fn is_rest_funded(&self, person: &Name, rows: &[(Name, u128)], v: &Virtual) -> bool
         ensures { result ≡ funded.if_so (has ((books_of self.now).items v.now.ledger_a) (Channel v.now.guarantor_a)
             && has ((books_of self.now).items v.now.ledger_b) (Channel v.now.guarantor_b))
-            (nat_le (amt ((books_of self.now).items v.now.joint) (Person person.now)) (left_of (books_of self.now) (reaches rows.now) v.now)) }
+            (nat_le (amt ((books_of self.now).items v.now.joint) (Person person.now))
+            (left_of (books_of self.now) (reaches rows.now) v.now)) }
     {
         if self.has_channel(&v.ledger_a, &v.guarantor_a)
             && self.has_channel(&v.ledger_b, &v.guarantor_b)
@@ -100,7 +103,8 @@ impl<'a> Page<'a> {
     }
 
     fn is_middle_funded(&self, person: &Name, rows: &[(Name, u128)], v: &Virtual) -> bool
-        ensures { result ≡ funded.is_part_funded (books_of self.now) person.now (reaches rows.now) (parts.Middle v.now) }
+        ensures { result ≡ funded.is_part_funded (books_of self.now) person.now (reaches rows.now)
+            (parts.Middle v.now) }
     {
         self.is_covered(rows, &v.ledger_a)
             && self.is_covered(rows, &v.ledger_b)
@@ -125,7 +129,8 @@ impl<'a> Page<'a> {
         parts: &[Part],
         rows: &mut Vec<(Name, u128)>,
     ) -> Result<bool, NoMemory>
-        ensures { IfOk result (λ b. b ≡ funded.are_funded (books_of self.now) person.now parts.now (reaches rows.old.items)) }
+        ensures { IfOk result (λ b. b ≡ funded.are_funded (books_of self.now) person.now parts.now
+            (reaches rows.old.items)) }
     {
         match parts {
             [] => Ok(true),

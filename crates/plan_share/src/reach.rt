@@ -101,7 +101,8 @@ impl<'a> Page<'a> {
 
     /// And after that the item for a person.
     pub(crate) fn own_claim(&self, person: &Name, v: &Virtual, reach: u64) -> u64
-        ensures { result ≡ worth.own_claim (books_of self.now) person.now (own_guarantor v.now) v.now.joint v.now.channel reach }
+        ensures { result ≡ worth.own_claim (books_of self.now) person.now
+            (own_guarantor v.now) v.now.joint v.now.channel reach }
     {
         let left = reach.saturating_sub(self.amount(&v.joint, &Dest::Channel(v.channel)));
         self.amount(&v.joint, &Dest::Person(*person)).min(left)
@@ -109,7 +110,8 @@ impl<'a> Page<'a> {
 
     /// The reach of an end's channel, of which the guarantor reaches so far.
     pub(crate) fn virtual_reach(&self, v: &Virtual, reach: u64) -> u128
-        ensures value { result ≡ worth.virtual (books_of self.now) (own_guarantor v.now) v.now.joint v.now.channel reach }
+        ensures value { result ≡ worth.virtual (books_of self.now)
+            (own_guarantor v.now) v.now.joint v.now.channel reach }
         ensures bound { result < 2 ^ 65 }
     {
         if has(self.items(&v.joint), &Dest::Channel(v.channel)) {
@@ -120,7 +122,8 @@ impl<'a> Page<'a> {
     }
 
     fn second_of(&self, v: &Virtual, guarantor: &Name) -> u64
-        ensures { result ≡ worth.second_amt ((books_of self.now).items v.now.joint) ((books_of self.now).list guarantor.now) }
+        ensures { result ≡ worth.second_amt ((books_of self.now).items v.now.joint)
+            ((books_of self.now).list guarantor.now) }
     {
         second_amount(self.items(&v.joint), self.list(guarantor))
     }
@@ -141,7 +144,8 @@ impl<'a> Page<'a> {
 
     /// Puts the reach of a part's channel before the reaches so far, where a later part may stand on it.
     pub(crate) fn follow(&self, rows: &mut Vec<(Name, u128)>, part: &Part) -> Result<(), NoMemory>
-        ensures { OnOk result (reaches rows.new.items ≡ worth.reach_after (books_of self.now) (reaches rows.old.items) part.now) }
+        ensures { OnOk result (reaches rows.new.items
+            ≡ worth.reach_after (books_of self.now) (reaches rows.old.items) part.now) }
     {
         match part {
             Part::Root(channel) => put_reach(rows, channel, self.held(channel) as u128),

@@ -60,7 +60,8 @@ impl<'a> Page<'a> {
         rows: &mut Vec<(Name, u128)>,
     ) -> Result<u128, NoMemory>
         requires { length parts.now < 2 ^ 62 }
-        ensures value { IfOk result (λ n. n ≡ worth.worth (books_of self.now) person.now parts.now (reaches rows.old.items)) }
+        ensures value { IfOk result (λ n.
+            n ≡ worth.worth (books_of self.now) person.now parts.now (reaches rows.old.items)) }
         ensures bound { IfOk result (λ n. n ≤ length parts.now * 2 ^ 65) }
     {
         match parts {

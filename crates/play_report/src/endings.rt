@@ -100,7 +100,8 @@ pub(crate) fn endings_of<P: ReportedNode>(
     assets: &[u32],
     members: &[Member<P>],
 ) -> Result<Vec<Ending>, NoMemory>
-    ensures { IfOk result (λ all. all.items ≡ map (λ m. known_ending P.ways P.facts P.shares assets.now m.node) members.now) }
+    ensures { IfOk result (λ all. all.items
+        ≡ map (λ m. known_ending P.ways P.facts P.shares assets.now m.node) members.now) }
 {
     let mut all = Vec::new(alloc);
     for member in members {

@@ -60,7 +60,8 @@ pub(crate) fn shares_of<P: ReportedNode>(
     assets: &[u32],
     members: &[Member<P>],
 ) -> Result<Vec<Share>, NoMemory>
-    ensures { IfOk result (λ all. all.items ≡ flat_map (λ m. known_shares P.ways P.shares assets.now m.node) members.now) }
+    ensures { IfOk result (λ all. all.items ≡ flat_map (λ m.
+        known_shares P.ways P.shares assets.now m.node) members.now) }
 {
     let mut all = Vec::new(alloc);
     for member in members {
@@ -123,7 +124,8 @@ pub(crate) fn exits_of<P: ReportedNode>(
     assets: &[u32],
     members: &[Member<P>],
 ) -> Result<Vec<Share>, NoMemory>
-    ensures { IfOk result (λ all. all.items ≡ flat_map (λ m. known_exits P.ways P.exits assets.now m.node) members.now) }
+    ensures { IfOk result (λ all. all.items ≡ flat_map (λ m.
+        known_exits P.ways P.exits assets.now m.node) members.now) }
 {
     let mut all = Vec::new(alloc);
     for member in members {

@@ -198,7 +198,11 @@ fn challenge_is_own(
 ) -> bool
     ensures { result
         ≡ is_own real key.now (told_by own.now seen)
-        (record { message = message_of_challenge (top_digest real chain.now.fixed chain.now.states) who; signature = signature.now }) }
+        (record {
+          message = message_of_challenge
+              (top_digest real chain.now.fixed chain.now.states) who;
+          signature = signature.now;
+        }) }
 {
     match newest(chain.states.as_slice()) {
         None => is_own_by(key, own, seen, &[6, who], signature),

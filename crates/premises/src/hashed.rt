@@ -105,7 +105,8 @@ fn add_answer(
     from: &State,
     next: &State,
 ) -> Result<(), NoMemory>
-    ensures { OnOk result (strings.new.items ≡ strings.old.items ++ of_states (Some fixed.now) (from.now ∷ next.now ∷ [])) }
+    ensures { OnOk result (strings.new.items ≡ strings.old.items
+        ++ of_states (Some fixed.now) (from.now ∷ next.now ∷ [])) }
 {
     let channel = channel_name(fixed.bytes());
     add_fixed(strings, fixed)?;

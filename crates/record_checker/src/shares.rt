@@ -171,7 +171,8 @@ fn shares_of(
     assets: &[u32],
 ) -> Result<Vec<(u32, u128)>, NoMemory>
     requires { seen.are_joined plan.now known.now ≡ true }
-    ensures { IfOk result (λ all. all.items ≡ map (λ asset. (asset, seen.share_by past.now plan.now known.now asset)) assets.now) }
+    ensures { IfOk result (λ all. all.items ≡ map (λ asset.
+        (asset, seen.share_by past.now plan.now known.now asset)) assets.now) }
 {
     let named = named_in(alloc, past, known)?;
     let mut all = Vec::new(alloc);

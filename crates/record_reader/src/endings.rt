@@ -163,7 +163,8 @@ fn take_many_parts(
     count: u8,
     bytes: &[u8],
 ) -> Result<(Vec<Part>, &[u8]), ByteFault>
-    ensures { Gives (λ x. (x.0.items, x.1.now)) result (many_at (reads.next_at reads.part_at whole) [] count bytes.now) }
+    ensures { Gives (λ x. (x.0.items, x.1.now)) result
+        (many_at (reads.next_at reads.part_at whole) [] count bytes.now) }
 {
     let mut parts = Vec::new(alloc);
     let mut rest = bytes;
@@ -181,7 +182,8 @@ fn take_many_known(
     count: u8,
     bytes: &[u8],
 ) -> Result<(Vec<Known>, &[u8]), ByteFault>
-    ensures { Gives (λ x. (x.0.items, x.1.now)) result (many_at (reads.next_at reads.known_at whole) [] count bytes.now) }
+    ensures { Gives (λ x. (x.0.items, x.1.now)) result
+        (many_at (reads.next_at reads.known_at whole) [] count bytes.now) }
 {
     let mut known = Vec::new(alloc);
     let mut rest = bytes;
@@ -199,7 +201,8 @@ fn take_many_chains(
     count: u8,
     bytes: &[u8],
 ) -> Result<(Vec<HeldChain>, &[u8]), ByteFault>
-    ensures { Gives (λ x. (x.0.items, x.1.now)) result (many_at (reads.next_at reads.held_chain_at whole) [] count bytes.now) }
+    ensures { Gives (λ x. (x.0.items, x.1.now)) result
+        (many_at (reads.next_at reads.held_chain_at whole) [] count bytes.now) }
 {
     let mut chains = Vec::new(alloc);
     let mut rest = bytes;
@@ -217,7 +220,8 @@ fn take_many_shares(
     count: u32,
     bytes: &[u8],
 ) -> Result<(Vec<(u32, u128)>, &[u8]), ByteFault>
-    ensures { Gives (λ x. (x.0.items, x.1.now)) result (many_at (reads.next_at reads.share_at whole) [] count bytes.now) }
+    ensures { Gives (λ x. (x.0.items, x.1.now)) result
+        (many_at (reads.next_at reads.share_at whole) [] count bytes.now) }
 {
     let mut shares = Vec::new(alloc);
     let mut rest = bytes;
@@ -302,7 +306,8 @@ fn take_many_endings(
     count: u8,
     bytes: &[u8],
 ) -> Result<(Vec<Ending>, &[u8]), ByteFault>
-    ensures { Gives (λ x. (x.0.items, x.1.now)) result (many_at (reads.next_at reads.ending_at whole) [] count bytes.now) }
+    ensures { Gives (λ x. (x.0.items, x.1.now)) result
+        (many_at (reads.next_at reads.ending_at whole) [] count bytes.now) }
 {
     let mut ends = Vec::new(alloc);
     let mut rest = bytes;

@@ -64,7 +64,8 @@ fn take_many_entries(
     count: u32,
     bytes: &[u8],
 ) -> Result<(Vec<Entry>, &[u8]), ByteFault>
-    ensures { Gives (λ x. (x.0.items, x.1.now)) result (many_at (reads.next_at reads.entry_at whole) [] count bytes.now) }
+    ensures { Gives (λ x. (x.0.items, x.1.now)) result
+        (many_at (reads.next_at reads.entry_at whole) [] count bytes.now) }
 {
     let mut entries = Vec::new(alloc);
     let mut rest = bytes;

@@ -160,7 +160,8 @@ fn append_sums(
     requires { Legal real (newest_first report.now.history) }
     ensures { OnOk result (string_bytes text.new
         ≡ string_bytes text.old ++ balance_lines labels.now (flows_of report.now.history)
-        ++ flat_map (person_lines labels.now (flows_of report.now.history) report.now.shares report.now.exits) report.now.premises) }
+        ++ flat_map (person_lines labels.now
+        (flows_of report.now.history) report.now.shares report.now.exits) report.now.premises) }
 {
     let balances = balances_of(alloc, report.history.as_slice())?;
     let appended = append_told(alloc, text, labels, &balances, report);

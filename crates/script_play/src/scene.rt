@@ -123,7 +123,8 @@ impl<P: Party, D: Docket> Scene<P, D> {
     fn play_rounds(&mut self, count: u64) -> Result<(), NoMemory>
         requires { length self.old.world.history + (count * most_in_round + 32768) < 2 ^ 32 }
         ensures played { OnOk result (self.new ≡ play_rounds P.ways count self.old) }
-        ensures grown { OnOk result (length self.new.world.history ≤ length self.old.world.history + count * most_in_round) }
+        ensures grown { OnOk result (length self.new.world.history
+            ≤ length self.old.world.history + count * most_in_round) }
     {
         for round in 0..count {
             self.play_round()?;
@@ -165,7 +166,11 @@ impl<P: Party, D: Docket> Scene<P, D> {
         channel: Name,
         turn: u64,
     ) -> Result<(), NoMemory>
-        ensures { OnOk result (self.new ≡ record self.old { names = naming self.old.names name key channel (caught channel turn (journal P.ways self.old.world number)) }) }
+        ensures { OnOk result (self.new
+            ≡ record self.old {
+              names = naming self.old.names name key channel
+                  (caught channel turn (journal P.ways self.old.world number));
+            }) }
     {
         let found = caught(self.world.journal(number), &channel, turn)?;
         match found {
@@ -176,7 +181,8 @@ impl<P: Party, D: Docket> Scene<P, D> {
 
     fn enter(&mut self, op: Op) -> Result<(), NoMemory>
         requires { length self.old.world.history + 32768 < 2 ^ 32 }
-        ensures entered { OnOk result (self.new ≡ record self.old { world = happened P.ways (entering op) self.old.world }) }
+        ensures entered { OnOk result (self.new
+            ≡ record self.old { world = happened P.ways (entering op) self.old.world }) }
         ensures grown { OnOk result (length self.new.world.history ≤ length self.old.world.history + 1) }
     {
         world_step(&mut self.world, entering(op))?;
@@ -188,7 +194,8 @@ impl<P: Party, D: Docket> Scene<P, D> {
         requires room { length self.old.world.history + (effect_weight effect + 32768) < 2 ^ 32 }
         requires fits { FitsEffect effect }
         ensures done { OnOk result (self.new ≡ done P.ways step self.old effect) }
-        ensures grown { OnOk result (length self.new.world.history ≤ length self.old.world.history + effect_weight effect) }
+        ensures grown { OnOk result (length self.new.world.history
+            ≤ length self.old.world.history + effect_weight effect) }
     {
         match effect {
             Effect::Nothing => Ok(()),
@@ -213,7 +220,8 @@ impl<P: Party, D: Docket> Scene<P, D> {
 
     /// The messages on their way to a person are lost.
     fn lose(&mut self, to: &Name) -> Result<(), NoMemory>
-        ensures { OnOk result (self.new ≡ record self.old { post = filter (λ letter. not (bytes_eq letter.0 to.now)) self.old.post }) }
+        ensures { OnOk result (self.new
+            ≡ record self.old { post = filter (λ letter. not (bytes_eq letter.0 to.now)) self.old.post }) }
     {
         let alloc = self.names.alloc();
         self.post = without(alloc, self.post.as_slice(), to)?;

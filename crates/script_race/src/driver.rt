@@ -119,7 +119,8 @@ pub(crate) fn see<R: Wait, P: Party>(
     requires sound { IsCaller seat.old }
     requires followed { (m : MemberOf P) → In m nodes.old.items → P.ways.seen m.node ≤ length seat.old.seen }
     ensures looked { OnOk result (HasLookedOn seat.old seat.new) }
-    ensures seen { OnOk result (world_of seat.old.seen nodes.new.items ≡ happened P.ways (happenings.See number) (world_of seat.old.seen nodes.old.items)) }
+    ensures seen { OnOk result (world_of seat.old.seen nodes.new.items
+        ≡ happened P.ways (happenings.See number) (world_of seat.old.seen nodes.old.items)) }
 {
     let Some(place) = place_of(nodes, number) else {
         return Ok(());
@@ -141,10 +142,12 @@ pub(crate) fn see_all<R: Wait, P: Party>(
     requires book { seat.old.book ≡ book.now }
     requires part { seat.old.part ≡ whole }
     requires sound { IsCaller seat.old }
-    requires followed { (count : ℕ) (m : MemberOf P) → In m (fold (seen_by P.ways) (world_of seat.old.seen nodes.old.items) (take count people.now)).members
+    requires followed { (count : ℕ) (m : MemberOf P)
+        → In m (fold (seen_by P.ways) (world_of seat.old.seen nodes.old.items) (take count people.now)).members
         → P.ways.seen m.node ≤ length seat.old.seen }
     ensures looked { OnOk result (HasLookedOn seat.old seat.new) }
-    ensures seen { OnOk result (world_of seat.old.seen nodes.new.items ≡ fold (seen_by P.ways) (world_of seat.old.seen nodes.old.items) people.now) }
+    ensures seen { OnOk result (world_of seat.old.seen nodes.new.items
+        ≡ fold (seen_by P.ways) (world_of seat.old.seen nodes.old.items) people.now) }
 {
     for person in people {
         see(rt, alloc, book, seat, nodes, person.number)?;
@@ -160,8 +163,11 @@ pub(crate) fn command<P: Party>(
     step: u32,
     command: Command,
 ) -> Result<Outs, RoundFault>
-    ensures made { OnOk result ((seen : List AnEntry) → world_of seen nodes.new.items ≡ happened P.ways (happenings.Command number step command) (world_of seen nodes.old.items)) }
-    ensures given { IfOk result (λ outs. (seen : List AnEntry) → outs ≡ given P.ways (happenings.Command number step command) (world_of seen nodes.old.items)) }
+    ensures made { OnOk result ((seen : List AnEntry) → world_of seen nodes.new.items
+        ≡ happened P.ways (happenings.Command number step command) (world_of seen nodes.old.items)) }
+    ensures given { IfOk result (λ outs.
+        (seen : List AnEntry) → outs ≡ given P.ways (happenings.Command number step command)
+        (world_of seen nodes.old.items)) }
 {
     let Some(place) = place_of(nodes, number) else {
         return Ok(no_outs(alloc));

@@ -39,7 +39,9 @@ pub fn report_race<R: Threads + Wait + Sync, P: ReportedNode + Send>(
     requires writes { WritesJournals P.ways P.lost }
     requires timely { RacersAreInTime P.ways P.stands }
     // The report is that of a race, and it keeps its promises to each person with a node.
-    ensures raced { IfOk result (λ report. IsOfRace P.ways (map (player_of (λ c. tells (c.actor.vtable, c.actor.value)) (λ c. told (c.actor.vtable, c.actor.value))) cast.items) report steps.now) }
+    ensures raced { IfOk result (λ report.
+        IsOfRace P.ways (map (player_of (λ c. tells (c.actor.vtable, c.actor.value)) (λ c.
+        told (c.actor.vtable, c.actor.value))) cast.items) report steps.now) }
 
     // Each reply of the history is the sequential adjudicator's at its place.
     ensures legal { IfOk result (λ report. Legal real (newest_first report.history)) }

@@ -46,9 +46,14 @@ pub fn race<R: Threads + Wait + Sync, P: Party + Send>(
     requires fresh { signers.items ≡ signers_of steps.now }
     requires keep { KeepRaces P.ways P.stands P.lost }
     requires unseen { All (λ c. c.notes.entries.items ≡ []) cast.items }
-    ensures raced { IfOk result (λ r. IsRaceOf P.ways steps.now (map (player_of (λ c. tells (c.actor.vtable, c.actor.value)) (λ c. told (c.actor.vtable, c.actor.value))) cast.items) (race_of (λ c. tells (c.actor.vtable, c.actor.value)) (λ c. told (c.actor.vtable, c.actor.value)) r)) }
+    ensures raced { IfOk result (λ r.
+        IsRaceOf P.ways steps.now (map (player_of (λ c. tells (c.actor.vtable, c.actor.value)) (λ c.
+        told (c.actor.vtable, c.actor.value))) cast.items) (race_of (λ c.
+        tells (c.actor.vtable, c.actor.value)) (λ c. told (c.actor.vtable, c.actor.value)) r)) }
     ensures seated { IfOk result (λ r. IsSeated r) }
-    ensures racing { IfOk result (λ r. Racing (λ c. tells (c.actor.vtable, c.actor.value)) (λ c. told (c.actor.vtable, c.actor.value)) P.ways P.stands P.lost r) }
+    ensures racing { IfOk result (λ r.
+        Racing (λ c. tells (c.actor.vtable, c.actor.value)) (λ c.
+        told (c.actor.vtable, c.actor.value)) P.ways P.stands P.lost r) }
 {
     let mut race = Race::make(alloc, cast)?;
     let mut signers = VecDeque::from(signers);

@@ -101,7 +101,10 @@ fn work<R: Threads + Wait + Sync, S: Source>(
     cast: Vec<Cast>,
 ) -> Result<Ended, NoMemory>
     requires unseen { All (λ c. c.notes.entries.items ≡ []) cast.items }
-    ensures { IfOk result (λ ended. EndsAs ways (map (player_of (λ c. tells (c.actor.vtable, c.actor.value)) (λ c. told (c.actor.vtable, c.actor.value))) cast.items) (given S.remaining S.faults words.now source.old source.new) ended.status ended.bytes.items) }
+    ensures { IfOk result (λ ended.
+        EndsAs ways (map (player_of (λ c. tells (c.actor.vtable, c.actor.value)) (λ c.
+        told (c.actor.vtable, c.actor.value))) cast.items)
+        (given S.remaining S.faults words.now source.old source.new) ended.status ended.bytes.items) }
 {
     let Some(asked) = asked_of(words) else {
         return lined(alloc, Ran::Usage);
@@ -131,13 +134,17 @@ pub fn run_record<R: Threads + Wait + Sync, S: Source, K: Sink>(
     // the spelling of its record, whose history is legal and conserved; and it is sound where of each person with a node nothing is
     // told to be forged and no strings collide.
     ensures ended { result ≢ Status.Ran RanAs.NoMemory → result ≢ Status.Ran RanAs.WriteFault → (bytes : List ℕ)
-        × EndsAs ways (map (player_of (λ c. tells (c.actor.vtable, c.actor.value)) (λ c. told (c.actor.vtable, c.actor.value))) cast.items) (given S.remaining S.faults words.now source.old source.new) result bytes
+        × EndsAs ways (map (player_of (λ c. tells (c.actor.vtable, c.actor.value)) (λ c.
+        told (c.actor.vtable, c.actor.value))) cast.items)
+        (given S.remaining S.faults words.now source.old source.new) result bytes
         × Appends (K.held sink.old) (K.held sink.new) bytes }
 
     // At a fault of the sink a part was put of what another end owes.
     ensures write_fault { result ≡ Status.Ran RanAs.WriteFault → Rose (K.faults sink.old) (K.faults sink.new)
         × ((other : Status) × (bytes : List ℕ)
-        × EndsAs ways (map (player_of (λ c. tells (c.actor.vtable, c.actor.value)) (λ c. told (c.actor.vtable, c.actor.value))) cast.items) (given S.remaining S.faults words.now source.old source.new) other bytes
+        × EndsAs ways (map (player_of (λ c. tells (c.actor.vtable, c.actor.value)) (λ c.
+        told (c.actor.vtable, c.actor.value))) cast.items)
+        (given S.remaining S.faults words.now source.old source.new) other bytes
         × AppendsPart (K.held sink.old) (K.held sink.new) bytes) }
 
     // Out of memory nothing was put.

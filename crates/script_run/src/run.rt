@@ -115,7 +115,8 @@ fn race_script<R: Threads + Wait + Sync, P: ReportedNode + Send>(
     requires timely { RacersAreInTime P.ways P.stands }
     ensures ends { (given : Given) → wanted given.words ≡ Some Asked.Race
         → Consumes given.before given.after bytes.now → IsAtEnd given.after → length bytes.now ≤ 4194304
-        → IfOk result (λ ended. EndsAs P.ways (map (player_of (λ c. tells (c.actor.vtable, c.actor.value)) (λ c. told (c.actor.vtable, c.actor.value))) cast.items) given ended.status ended.report) }
+        → IfOk result (λ ended. EndsAs P.ways (map (player_of (λ c. tells (c.actor.vtable, c.actor.value)) (λ c.
+        told (c.actor.vtable, c.actor.value))) cast.items) given ended.status ended.report) }
     ensures legal { IfOk result (λ ended. IfSome ended.report (λ report. Legal real (newest_first report.history))) }
 {
     match read_script_with_signers(alloc, bytes, true) {
@@ -138,7 +139,8 @@ fn race_script<R: Threads + Wait + Sync, P: ReportedNode + Send>(
 #[tactic(auto, using(crate::proofs::Ends::fails_in_run, crate::proofs::Ends::long_in_run))]
 fn run_source<P: ReportedNode, S: Source>(alloc: Global, source: &mut S) -> Result<Ended, NoMemory>
     ensures ends { (words : List (List ℕ)) (cast : List Player) → wanted words ≡ Some Asked.Run
-        → IfOk result (λ ended. EndsAs P.ways cast (given S.remaining S.faults words source.old source.new) ended.status ended.report) }
+        → IfOk result (λ ended. EndsAs P.ways cast
+        (given S.remaining S.faults words source.old source.new) ended.status ended.report) }
     ensures legal { IfOk result (λ ended. IfSome ended.report (λ report. Legal real (newest_first report.history))) }
 {
     match read_all(alloc, source) {
@@ -161,7 +163,9 @@ fn race_source<R: Threads + Wait + Sync, P: ReportedNode + Send, S: Source>(
     requires writes { WritesJournals P.ways P.lost }
     requires timely { RacersAreInTime P.ways P.stands }
     ensures ends { (words : List (List ℕ)) → wanted words ≡ Some Asked.Race
-        → IfOk result (λ ended. EndsAs P.ways (map (player_of (λ c. tells (c.actor.vtable, c.actor.value)) (λ c. told (c.actor.vtable, c.actor.value))) cast.items) (given S.remaining S.faults words source.old source.new) ended.status ended.report) }
+        → IfOk result (λ ended. EndsAs P.ways (map (player_of (λ c. tells (c.actor.vtable, c.actor.value)) (λ c.
+        told (c.actor.vtable, c.actor.value))) cast.items)
+        (given S.remaining S.faults words source.old source.new) ended.status ended.report) }
     ensures legal { IfOk result (λ ended. IfSome ended.report (λ report. Legal real (newest_first report.history))) }
 {
     match read_all(alloc, source) {
@@ -177,7 +181,8 @@ fn race_source<R: Threads + Wait + Sync, P: ReportedNode + Send, S: Source>(
 fn run_load<P: ReportedNode>(alloc: Global, seed: u64, count: u32) -> Result<Ended, NoMemory>
     requires some { 1 ≤ count }
     requires few { count ≤ 1000 }
-    ensures ends { (cast : List Player) (given : Given) → asked given.words ≡ Some (Asked.Load seed count) → IsUnread given
+    ensures ends { (cast : List Player) (given : Given) → asked given.words ≡ Some (Asked.Load seed count)
+        → IsUnread given
         → IfOk result (λ ended. EndsAs P.ways cast given ended.status ended.report) }
     ensures legal { IfOk result (λ ended. IfSome ended.report (λ report. Legal real (newest_first report.history))) }
 {
@@ -207,7 +212,10 @@ fn work<R: Threads + Wait + Sync, P: ReportedNode + Send, S: Source>(
     requires unseen { All (λ c. c.notes.entries.items ≡ []) cast.items }
     requires writes { WritesJournals P.ways P.lost }
     requires timely { RacersAreInTime P.ways P.stands }
-    ensures ends { IfOk result (λ ended. EndsAs P.ways (map (player_of (λ c. tells (c.actor.vtable, c.actor.value)) (λ c. told (c.actor.vtable, c.actor.value))) cast.items) (given S.remaining S.faults words.now source.old source.new) ended.status ended.report) }
+    ensures ends { IfOk result (λ ended.
+        EndsAs P.ways (map (player_of (λ c. tells (c.actor.vtable, c.actor.value)) (λ c.
+        told (c.actor.vtable, c.actor.value))) cast.items)
+        (given S.remaining S.faults words.now source.old source.new) ended.status ended.report) }
     ensures legal { IfOk result (λ ended. IfSome ended.report (λ report. Legal real (newest_first report.history))) }
 {
     match asked(alloc, words)? {
@@ -240,7 +248,10 @@ pub fn end_of_words<R: Threads + Wait + Sync, S: Source>(
     cast: Vec<Cast>,
 ) -> Result<Ended, NoMemory>
     requires unseen { All (λ c. c.notes.entries.items ≡ []) cast.items }
-    ensures ends { IfOk result (λ ended. EndsAs ways (map (player_of (λ c. tells (c.actor.vtable, c.actor.value)) (λ c. told (c.actor.vtable, c.actor.value))) cast.items) (given S.remaining S.faults words.now source.old source.new) ended.status ended.report) }
+    ensures ends { IfOk result (λ ended.
+        EndsAs ways (map (player_of (λ c. tells (c.actor.vtable, c.actor.value)) (λ c.
+        told (c.actor.vtable, c.actor.value))) cast.items)
+        (given S.remaining S.faults words.now source.old source.new) ended.status ended.report) }
     ensures legal { IfOk result (λ ended. IfSome ended.report (λ report. Legal real (newest_first report.history))) }
 {
     work::<R, Node, S>(rt, alloc, words, source, cast)
@@ -292,12 +303,16 @@ pub fn run_words<R: Threads + Wait + Sync, S: Source, K: Sink>(
 
     // Every status but want of memory and a fault of the sink has its cause, and its text was put whole.
     ensures ended { result.status ≢ Status.NoMemory → result.status ≢ Status.WriteFault
-        → EndsAs ways (map (player_of (λ c. tells (c.actor.vtable, c.actor.value)) (λ c. told (c.actor.vtable, c.actor.value))) cast.items) (given S.remaining S.faults words.now source.old source.new) result.status result.report
+        → EndsAs ways (map (player_of (λ c. tells (c.actor.vtable, c.actor.value)) (λ c.
+        told (c.actor.vtable, c.actor.value))) cast.items)
+        (given S.remaining S.faults words.now source.old source.new) result.status result.report
         × Appends (K.held sink.old) (K.held sink.new) (owed result.status result.report) }
 
     // At a fault of the sink a part was put of what another end owes, and the report is that end's.
     ensures write_fault { result.status ≡ Status.WriteFault → Rose (K.faults sink.old) (K.faults sink.new)
-        × ((other : Status) × EndsAs ways (map (player_of (λ c. tells (c.actor.vtable, c.actor.value)) (λ c. told (c.actor.vtable, c.actor.value))) cast.items) (given S.remaining S.faults words.now source.old source.new) other result.report
+        × ((other : Status) × EndsAs ways (map (player_of (λ c. tells (c.actor.vtable, c.actor.value)) (λ c.
+        told (c.actor.vtable, c.actor.value))) cast.items)
+        (given S.remaining S.faults words.now source.old source.new) other result.report
         × AppendsPart (K.held sink.old) (K.held sink.new) (owed other result.report)) }
 
     // For want of memory nothing was put.
@@ -318,7 +333,10 @@ pub fn run_words<R: Threads + Wait + Sync, S: Source, K: Sink>(
     // that was commanded right before, or, where none was and its plan is funded, not at all (for these its watchers needn't be
     // in time); it can leave with its share; and once its channels are final and the calls of its exit stand after that, what
     // was printed of its exit is paid to it, whatever others enter between.
-    ensures told { IfSome result.report (IsToldOf ways (map (player_of (λ c. tells (c.actor.vtable, c.actor.value)) (λ c. told (c.actor.vtable, c.actor.value))) cast.items) (given S.remaining S.faults words.now source.old source.new)) }
+    ensures told { IfSome result.report
+        (IsToldOf ways (map (player_of (λ c. tells (c.actor.vtable, c.actor.value)) (λ c.
+        told (c.actor.vtable, c.actor.value))) cast.items)
+        (given S.remaining S.faults words.now source.old source.new)) }
 
     // A load pays what it says: its history is two deposits, a conclusion and two transfers; both people were paid what they
     // have after its payments, and no channel holds anything; no command was refused, and the shares that are told are what

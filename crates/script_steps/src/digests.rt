@@ -47,7 +47,8 @@ pub(crate) fn fixed_of(
     duration: u32,
 ) -> Result<Fixed, StepFault>
     ensures made { IfOk result (λ f. f ≡ fixed_with keys.items nonce app duration) }
-    ensures fault { Gives (λ _. 0) result (holds rules.Limit (is_ok (fixed_of (spelled keys.items nonce app duration)))) }
+    ensures fault { Gives (λ _. 0) result
+        (holds rules.Limit (is_ok (fixed_of (spelled keys.items nonce app duration)))) }
 {
     match Fixed::make(alloc, keys, nonce, app, duration) {
         Ok(fixed) => Ok(fixed),

@@ -72,9 +72,11 @@ impl<O: OneThread> Book<O> {
         requires { seat.old.book ≡ self.now }
         ensures sound { IsCaller seat.new }
         ensures ok { IfOk result (λ a. Enters O.gives O.reply by call a.number a.reply seat.old seat.new) }
-        ensures entry { IfOk result (λ a. HasEntry O.number_of O.by_of O.kept_of seat.new.seen a.number by (O.kept call)) }
+        ensures entry { IfOk result (λ a.
+            HasEntry O.number_of O.by_of O.kept_of seat.new.seen a.number by (O.kept call)) }
         ensures err { OnErr result (IsLater seat.old seat.new) }
-        ensures full { (n : ℕ) → result ≡ Err (BookFault.Full n) → Looks O.gives seat.old seat.new × (n ≡ length seat.new.seen) × (n ≡ most_entries) }
+        ensures full { (n : ℕ) → result ≡ Err (BookFault.Full n) → Looks O.gives seat.old seat.new
+            × (n ≡ length seat.new.seen) × (n ≡ most_entries) }
         ensures at_full { most_entries ≤ length seat.old.seen → result ≡ Err (BookFault.Full most_entries) }
         ensures no_memory { result ≡ Err BookFault.NoMemory → seat.new ≡ seat.old }
     {

@@ -46,8 +46,10 @@ pub(crate) fn add<O: OneThread>(
 ) -> Result<Answer<O>, BookFault>
     requires { O.stands desk.old.object desk.old.history.items }
     ensures ok { IfOk result (λ a. Adds O.stands O.gives O.reply by call a.number a.reply desk.old desk.new) }
-    ensures err { OnErr result ((desk.new.history.items ≡ desk.old.history.items) × O.stands desk.new.object desk.new.history.items) }
-    ensures full { (n : ℕ) → result ≡ Err (BookFault.Full n) → (n ≡ most_entries) × (most_entries ≤ length desk.old.history.items) }
+    ensures err { OnErr result ((desk.new.history.items ≡ desk.old.history.items)
+        × O.stands desk.new.object desk.new.history.items) }
+    ensures full { (n : ℕ) → result ≡ Err (BookFault.Full n) → (n ≡ most_entries)
+        × (most_entries ≤ length desk.old.history.items) }
     ensures at_full { most_entries ≤ length desk.old.history.items → result ≡ Err (BookFault.Full most_entries) }
 {
     let count = desk.history.len();

@@ -27,7 +27,8 @@ fn draw<O: OneThread>(
     token: &mut Token<O, O::Entry>,
 ) -> u64
     requires table { (words.now.table_id.words ≡ 3) × (token.old.table_id ≡ words.now.table_id) }
-    requires idle { (token.old.me.0.tickets ≡ 0) × (token.old.me.0.holds ≡ false) × (0 < token.old.me.0.part) × (token.old.me.1 ≡ []) × (token.old.me.0.told ≡ []) }
+    requires idle { (token.old.me.0.tickets ≡ 0) × (token.old.me.0.holds ≡ false) × (0 < token.old.me.0.part)
+        × (token.old.me.1 ≡ []) × (token.old.me.0.told ≡ []) }
     ensures { Waits words.now.table_id result token.old.me.0 token.new }
 {
     words.fetch_add::<Draw>(token, TICKET, 1)
@@ -60,8 +61,10 @@ pub(crate) fn take<O: OneThread, R: Wait>(
     words: &Shared<Option<Desk<O, O::Entry>>, View<O::Entry>, (), Turns<O>>,
     token: &mut Token<O, O::Entry>,
 ) -> Desk<O, O::Entry>
-    requires table { (words.now.table_id.words ≡ 3) × (words.now.table_id.slots ≡ 1) × (token.old.table_id ≡ words.now.table_id) }
-    requires idle { (token.old.me.0.tickets ≡ 0) × (token.old.me.0.holds ≡ false) × (0 < token.old.me.0.part) × (token.old.me.1 ≡ []) × (token.old.me.0.told ≡ []) }
+    requires table { (words.now.table_id.words ≡ 3) × (words.now.table_id.slots ≡ 1)
+        × (token.old.table_id ≡ words.now.table_id) }
+    requires idle { (token.old.me.0.tickets ≡ 0) × (token.old.me.0.holds ≡ false) × (0 < token.old.me.0.part)
+        × (token.old.me.1 ≡ []) × (token.old.me.0.told ≡ []) }
     ensures { HasTurn O.stands O.gives words.now.table_id result token.old.me.0 token.new }
 {
     let ticket = draw(words, token);
@@ -83,7 +86,12 @@ pub(crate) fn give_more<O: OneThread>(
     requires more { IsMore O.gives token.old.me.0.hand desk.history.items }
     requires few { length desk.history.items ≤ most_entries }
     requires stands { O.stands desk.object desk.history.items }
-    ensures { (token.new.table_id ≡ words.now.table_id) × (token.new.me ≡ (idle desk.history.items (token.old.me.0.made ++ length desk.history.items ∷ []) token.old.me.0.part, [])) }
+    ensures { (token.new.table_id ≡ words.now.table_id)
+        × (token.new.me ≡ (
+          idle desk.history.items (token.old.me.0.made ++ length desk.history.items
+              ∷ []) token.old.me.0.part,
+          [],
+        )) }
 {
     let count = desk.history.len() as u64;
     match words.exchange(token, 0, Some(desk)) {
@@ -104,7 +112,8 @@ pub(crate) fn give_same<O: OneThread>(
     requires turn { (token.old.me.1 ≡ (0, None) ∷ []) × (token.old.me.0.holds ≡ true) × (token.old.me.0.told ≡ []) }
     requires same { desk.history.items ≡ token.old.me.0.hand }
     requires stands { O.stands desk.object desk.history.items }
-    ensures { (token.new.table_id ≡ words.now.table_id) × (token.new.me ≡ (idle desk.history.items token.old.me.0.made token.old.me.0.part, [])) }
+    ensures { (token.new.table_id ≡ words.now.table_id)
+        × (token.new.me ≡ (idle desk.history.items token.old.me.0.made token.old.me.0.part, [])) }
 {
     let count = desk.history.len() as u64;
     match words.exchange(token, 0, Some(desk)) {
@@ -125,7 +134,8 @@ pub(crate) fn give_back<O: OneThread>(
     requires turn { (token.old.me.1 ≡ (0, None) ∷ []) × (token.old.me.0.holds ≡ true) × (token.old.me.0.told ≡ []) }
     requires same { desk.history.items ≡ token.old.me.0.hand }
     requires stands { O.stands desk.object desk.history.items }
-    ensures { (token.new.table_id ≡ words.now.table_id) × (token.new.me ≡ (idle token.old.me.0.seen token.old.me.0.made token.old.me.0.part, [])) }
+    ensures { (token.new.table_id ≡ words.now.table_id)
+        × (token.new.me ≡ (idle token.old.me.0.seen token.old.me.0.made token.old.me.0.part, [])) }
 {
     match words.exchange(token, 0, Some(desk)) {
         None => {}

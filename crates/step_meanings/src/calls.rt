@@ -96,7 +96,8 @@ pub(crate) fn transfer(
     asset: u32,
     index: u8,
 ) -> Result<Effect, NoMemory>
-    ensures { IfOk result (λ e. doing known.now e ≡ meaning known.now (steps.Transfer channel.now state.now asset index)) }
+    ensures { IfOk result (λ e. doing known.now e
+        ≡ meaning known.now (steps.Transfer channel.now state.now asset index)) }
 {
     let Some(channel) = known.name_by(channel) else {
         return Ok(Effect::Nothing);
@@ -122,7 +123,8 @@ pub(crate) fn claim(
     asset: u32,
     position: u8,
 ) -> Result<Effect, NoMemory>
-    ensures { IfOk result (λ e. doing known.now e ≡ meaning known.now (steps.Claim guarantor.now state.now target.now target_state.now asset position)) }
+    ensures { IfOk result (λ e. doing known.now e
+        ≡ meaning known.now (steps.Claim guarantor.now state.now target.now target_state.now asset position)) }
 {
     let Some(guarantor) = known.name_by(guarantor) else {
         return Ok(Effect::Nothing);

@@ -72,7 +72,9 @@ pub fn state_with_votes(
     votes: u8,
     proposal: &Outcome,
 ) -> Result<Option<State>, NoMemory>
-    ensures { IfOk result (λ s. s ≡ valid_state (state_with turn is_final outcome.now (data_of (record { votes = votes; proposal = spelling.outcome proposal.now })))) }
+    ensures { IfOk result (λ s. s ≡ valid_state
+        (state_with turn is_final outcome.now
+        (data_of (record { votes = votes; proposal = spelling.outcome proposal.now })))) }
 {
     let app_bytes = vote_bytes(alloc, votes, proposal)?;
     let outcome = outcome.copy()?;
@@ -147,7 +149,9 @@ pub fn sign_challenge(
     listed: &[NamedState],
     challenger: u8,
 ) -> Result<Option<Listed<u8>>, NoMemory>
-    ensures signed { IfOk result (λ signature. option_map (λ s. record { signature = s; people = people.new }) signature ≡ sign_challenge people.old by.now fixed.now listed.now challenger) }
+    ensures signed { IfOk result (λ signature.
+        option_map (λ s. record { signature = s; people = people.new }) signature
+        ≡ sign_challenge people.old by.now fixed.now listed.now challenger) }
     ensures unsigned { IfOk result (λ signature. signature ≡ None → people.new ≡ people.old) }
 {
     let [last, ..] = listed else {
@@ -237,7 +241,9 @@ impl Names {
     /// The chain of the named states of a channel.
     pub fn chain_by(&self, channel: &Label, names: &[Label]) -> Result<Option<Chain>, NoMemory>
         requires { length names.now ≤ 4 }
-        ensures { IfOk result (λ chain. chain ≡ option_map (λ f. chain_of f (listed self.now.states names.now)) (fixed_by self.now.channels channel.now)) }
+        ensures { IfOk result (λ chain.
+            chain ≡ option_map (λ f. chain_of f (listed self.now.states names.now))
+            (fixed_by self.now.channels channel.now)) }
     {
         let Some(channel) = channel_by(self.channels.as_slice(), channel.as_str()) else {
             return Ok(None);
@@ -286,7 +292,8 @@ impl Names {
     ) -> Result<Effect, NoMemory>
         requires fresh { signer ≡ fresh seed.now h }
         requires few { length self.old.people < 16 }
-        ensures { IfOk result (λ e. doing self.new e ≡ meaning self.old (steps.Person name.now seed.now h node watchers)) }
+        ensures { IfOk result (λ e. doing self.new e
+            ≡ meaning self.old (steps.Person name.now seed.now h node watchers)) }
     {
         let key = signer.public();
         if !node {
@@ -307,7 +314,8 @@ impl Names {
         app: u8,
         duration: u32,
     ) -> Result<(), NoMemory>
-        ensures { OnOk result (learning self.new ≡ meaning self.old (steps.Channel name.now people.now nonce app duration)) }
+        ensures { OnOk result (learning self.new
+            ≡ meaning self.old (steps.Channel name.now people.now nonce app duration)) }
     {
         let keys = self.people.keys_by(self.alloc(), people)?;
         let Some(fixed) = valid_fixed(self.alloc(), keys, nonce, app, duration)? else {
@@ -327,7 +335,8 @@ impl Names {
         channel: Name,
         signed: Signed,
     ) -> Result<(), NoMemory>
-        ensures { OnOk result (self.new ≡ with_state self.old (record { name = name; key = key; channel = channel; signed = signed })) }
+        ensures { OnOk result (self.new
+            ≡ with_state self.old (record { name = name; key = key; channel = channel; signed = signed })) }
     {
         self.states.push(NamedState {
             name,
@@ -345,7 +354,8 @@ impl Names {
         by: &Label,
         made: State,
     ) -> Result<(), NoMemory>
-        ensures { OnOk result (learning self.new ≡ unwrap_or (signing self.old name.now channel.now by.now made) (learning self.old)) }
+        ensures { OnOk result (learning self.new
+            ≡ unwrap_or (signing self.old name.now channel.now by.now made) (learning self.old)) }
     {
         let declared = channel_by(self.channels.as_slice(), channel.as_str());
         let Some(channel) = declared else {

@@ -136,8 +136,10 @@ impl People {
     /// The signature of the person at a place, at its next index, unless it has no hand or its key is spent.
     fn sign_at(&mut self, place: usize, message: &[u8]) -> Result<Option<Listed<u8>>, NoMemory>
         requires { place < length self.old }
-        ensures signed { IfOk result (λ signature. option_map {U = SignedBy} (λ s. record { signature = s; people = self.new }) signature
-            ≡ and_then (slice_get self.old place) (λ p. and_then p.hand (λ hand. and_then (signature_of hand message.now) (λ s.
+        ensures signed { IfOk result (λ signature.
+            option_map {U = SignedBy} (λ s. record { signature = s; people = self.new }) signature
+            ≡ and_then (slice_get self.old place) (λ p.
+            and_then p.hand (λ hand. and_then (signature_of hand message.now) (λ s.
             Some (record { signature = s; people = slice_set self.old place (used_once p hand) }))))) }
         ensures unsigned { IfOk result (λ signature. signature ≡ None → self.new ≡ self.old) }
     {
@@ -154,7 +156,9 @@ impl People {
     /// The signature of the person of this name, at its next index, unless it has no hand or its key is spent.
     #[tactic(auto, using(crate::proofs::Places::nobody_signs))]
     pub fn sign(&mut self, name: &str, message: &[u8]) -> Result<Option<Listed<u8>>, NoMemory>
-        ensures signed { IfOk result (λ signature. option_map (λ s. record { signature = s; people = self.new }) signature ≡ sign self.old name.now message.now) }
+        ensures signed { IfOk result (λ signature.
+            option_map (λ s. record { signature = s; people = self.new }) signature
+            ≡ sign self.old name.now message.now) }
         ensures unsigned { IfOk result (λ signature. signature ≡ None → self.new ≡ self.old) }
     {
         let Some(place) = self.place_of(name) else {

@@ -57,7 +57,8 @@ pub(crate) fn catch(
     channel: &Label,
     turn: u64,
 ) -> Result<Effect, NoMemory>
-    ensures { IfOk result (λ e. doing known.now e ≡ meaning known.now (steps.Catch name.now from.now channel.now turn)) }
+    ensures { IfOk result (λ e. doing known.now e
+        ≡ meaning known.now (steps.Catch name.now from.now channel.now turn)) }
 {
     let Some(person) = known.people.person_by(from.as_str()) else {
         return Ok(Effect::Nothing);
@@ -101,7 +102,8 @@ pub(crate) fn open_on(
     asset: u32,
     amounts: (u64, u64),
 ) -> Result<Effect, NoMemory>
-    ensures { IfOk result (λ e. doing known.now e ≡ meaning known.now (steps.OpenOn who.now ledger.now channel.now asset amounts)) }
+    ensures { IfOk result (λ e. doing known.now e
+        ≡ meaning known.now (steps.OpenOn who.now ledger.now channel.now asset amounts)) }
 {
     let Some(ledger) = known.name_by(ledger) else {
         return Ok(Effect::Nothing);
@@ -164,7 +166,8 @@ pub(crate) fn open_virtual(
     asset: u32,
     amounts: (u64, u64),
 ) -> Result<Effect, NoMemory>
-    ensures { IfOk result (λ e. doing known.now e ≡ meaning known.now (steps.OpenVirtual who.now route ledgers.now guarantors.now joint.now channel.now asset amounts)) }
+    ensures { IfOk result (λ e. doing known.now e
+        ≡ meaning known.now (steps.OpenVirtual who.now route ledgers.now guarantors.now joint.now channel.now asset amounts)) }
 {
     let Some(ledgers) = names_by(known, ledgers) else {
         return Ok(Effect::Nothing);

@@ -56,7 +56,8 @@ pub fn two_callers<R: Threads + Wait + Sync>(
 ) -> Option<(Tally, Tally)>
     requires { seat.old.book ≡ book.now }
     ensures sound { IfSome result (λ r. IsCaller seat.new) }
-    ensures seat { IfSome result (λ r. (seat.new.book ≡ seat.old.book) × (seat.new.part ≡ seat.old.part) × StartsWith seat.new.seen seat.old.seen) }
+    ensures seat { IfSome result (λ r. (seat.new.book ≡ seat.old.book) × (seat.new.part ≡ seat.old.part)
+        × StartsWith seat.new.seen seat.old.seen) }
     ensures entered { IfSome result (λ r. length seat.new.made ≡ length seat.old.made + r.0.entered + r.1.entered) }
 {
     let one = book.split(seat).ok()?;

@@ -53,7 +53,9 @@ fn enter_all<R: Threads + Wait + Sync>(
 ) -> Result<Vec<Seat<Counter>>, AllocError>
     requires { (i : ℕ) (d : _) → i < vec_len seats → (slice_index_or seats.items i d).book ≡ book.now }
     ensures len { IfOk result (λ v. vec_len v ≡ vec_len seats) }
-    ensures each { IfOk result (λ v. (i : ℕ) (d : _) → i < vec_len seats → ((slice_index_or v.items i d).book ≡ book.now) × ((slice_index_or v.items i d).part ≡ (slice_index_or seats.items i d).part)) }
+    ensures each { IfOk result (λ v.
+        (i : ℕ) (d : _) → i < vec_len seats → ((slice_index_or v.items i d).book ≡ book.now)
+        × ((slice_index_or v.items i d).part ≡ (slice_index_or seats.items i d).part)) }
 {
     thread::map_vec(
         rt,

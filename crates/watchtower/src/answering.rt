@@ -57,7 +57,8 @@ pub(crate) fn answers(
     requires found { AreFor watcher.now clients.now found.items }
     requires rising { IsStrictlyIncreasing places.now }
     requires all { Concerned watcher.now clients.now places.now }
-    ensures { IfOk result (λ told. map (λ t. (t.0, t.1.items)) told.items ≡ answers (calls_of watcher.now) clients.now) }
+    ensures { IfOk result (λ told.
+        map (λ t. (t.0, t.1.items)) told.items ≡ answers (calls_of watcher.now) clients.now) }
 {
     let mut told = Vec::new(alloc);
     for place in places {

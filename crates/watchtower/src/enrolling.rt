@@ -11,7 +11,8 @@ use channel_values::{Name, NoMemory};
 
 /// Hands a chain, which may be refused.
 fn hand(tower: &mut Tower, client: &Name, held: &HeldChain) -> Result<(), NoMemory>
-    ensures { OnOk result (tower.new ≡ record tower.old { clients = handing real client.now tower.old.clients held.now }) }
+    ensures { OnOk result (tower.new
+        ≡ record tower.old { clients = handing real client.now tower.old.clients held.now }) }
 {
     let chain = held.chain.copy()?;
     match tower.hand(client, chain) {
@@ -22,7 +23,8 @@ fn hand(tower: &mut Tower, client: &Name, held: &HeldChain) -> Result<(), NoMemo
 
 /// Admits a client that isn't there, and hands its chains in their order. A chain that is refused is passed over.
 pub fn enroll(tower: &mut Tower, client: &Name, chains: &[HeldChain]) -> Result<(), NoMemory>
-    ensures { OnOk result (tower.new ≡ record tower.old { clients = enrolling real tower.old.clients client.now chains.now }) }
+    ensures { OnOk result (tower.new
+        ≡ record tower.old { clients = enrolling real tower.old.clients client.now chains.now }) }
 {
     tower.admit(*client)?;
     for held in chains {

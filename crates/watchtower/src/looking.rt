@@ -95,7 +95,8 @@ fn concerned(
     alloc: Global,
 ) -> Result<Vec<usize>, NoMemory>
     ensures rising { IfOk result (λ v. IsStrictlyIncreasing v.items) }
-    ensures all { IfOk result (λ v. HasAll v.items (flat_map (holders_of holders.now.channels.keys holders.now.places.items) noted.now.keys)) }
+    ensures all { IfOk result (λ v.
+        HasAll v.items (flat_map (holders_of holders.now.channels.keys holders.now.places.items) noted.now.keys)) }
 {
     let mut places = Vec::new(alloc);
     let channels = noted.as_slice();

@@ -80,7 +80,8 @@ impl Tower {
     /// Takes a client's chain in place of the one that it handed of this channel before.
     pub fn hand(&mut self, client: &Name, chain: Chain) -> Result<(), HandFault>
         ensures fault { fault_told result ≡ hand_fault real client.now (named chain) self.old.clients }
-        ensures ok { OnOk result (self.new ≡ record self.old { clients = with_chains client.now (handed (named chain)) self.old.clients }) }
+        ensures ok { OnOk result (self.new
+            ≡ record self.old { clients = with_chains client.now (handed (named chain)) self.old.clients }) }
         ensures err { OnErr result (self.new ≡ self.old) }
     {
         hand(
@@ -110,7 +111,8 @@ impl Tower {
         requires rising { is_rising self.old.watching.time entries.now ≡ true }
         requires kept { self.old.is_lost ≡ false }
         ensures seen { OnOk result (self.new ≡ watched entries.now self.old) }
-        ensures calls { IfOk result (λ told. map (λ t. (t.0, t.1.items)) told.items ≡ answers (calls_of self.new.watching) self.old.clients) }
+        ensures calls { IfOk result (λ told.
+            map (λ t. (t.0, t.1.items)) told.items ≡ answers (calls_of self.new.watching) self.old.clients) }
         ensures clients { self.new.clients ≡ self.old.clients }
         ensures lost { OnErr result (self.new.is_lost ≡ true) }
     {
@@ -143,7 +145,8 @@ impl Tower {
         requires rising { is_rising self.old.watching.time entries.now ≡ true }
         requires kept { self.old.is_lost ≡ false }
         ensures seen { OnOk result (self.new ≡ watched entries.now self.old) }
-        ensures calls { IfOk result (λ told. map (λ t. (t.0, t.1.items)) told.items ≡ answers (calls_of self.new.watching) self.old.clients) }
+        ensures calls { IfOk result (λ told.
+            map (λ t. (t.0, t.1.items)) told.items ≡ answers (calls_of self.new.watching) self.old.clients) }
         ensures clients { self.new.clients ≡ self.old.clients }
         ensures lost { OnErr result (self.new.is_lost ≡ true) }
     {
@@ -171,13 +174,16 @@ impl Tower {
         // its own answers on its chains.
         ensures answer { (r : Rules) (h : List AnEntry) → NamesChannels r → StandsFor r h self.old.watching
             → Legal r (history_after h entries.now)
-            → IfOk result (λ told. map (λ t. (t.0, t.1.items)) told.items ≡ answers (looks r (history_after h entries.now)) self.old.clients) }
+            → IfOk result (λ told. map (λ t. (t.0, t.1.items)) told.items
+            ≡ answers (looks r (history_after h entries.now)) self.old.clients) }
         ensures stands { (r : Rules) (h : List AnEntry) → NamesChannels r → StandsFor r h self.old.watching
-            → Legal r (history_after h entries.now) → OnOk result (StandsFor r (history_after h entries.now) self.new.watching) }
+            → Legal r (history_after h entries.now)
+            → OnOk result (StandsFor r (history_after h entries.now) self.new.watching) }
 
         // What it answers in any case.
         ensures seen { OnOk result (self.new ≡ watched entries.now self.old) }
-        ensures calls { IfOk result (λ told. map (λ t. (t.0, t.1.items)) told.items ≡ answers (calls_of self.new.watching) self.old.clients) }
+        ensures calls { IfOk result (λ told.
+            map (λ t. (t.0, t.1.items)) told.items ≡ answers (calls_of self.new.watching) self.old.clients) }
         ensures clients { self.new.clients ≡ self.old.clients }
         ensures lost { OnErr result (self.new.is_lost ≡ true) }
         ensures stays_lost { self.old.is_lost ≡ true → IsErr result }
@@ -203,13 +209,16 @@ impl Tower {
         // its own answers on its chains.
         ensures answer { (r : Rules) (h : List AnEntry) → NamesChannels r → StandsFor r h self.old.watching
             → Legal r (history_after h entries.now)
-            → IfOk result (λ told. map (λ t. (t.0, t.1.items)) told.items ≡ answers (looks r (history_after h entries.now)) self.old.clients) }
+            → IfOk result (λ told. map (λ t. (t.0, t.1.items)) told.items
+            ≡ answers (looks r (history_after h entries.now)) self.old.clients) }
         ensures stands { (r : Rules) (h : List AnEntry) → NamesChannels r → StandsFor r h self.old.watching
-            → Legal r (history_after h entries.now) → OnOk result (StandsFor r (history_after h entries.now) self.new.watching) }
+            → Legal r (history_after h entries.now)
+            → OnOk result (StandsFor r (history_after h entries.now) self.new.watching) }
 
         // What it answers in any case.
         ensures seen { OnOk result (self.new ≡ watched entries.now self.old) }
-        ensures calls { IfOk result (λ told. map (λ t. (t.0, t.1.items)) told.items ≡ answers (calls_of self.new.watching) self.old.clients) }
+        ensures calls { IfOk result (λ told.
+            map (λ t. (t.0, t.1.items)) told.items ≡ answers (calls_of self.new.watching) self.old.clients) }
         ensures clients { self.new.clients ≡ self.old.clients }
         ensures lost { OnErr result (self.new.is_lost ≡ true) }
         ensures stays_lost { self.old.is_lost ≡ true → IsErr result }
@@ -233,13 +242,16 @@ impl Tower {
         // its own answers on its chains.
         ensures answer { (r : Rules) (h : List AnEntry) → NamesChannels r → StandsFor r h self.old.watching
             → Legal r (history_after h entries.now)
-            → IfOk result (λ told. map (λ t. (t.0, t.1.items)) told.items ≡ answers (looks r (history_after h entries.now)) self.old.clients) }
+            → IfOk result (λ told. map (λ t. (t.0, t.1.items)) told.items
+            ≡ answers (looks r (history_after h entries.now)) self.old.clients) }
         ensures stands { (r : Rules) (h : List AnEntry) → NamesChannels r → StandsFor r h self.old.watching
-            → Legal r (history_after h entries.now) → OnOk result (StandsFor r (history_after h entries.now) self.new.watching) }
+            → Legal r (history_after h entries.now)
+            → OnOk result (StandsFor r (history_after h entries.now) self.new.watching) }
 
         // What it answers in any case.
         ensures seen { OnOk result (self.new ≡ watched entries.now self.old) }
-        ensures calls { IfOk result (λ told. map (λ t. (t.0, t.1.items)) told.items ≡ answers (calls_of self.new.watching) self.old.clients) }
+        ensures calls { IfOk result (λ told.
+            map (λ t. (t.0, t.1.items)) told.items ≡ answers (calls_of self.new.watching) self.old.clients) }
         ensures clients { self.new.clients ≡ self.old.clients }
         ensures lost { OnErr result (self.new.is_lost ≡ true) }
         ensures stays_lost { self.old.is_lost ≡ true → IsErr result }
