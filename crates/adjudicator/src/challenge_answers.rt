@@ -10,8 +10,8 @@ ghost use Rattle.adjudicator.specs.Values.{answer_values};
 
 use crate::top::digest_of;
 use call_history::{Refusal, Row, Standing, mode, row_or_blank};
-use channel_values::{Fixed, Signed, State, StepFault};
-use support_rules::{is_signed_well, mover_at, people_of, step};
+use channel_values::{Fixed, Signed, State, StepFault, mover_at};
+use support_rules::{is_signed_well, people_of, step};
 
 /// Whether a state follows from another.
 fn follows(fixed: &Fixed, from: &State, to: &State) -> Result<(), StepFault>

@@ -10,7 +10,7 @@ mod same_replies;
 mod writing;
 
 pub use call_laws::{fronts_of_calls_are_cut, fronts_of_messages_are_cut};
-pub use putting::{put_name, put_named, put_numbered, put_reply, put_u64};
+pub use putting::{put_named, put_numbered, put_reply, put_u64};
 pub use reading::{read_call, read_message, take_call};
 pub use same_calls::{is_op, same_call};
 pub use same_replies::same_reply;

@@ -8,16 +8,7 @@ ghost use Rattle.call_bytes.specs.Limits as limits;
 
 use crate::numbers::step_number;
 use call_history::{Refusal, Reply};
-use channel_values::{Name, NoMemory, SupportFault};
-
-/// Appends a name, which has 32 bytes.
-pub fn put_name(out: &mut Vec<u8>, name: &Name) -> Result<(), NoMemory>
-    ensures put { OnOk result (out.new.items ≡ out.old.items ++ name.now) }
-    ensures fits { OnOk result (IsName name.now) }
-{
-    out.extend_from_slice(name)?;
-    Ok(())
-}
+use channel_values::{Name, NoMemory, SupportFault, put_name};
 
 /// Appends a number of eight bytes.
 pub fn put_u64(out: &mut Vec<u8>, n: u64) -> Result<(), NoMemory>

@@ -11,17 +11,9 @@ ghost use Rattle.call_history.specs.Limits.{IsCall, IsMessage, KeepsCall, IsShor
 
 use call_history::Call;
 use channel_values::{
-    Chain, Fixed, Name, NoMemory, Outcome, Signed, State, write_chain, write_signed,
+    Chain, Fixed, Name, NoMemory, Outcome, Signed, State, put_name, put_sized, write_chain,
+    write_signed,
 };
-
-/// A name has 32 bytes.
-fn put_name(out: &mut Vec<u8>, name: &Name) -> Result<(), NoMemory>
-    ensures put { OnOk result (out.new.items ≡ out.old.items ++ name.now) }
-    ensures fits { OnOk result (IsName name.now) }
-{
-    out.extend_from_slice(name)?;
-    Ok(())
-}
 
 /// An asset, and what is expected and brought of it.
 fn put_amounts(out: &mut Vec<u8>, asset: u32, expected: u64, amount: u64) -> Result<(), NoMemory>
@@ -48,18 +40,6 @@ fn put_deposit(
     out.push(1)?;
     put_name(out, channel)?;
     put_amounts(out, asset, expected, amount)
-}
-
-/// A signature behind its length.
-fn put_signature(out: &mut Vec<u8>, signature: &[u8]) -> Result<(), NoMemory>
-    requires { length signature.now ≤ 9004 }
-    ensures put { OnOk result (out.new.items ≡ out.old.items ++ sized signature.now) }
-    ensures fits { OnOk result (AreBytes signature.now) }
-{
-    let len = signature.len() as u16;
-    out.extend_from_slice(&len.to_be_bytes())?;
-    out.extend_from_slice(signature)?;
-    Ok(())
 }
 
 /// A channel's name, and its outcome.
@@ -122,7 +102,7 @@ fn put_challenge(
 {
     put_chain(out, 2, chain)?;
     out.push(challenger)?;
-    put_signature(out, signature)
+    put_sized(out, signature)
 }
 
 fn put_respond(

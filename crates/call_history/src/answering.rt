@@ -1,20 +1,10 @@
 //! A chain with its answer.
 
 ghost use Rattle.std.specs.Prelude.{◌≡◌, ◌≤◌, ◌<◌, ℕ, length, map, drop, slice_get, Some, OnOk, IfOk};
-ghost use Rattle.channel_values.specs.Rows.{mover};
-ghost use Rattle.channel_values.specs.Rules.{people};
 ghost use Rattle.call_history.specs.Marked.{marked_of, chain_of, put, lowest, lowered, answered};
 ghost use Rattle.channel_values.specs.declared.chain.Mark.{Mark as AMark};
 
-use channel_values::{Chain, Fixed, Listed, Mark, NoMemory, Signed, State};
-
-/// The position of the participant who moves to this turn.
-fn mover_at(fixed: &Fixed, turn: u64) -> usize
-    ensures value { result ≡ mover (people fixed.now) turn }
-    ensures there { result < people fixed.now }
-{
-    (turn % fixed.keys().len() as u64) as usize
-}
+use channel_values::{Chain, Fixed, Listed, Mark, NoMemory, Signed, State, mover_at};
 
 /// The least of a place and those of the marks.
 fn lowest_place(place: usize, marks: &[Mark]) -> usize

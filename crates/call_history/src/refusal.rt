@@ -1,5 +1,8 @@
 //! What the adjudicator answers.
 
+ghost use Rattle.std.specs.Prelude.{◌≡◌};
+ghost use Rattle.call_history.specs.History.{is_accepted};
+
 use channel_values::{Name, StepFault, SupportFault};
 
 /// Why an op is refused.
@@ -73,4 +76,13 @@ pub enum Reply {
     /// The time then.
     Now(u64),
     No(Refusal),
+}
+
+impl Reply {
+    /// Whether the op was accepted.
+    pub fn is_accepted(&self) -> bool
+        ensures { result ≡ is_accepted self.now }
+    {
+        !matches!(self, Reply::No(_))
+    }
 }

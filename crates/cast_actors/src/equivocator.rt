@@ -1,18 +1,17 @@
 //! An actor that answers one challenge in two ways.
 
 ghost use Rattle.std.specs.Prelude.{◌≡◌, ◌⊎◌, ◌+◌, false, [], IfOk, OnOk, OnErr, find, replicate};
-ghost use Rattle.std.specs.Option.{option_copied, option_map};
+ghost use Rattle.std.specs.Option.{option_copied};
 ghost use Rattle.channel_values.specs.Parts.{state_with};
-ghost use Rattle.call_history.specs.History.{is_accepted};
 ghost use Rattle.channel_node.specs.Refusing as refusing;
 ghost use Rattle.network_rounds.specs.declared.actor.Act.TheVariants as acts;
 ghost use Rattle.script_steps.specs.Digests.{fresh};
 ghost use Rattle.lms_signatures.specs.Made.{made_bytes};
 ghost use Rattle.cast_actors.specs.Equivocates as equivocates;
 
-use call_history::{Call, Entry, Op, Reply, newest};
+use call_history::{Call, Entry, Op, newest};
 use channel_values::{
-    AssetOutcome, Dest, Fixed, Key, Listed, NoMemory, Shape, Signed, State, channel_name,
+    AssetOutcome, Dest, Fixed, Key, Listed, NoMemory, Shape, Signed, State, channel_name, mover_at,
     state_digest, state_message,
 };
 use funding_plans::{amt, has};
@@ -21,7 +20,7 @@ use network_rounds::{Act, Actor, Notes};
 use node_decisions::{Payment, state_of};
 use script_steps::id_of;
 use std::alloc::Global;
-use support_rules::{mover_at, people_of};
+use support_rules::people_of;
 
 /// The seed of its key.
 const SEED: [u8; 32] = [0x45; 32];
@@ -37,18 +36,9 @@ pub struct Equivocator {
     signer: Signer,
 }
 
-fn is_accepted(reply: &Reply) -> bool
-    ensures { result ≡ is_accepted reply.now }
-{
-    match reply {
-        Reply::No(_) => false,
-        _ => true,
-    }
-}
-
 /// Whether the key is to move after the state.
 fn moves_next(key: &Key, fixed: &Fixed, state: Option<&State>) -> bool
-    ensures { result ≡ equivocates.moves_next key.now fixed.now (option_map (λ s. s.now) state.entry) }
+    ensures { result ≡ equivocates.moves_next key.now fixed.now (option_copied state.entry) }
 {
     match state {
         None => false,
@@ -62,7 +52,7 @@ fn is_answerable(key: &Key, entry: &Entry) -> bool
 {
     match &entry.op {
         Op::Call(Call::Challenge { chain, .. }) => {
-            is_accepted(&entry.reply)
+            entry.reply.is_accepted()
                 && chain.fixed.app() == 1
                 && moves_next(key, &chain.fixed, newest(chain.states.as_slice()))
         }
@@ -214,7 +204,7 @@ impl Equivocator {
     /// Its answer to a challenge of a state, if there is one.
     fn responding(&mut self, fixed: &Fixed, from: Option<&State>) -> Result<Act, NoMemory>
         ensures act { IfOk result (λ act.
-            act ≡ equivocates.responds self.old.signer fixed.now (option_map (λ s. s.now) from.entry)) }
+            act ≡ equivocates.responds self.old.signer fixed.now (option_copied from.entry)) }
         ensures signer { IfOk result (λ act. self.new.signer ≡ equivocates.signer_after self.old.signer act) }
         ensures kept { OnErr result (self.new.signer ≡ self.old.signer) }
     {

@@ -153,8 +153,8 @@ module _ (r : Rules) (key : List ℕ) (f : FixedParts) (lines : List Line) where
       → Agree r key f lines (kept_of (r.named f) m.kept) st
       → Agree r key f lines (kept_of (r.named f) (did r deed command m).kept) (note r f (record { seen = seen; deed = deed; adds = adds key command }) st)
   did-agrees seen (deeds.Commanded step None) (Some (Open g outcome)) m st own there a = opens-agrees seen step (Open g outcome) m st own there a
-  did-agrees seen (deeds.Commanded step None) (Some (OpenOn ledger g asset amounts)) m st own there a = opens-agrees seen step (OpenOn ledger g asset amounts) m st own there a
-  did-agrees seen (deeds.Commanded step None) (Some (OpenVirtual route ledgers guarantors joint channel asset amounts)) m st own there a = opens-agrees seen step (OpenVirtual route ledgers guarantors joint channel asset amounts) m st own there a
+  did-agrees seen (deeds.Commanded step None) (Some (OpenOn o)) m st own there a = opens-agrees seen step (OpenOn o) m st own there a
+  did-agrees seen (deeds.Commanded step None) (Some (OpenVirtual v)) m st own there a = opens-agrees seen step (OpenVirtual v) m st own there a
   did-agrees seen (deeds.Commanded step None) (Some (Pay channel asset amount)) m st own there a =
       subst (Agree r key f lines (kept_of (r.named f) m.kept)) (sym (inert r f (record { seen = seen; deed = deeds.Commanded step None; adds = [] }) refl refl st)) a
   did-agrees seen (deeds.Commanded step None) (Some (Close channel)) m st own there a =

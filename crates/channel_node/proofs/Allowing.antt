@@ -318,8 +318,8 @@ module _ (ts : Tables) (r : Rules) (s : Signing) (signs-well : SignsWell r s) (p
 
   new-of : (command : Command) → None ≡ command_refusal ts r s.limit used m command → (g : FixedParts) → In g (opened_by command) → are_new m (map r.named (opened_by command)) ≡ true
   new-of (Open f outcome) e g i = open-new (Open f outcome) e
-  new-of (OpenOn ledger f asset amounts) e g i = open-new (OpenOn ledger f asset amounts) e
-  new-of (OpenVirtual route ledgers guarantors joint channel asset amounts) e g i = open-new (OpenVirtual route ledgers guarantors joint channel asset amounts) e
+  new-of (OpenOn o) e g i = open-new (OpenOn o) e
+  new-of (OpenVirtual v) e g i = open-new (OpenVirtual v) e
   new-of (Pay channel asset amount) e g i = absurd i
   new-of (Close channel) e g i = absurd i
   new-of Exit e g i = absurd i

@@ -77,8 +77,8 @@ exit-not_watched (deeds.Watched watcher calls) command e = absurd cc
 
 did-left : (r : Rules) (deed : Deed) (command : Option Command) (m : Mind) → (did r deed command m).left ≡ (is_exit deed command || m.left)
 did-left r (deeds.Commanded step None) (Some (Open f outcome)) m = refl
-did-left r (deeds.Commanded step None) (Some (OpenOn ledger f asset amounts)) m = refl
-did-left r (deeds.Commanded step None) (Some (OpenVirtual route ledgers guarantors joint channel asset amounts)) m = refl
+did-left r (deeds.Commanded step None) (Some (OpenOn o)) m = refl
+did-left r (deeds.Commanded step None) (Some (OpenVirtual v)) m = refl
 did-left r (deeds.Commanded step None) (Some (Pay channel asset amount)) m = refl
 did-left r (deeds.Commanded step None) (Some (Close channel)) m = refl
 did-left r (deeds.Commanded step None) (Some Exit) m = refl

@@ -140,10 +140,10 @@ module _ (r : Rules) (key : List ℕ) (lines : List Line) where
       → KeepsOpened m → KeepsOpened (did r deed command m)
   did-opened seen (deeds.Commanded step None) (Some (Open g outcome)) m there was =
       opens-opened seen step (Open g outcome) m there was
-  did-opened seen (deeds.Commanded step None) (Some (OpenOn ledger g asset amounts)) m there was =
-      opens-opened seen step (OpenOn ledger g asset amounts) m there was
-  did-opened seen (deeds.Commanded step None) (Some (OpenVirtual route ledgers guarantors joint f asset amounts)) m there was =
-      opens-opened seen step (OpenVirtual route ledgers guarantors joint f asset amounts) m there was
+  did-opened seen (deeds.Commanded step None) (Some (OpenOn o)) m there was =
+      opens-opened seen step (OpenOn o) m there was
+  did-opened seen (deeds.Commanded step None) (Some (OpenVirtual v)) m there was =
+      opens-opened seen step (OpenVirtual v) m there was
   did-opened seen (deeds.Commanded step None) (Some (Pay channel asset amount)) m there was = was
   did-opened seen (deeds.Commanded step None) (Some (Close channel)) m there was =
       record { own = was.own; each = was.each }

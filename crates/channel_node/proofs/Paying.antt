@@ -187,7 +187,7 @@ module _ (ts : Tables) (r : Rules) (s : Signing) (h : List Entry) (legal : Legal
               → Waits ts r s h legal (paid_if ts r s None c (asked r s step c None n)) None
           by (Open f outcome) e a = a
           by (Close channel) e a = a
-          by (OpenOn ledger f asset amounts) e a = a
-          by (OpenVirtual route ledgers guarantors joint channel asset amounts) e a = a
+          by (OpenOn o) e a = a
+          by (OpenVirtual v) e a = a
           by Exit e a = a
           by (Pay channel asset amount) e a = pays n step channel asset amount e a

@@ -108,8 +108,8 @@ close_if false goal = goal
 
 abbrev pub commanded : Rules → Command → Mind → Mind
 commanded r (Open f outcome) m = with_opened r (Open f outcome) m
-commanded r (OpenOn ledger f asset amounts) m = with_opened r (OpenOn ledger f asset amounts) m
-commanded r (OpenVirtual route ledgers guarantors joint channel asset amounts) m = with_opened r (OpenVirtual route ledgers guarantors joint channel asset amounts) m
+commanded r (OpenOn o) m = with_opened r (OpenOn o) m
+commanded r (OpenVirtual v) m = with_opened r (OpenVirtual v) m
 commanded r (Close channel) m = record m { goals = map (λ goal. close_if (goal.part == place_with channel m.parts) goal) m.goals }
 commanded r (Pay channel asset amount) m = m
 commanded r Exit m = record m { left = true }

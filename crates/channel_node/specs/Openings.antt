@@ -23,8 +23,8 @@ use Rattle.network.specs.declared.command.Command.TheVariants.{Open, OpenOn, Ope
 -- the fixed parts of the channels that a command opens: guarantors, joint channel, payment channel
 abbrev pub opened_by : Command → List FixedParts
 opened_by (Open f outcome) = f ∷ []
-opened_by (OpenOn ledger f asset amounts) = f ∷ []
-opened_by (OpenVirtual route ledgers guarantors joint channel asset amounts) = guarantors.0 ∷ guarantors.1 ∷ joint ∷ channel ∷ []
+opened_by (OpenOn o) = o.fixed ∷ []
+opened_by (OpenVirtual v) = v.guarantors.0 ∷ v.guarantors.1 ∷ v.joint ∷ v.channel ∷ []
 opened_by _ = []
 
 -- the position of a key among a channel's, or how many keys it has
@@ -69,20 +69,20 @@ virtual r key ledgers guarantors joint channel asset amounts =
 -- the part of a command that opens, for the participant with this key
 abbrev pub parts_of : Rules → List ℕ → Command → List Part
 parts_of r key (Open f outcome) = Root (r.named f) ∷ []
-parts_of r key (OpenOn ledger f asset amounts) = OnLedger ledger (r.named f) ∷ []
-parts_of r key (OpenVirtual route ledgers guarantors joint channel asset amounts) =
-    if takes_part key channel
-    then End (virtual r key ledgers guarantors joint channel asset amounts) ∷ []
-    else Middle (virtual r key ledgers guarantors joint channel asset amounts) ∷ []
+parts_of r key (OpenOn o) = OnLedger o.ledger (r.named o.fixed) ∷ []
+parts_of r key (OpenVirtual v) =
+    if takes_part key v.channel
+    then End (virtual r key v.ledgers v.guarantors v.joint v.channel v.asset v.amounts) ∷ []
+    else Middle (virtual r key v.ledgers v.guarantors v.joint v.channel v.asset v.amounts) ∷ []
 parts_of r key _ = []
 
 -- the ledgers that the part stands on
 abbrev pub ledgers_for : List ℕ → Command → List (List ℕ)
-ledgers_for key (OpenOn ledger f asset amounts) = ledger ∷ []
-ledgers_for key (OpenVirtual route ledgers guarantors joint channel asset amounts) =
-    if takes_part key channel
-    then (if place_among key channel == 1 then ledgers.1 else ledgers.0) ∷ []
-    else ledgers.0 ∷ ledgers.1 ∷ []
+ledgers_for key (OpenOn o) = o.ledger ∷ []
+ledgers_for key (OpenVirtual v) =
+    if takes_part key v.channel
+    then (if place_among key v.channel == 1 then v.ledgers.1 else v.ledgers.0) ∷ []
+    else v.ledgers.0 ∷ v.ledgers.1 ∷ []
 ledgers_for key _ = []
 
 -- ---- the goal
@@ -102,6 +102,6 @@ goal_with part opening amounts = record { part = part; opening = opening; amount
 -- what is commanded of the part, which gets this place in the plan
 abbrev pub goals_of : ℕ → Command → List Goal
 goals_of part (Open f outcome) = goal_with part outcome (0, 0) ∷ []
-goals_of part (OpenOn ledger f asset amounts) = goal_with part (shared f asset amounts) amounts ∷ []
-goals_of part (OpenVirtual route ledgers guarantors joint channel asset amounts) = goal_with part (shared channel asset amounts) amounts ∷ []
+goals_of part (OpenOn o) = goal_with part (shared o.fixed o.asset o.amounts) o.amounts ∷ []
+goals_of part (OpenVirtual v) = goal_with part (shared v.channel v.asset v.amounts) v.amounts ∷ []
 goals_of part _ = []

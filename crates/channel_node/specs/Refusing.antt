@@ -217,8 +217,8 @@ close_part t m (Some part) =
 -- with a key that signs `limit` times and has signed `used` times
 abbrev pub command_refusal : Tables → Rules → ℕ → ℕ → Mind → Command → Option NodeRefusal
 command_refusal t r limit used m (commands.Open f outcome) = open_refusal t r m (commands.Open f outcome)
-command_refusal t r limit used m (commands.OpenOn ledger f asset amounts) = open_refusal t r m (commands.OpenOn ledger f asset amounts)
-command_refusal t r limit used m (commands.OpenVirtual route ledgers guarantors joint channel asset amounts) = open_refusal t r m (commands.OpenVirtual route ledgers guarantors joint channel asset amounts)
+command_refusal t r limit used m (commands.OpenOn o) = open_refusal t r m (commands.OpenOn o)
+command_refusal t r limit used m (commands.OpenVirtual v) = open_refusal t r m (commands.OpenVirtual v)
 command_refusal t r limit used m (commands.Pay channel asset amount) = pay_refusal t r limit used m channel asset amount (kept_of channel m.kept)
 command_refusal t r limit used m (commands.Close channel) = close_part t m (part_with channel m.parts)
 command_refusal t r limit used m commands.Exit = None

@@ -272,40 +272,10 @@ impl<M: Knowing + Drop> Node<M> {
             Command::Open { fixed, outcome } => {
                 self.take_up_quietly(step, Command::Open { fixed, outcome })
             }
-            Command::OpenOn {
-                ledger,
-                fixed,
-                asset,
-                amounts,
-            } => self.take_up_quietly(
-                step,
-                Command::OpenOn {
-                    ledger,
-                    fixed,
-                    asset,
-                    amounts,
-                },
-            ),
-            Command::OpenVirtual {
-                route,
-                ledgers,
-                guarantors,
-                joint,
-                channel,
-                asset,
-                amounts,
-            } => self.take_up_quietly(
-                step,
-                Command::OpenVirtual {
-                    route,
-                    ledgers,
-                    guarantors,
-                    joint,
-                    channel,
-                    asset,
-                    amounts,
-                },
-            ),
+            Command::OpenOn(funding) => self.take_up_quietly(step, Command::OpenOn(funding)),
+            Command::OpenVirtual(funding) => {
+                self.take_up_quietly(step, Command::OpenVirtual(funding))
+            }
             Command::Close { channel } => self.take_up_quietly(step, Command::Close { channel }),
             Command::Exit => self.take_up_quietly(step, Command::Exit),
         }

@@ -3,6 +3,7 @@ pub mod Parts
 pub mod Chains
 pub mod Spelling
 pub mod Reading
+pub mod Lists
 pub mod Kept
 pub mod Flat
 pub mod Items

@@ -1,19 +1,22 @@
 //! Signed states, and chains of states with the marks of their signers.
 
-ghost use Rattle.std.specs.Prelude.{◌≡◌, ◌≤◌, ◌++◌, [], length, IfOk, OnOk, OnErr, Ok};
+ghost use Rattle.std.specs.Prelude.{◌≡◌, ◌<◌, ◌≤◌, ◌++◌, length, IfOk, OnOk, OnErr, Ok};
 ghost use Rattle.std.specs.List.{flat_map, AllByRecursion};
 ghost use Rattle.channel_values.specs.declared.chain.Signed.{Signed as SignedParts};
 ghost use Rattle.channel_values.specs.declared.chain.Chain.{Chain as ChainParts};
 ghost use Rattle.channel_values.specs.Parts.{IsState};
 ghost use Rattle.channel_values.specs.Chains.{IsSignature, IsSigned, IsMark, IsChain, FitsMark, KeepsMark, KeepsLimits};
 ghost use Rattle.channel_values.specs.Spelling.{state, signed, mark, chain};
-ghost use Rattle.channel_values.specs.Reading.{Gives, sized_at, many_at, next_state_at, mark_at, states_at, marks_at, signed_at, signed_of, chain_at, chain_of};
+ghost use Rattle.channel_values.specs.Rows.{mover};
+ghost use Rattle.channel_values.specs.Rules.{people};
+ghost use Rattle.channel_values.specs.Reading.{Gives, sized_at, next_state_at, mark_at, signed_at, signed_of, chain_at, chain_of};
 
-use crate::cursor::{ended, take_byte, take_count, take_sized};
+use crate::cursor::{ended, take_byte, take_sized};
 use crate::fault::{ByteFault, NoMemory};
 use crate::fixed::{Fixed, take_fixed};
 use crate::limits::{MOST_MARKS, MOST_SIGNATURE_BYTES, MOST_STATES};
 use crate::listed::Listed;
+use crate::many::{Take, take_short_list};
 use crate::state::{State, take_state};
 use crate::writing::{put_count, put_sized};
 use std::alloc::Global;
@@ -34,6 +37,14 @@ impl Signed {
         let signature = self.signature.copy()?;
         Ok(Signed { state, signature })
     }
+}
+
+/// The position of the participant who moves to this turn.
+pub fn mover_at(fixed: &Fixed, turn: u64) -> usize
+    ensures value { result ≡ mover (people fixed.now) turn }
+    ensures there { result < people fixed.now }
+{
+    (turn % fixed.keys().len() as u64) as usize
 }
 
 /// A participant's signature of the state at a place of its chain.
@@ -127,86 +138,53 @@ pub fn take_signed(alloc: Global, whole: usize, bytes: &[u8]) -> Result<(Signed,
     Ok((Signed { state, signature }, rest))
 }
 
-#[tactic(auto, unfolding(crate::specs::Reading::mark_at))]
-fn take_mark<'a>(
-    alloc: Global,
-    whole: usize,
-    seen: &[Mark],
-    bytes: &'a [u8],
-) -> Result<(Mark, &'a [u8]), ByteFault>
-    ensures { Gives (λ x. (x.0, x.1.now)) result (mark_at whole seen.now bytes.now) }
-{
-    let (place, rest) = take_byte(whole, bytes)?;
-    let (signature, rest) = take_signature(alloc, whole, rest)?;
-    Ok((Mark { place, signature }, rest))
-}
+/// A reader of states, whatever was read before them.
+struct States;
 
-fn take_many_states(
-    alloc: Global,
-    whole: usize,
-    count: u8,
-    bytes: &[u8],
-) -> Result<(Vec<State>, &[u8]), ByteFault>
-    ensures { Gives (λ x. (x.0.items, x.1.now)) result (many_at (next_state_at whole) [] count bytes.now) }
-{
-    let mut states = Vec::new(alloc);
-    let mut rest = bytes;
-    'states: for _ in 0..count {
-        let (state, after) = take_state(alloc, whole, rest)?;
-        states.push(state)?;
-        rest = after;
+impl Take for States {
+    type Value = State;
+
+    ghost at = { next_state_at };
+
+    fn take<'a>(
+        alloc: Global,
+        whole: usize,
+        _seen: &[State],
+        bytes: &'a [u8],
+    ) -> Result<(State, &'a [u8]), ByteFault> {
+        take_state(alloc, whole, bytes)
     }
-    Ok((states, rest))
 }
 
-fn take_many_marks(
-    alloc: Global,
-    whole: usize,
-    count: u8,
-    bytes: &[u8],
-) -> Result<(Vec<Mark>, &[u8]), ByteFault>
-    ensures { Gives (λ x. (x.0.items, x.1.now)) result (many_at (mark_at whole) [] count bytes.now) }
-{
-    let mut marks = Vec::new(alloc);
-    let mut rest = bytes;
-    'marks: for _ in 0..count {
-        let (mark, after) = take_mark(alloc, whole, &marks, rest)?;
-        marks.push(mark)?;
-        rest = after;
+/// A reader of marks, whatever was read before them.
+struct Marks;
+
+impl Take for Marks {
+    type Value = Mark;
+
+    ghost at = { mark_at };
+
+    #[tactic(auto, unfolding(crate::specs::Reading::mark_at))]
+    fn take<'a>(
+        alloc: Global,
+        whole: usize,
+        _seen: &[Mark],
+        bytes: &'a [u8],
+    ) -> Result<(Mark, &'a [u8]), ByteFault> {
+        let (place, rest) = take_byte(whole, bytes)?;
+        let (signature, rest) = take_signature(alloc, whole, rest)?;
+        Ok((Mark { place, signature }, rest))
     }
-    Ok((marks, rest))
-}
-
-#[tactic(auto, unfolding(crate::specs::Reading::states_at))]
-fn take_states(
-    alloc: Global,
-    whole: usize,
-    bytes: &[u8],
-) -> Result<(Listed<State>, &[u8]), ByteFault>
-    ensures { Gives (λ x. (x.0, x.1.now)) result (states_at whole bytes.now) }
-{
-    let (count, rest) = take_count(whole, MOST_STATES as u8, bytes)?;
-    let (states, rest) = take_many_states(alloc, whole, count, rest)?;
-    Ok((Listed::make(states), rest))
-}
-
-#[tactic(auto, unfolding(crate::specs::Reading::marks_at))]
-fn take_marks(alloc: Global, whole: usize, bytes: &[u8]) -> Result<(Listed<Mark>, &[u8]), ByteFault>
-    ensures { Gives (λ x. (x.0, x.1.now)) result (marks_at whole bytes.now) }
-{
-    let (count, rest) = take_count(whole, MOST_MARKS as u8, bytes)?;
-    let (marks, rest) = take_many_marks(alloc, whole, count, rest)?;
-    Ok((Listed::make(marks), rest))
 }
 
 /// A chain, and the bytes after it.
-#[tactic(auto, unfolding(crate::specs::Reading::chain_at))]
+#[tactic(auto, unfolding(crate::specs::Reading::chain_at, crate::specs::Reading::states_at, crate::specs::Reading::marks_at))]
 pub fn take_chain(alloc: Global, whole: usize, bytes: &[u8]) -> Result<(Chain, &[u8]), ByteFault>
     ensures { Gives (λ x. (x.0, x.1.now)) result (chain_at whole bytes.now) }
 {
     let (fixed, rest) = take_fixed(alloc, whole, bytes)?;
-    let (states, rest) = take_states(alloc, whole, rest)?;
-    let (marks, rest) = take_marks(alloc, whole, rest)?;
+    let (states, rest) = take_short_list::<States>(alloc, whole, MOST_STATES as u8, rest)?;
+    let (marks, rest) = take_short_list::<Marks>(alloc, whole, MOST_MARKS as u8, rest)?;
     Ok((
         Chain {
             fixed,

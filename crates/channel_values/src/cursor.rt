@@ -5,7 +5,7 @@
 
 ghost use Rattle.std.specs.Prelude.{◌≡◌, ◌≤◌, ◌-◌, length, IfOk};
 ghost use Rattle.std.specs.Int.{w16, w32, w64};
-ghost use Rattle.channel_values.specs.Reading.{Gives, Tells, ended, byte_at, number_at, front_at, name_at, count_at, sized_at};
+ghost use Rattle.channel_values.specs.Reading.{Gives, Tells, ended, byte_at, number_at, front_at, name_at, count_at, flag_at, sized_at};
 
 use crate::fault::ByteFault;
 use crate::value::{Key, Name};
@@ -107,6 +107,19 @@ pub fn take_count(whole: usize, limit: u8, bytes: &[u8]) -> Result<(u8, &[u8]), 
         return Err(ByteFault::OverLimit(place_of(whole, bytes)));
     }
     Ok((count, rest))
+}
+
+/// A flag, which is one byte: 0 or 1.
+#[tactic(auto, unfolding(crate::specs::Reading::flag_at))]
+pub fn take_flag(whole: usize, bytes: &[u8]) -> Result<(bool, &[u8]), ByteFault>
+    ensures { Tells (λ x. (x.0, x.1.now)) result (flag_at whole bytes.now) }
+{
+    let (flag, rest) = take_byte(whole, bytes)?;
+    match flag {
+        0 => Ok((false, rest)),
+        1 => Ok((true, rest)),
+        _ => Err(ByteFault::BadTag(place_of(whole, bytes))),
+    }
 }
 
 /// A length of two bytes, at most the limit, and that many bytes.

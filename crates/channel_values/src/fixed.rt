@@ -1,15 +1,16 @@
 //! Fixed parts of channels, which are valid by their type.
 
-ghost use Rattle.std.specs.Prelude.{◌≡◌, ◌≤◌, ◌++◌, [], IfOk, OnOk, OnErr, Ok};
+ghost use Rattle.std.specs.Prelude.{◌≡◌, ◌≤◌, ◌++◌, IfOk, OnOk, OnErr, Ok};
 ghost use Rattle.std.specs.List.{list_any};
 ghost use Rattle.std.specs.Str.{bytes_eq};
 ghost use Rattle.channel_values.specs.Parts.{FixedParts, IsFixed, fixed_with};
 ghost use Rattle.channel_values.specs.Spelling.{fixed};
-ghost use Rattle.channel_values.specs.Reading.{Gives, Tells, many_at, people_at, key_at, app_at, duration_at, fixed_at, fixed_of};
+ghost use Rattle.channel_values.specs.Reading.{Gives, Tells, people_at, key_at, app_at, duration_at, fixed_at, fixed_of};
 
 use crate::cursor::{ended, place_of, take_byte, take_raw_key, take_u32, take_u64};
 use crate::fault::{ByteFault, NoMemory};
 use crate::limits::MOST_PEOPLE;
+use crate::many::{Take, take_many};
 use crate::value::Key;
 use crate::writing::put_fixed;
 use std::alloc::Global;
@@ -141,34 +142,27 @@ fn has_key(seen: &[Key], key: &Key) -> bool
     seen.iter().any(|k| same_key(k, key))
 }
 
-/// A key after those seen.
-#[tactic(auto, unfolding(crate::specs::Reading::key_at))]
-fn take_key<'a>(whole: usize, seen: &[Key], bytes: &'a [u8]) -> Result<(Key, &'a [u8]), ByteFault>
-    ensures { Tells (λ x. (x.0, x.1.now)) result (key_at whole seen.now bytes.now) }
-{
-    let (key, rest) = take_raw_key(whole, bytes)?;
-    if has_key(seen, &key) {
-        return Err(ByteFault::Doubled(place_of(whole, bytes)));
-    }
-    Ok((key, rest))
-}
+/// A reader of keys, each unlike those before it.
+struct Keys;
 
-fn take_keys(
-    alloc: Global,
-    whole: usize,
-    count: u8,
-    bytes: &[u8],
-) -> Result<(Vec<Key>, &[u8]), ByteFault>
-    ensures { Gives (λ x. (x.0.items, x.1.now)) result (many_at (key_at whole) [] count bytes.now) }
-{
-    let mut keys = Vec::new(alloc);
-    let mut rest = bytes;
-    'keys: for _ in 0..count {
-        let (key, after) = take_key(whole, &keys, rest)?;
-        keys.push(key)?;
-        rest = after;
+impl Take for Keys {
+    type Value = Key;
+
+    ghost at = { key_at };
+
+    #[tactic(auto, unfolding(crate::specs::Reading::key_at))]
+    fn take<'a>(
+        _alloc: Global,
+        whole: usize,
+        seen: &[Key],
+        bytes: &'a [u8],
+    ) -> Result<(Key, &'a [u8]), ByteFault> {
+        let (key, rest) = take_raw_key(whole, bytes)?;
+        if has_key(seen, &key) {
+            return Err(ByteFault::Doubled(place_of(whole, bytes)));
+        }
+        Ok((key, rest))
     }
-    Ok((keys, rest))
 }
 
 /// The application of so many participants. Payment has two.
@@ -200,7 +194,7 @@ fn take_parts(alloc: Global, whole: usize, bytes: &[u8]) -> Result<(Parts, &[u8]
         (fixed_at whole bytes.now) }
 {
     let (people, rest) = take_people(whole, bytes)?;
-    let (keys, rest) = take_keys(alloc, whole, people, rest)?;
+    let (keys, rest) = take_many::<Keys>(alloc, whole, people as u32, rest)?;
     let (nonce, rest) = take_u64(whole, rest)?;
     let (app, rest) = take_app(whole, people, rest)?;
     let (duration, rest) = take_duration(whole, rest)?;

@@ -8,10 +8,8 @@ ghost use Rattle.sha2.specs.Hashers.{Holds256};
 ghost use Rattle.channel_values.specs.Digests.{name_of_channel, name_of_person, digest_of_state, digest_of_outcome};
 ghost use Rattle.channel_values.specs.Messages.{message_of_state, message_of_challenge};
 
+use crate::value::Name;
 use sha2::{Digest, Sha256};
-
-/// A digest that names something.
-pub type Name = [u8; 32];
 
 // The first byte of each string that is hashed or signed.
 const CHANNEL: u8 = 1;

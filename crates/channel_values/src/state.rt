@@ -3,9 +3,9 @@
 ghost use Rattle.std.specs.Prelude.{◌≡◌, ◌++◌, IfOk, OnOk, OnErr, Ok};
 ghost use Rattle.channel_values.specs.Parts.{StateParts, IsState, state_with};
 ghost use Rattle.channel_values.specs.Spelling.{state};
-ghost use Rattle.channel_values.specs.Reading.{Gives, Tells, turn_at, flag_at, state_at, state_of};
+ghost use Rattle.channel_values.specs.Reading.{Gives, Tells, turn_at, state_at, state_of};
 
-use crate::cursor::{ended, place_of, take_byte, take_sized, take_u64};
+use crate::cursor::{ended, place_of, take_flag, take_sized, take_u64};
 use crate::fault::{ByteFault, NoMemory};
 use crate::limits::MOST_APP_BYTES;
 use crate::outcome::{Outcome, take_outcome};
@@ -123,18 +123,6 @@ fn take_turn(whole: usize, bytes: &[u8]) -> Result<(u64, &[u8]), ByteFault>
         return Err(ByteFault::OverLimit(place_of(whole, bytes)));
     }
     Ok((turn, rest))
-}
-
-#[tactic(auto, unfolding(crate::specs::Reading::flag_at))]
-fn take_flag(whole: usize, bytes: &[u8]) -> Result<(bool, &[u8]), ByteFault>
-    ensures { Tells (λ x. (x.0, x.1.now)) result (flag_at whole bytes.now) }
-{
-    let (flag, rest) = take_byte(whole, bytes)?;
-    match flag {
-        0 => Ok((false, rest)),
-        1 => Ok((true, rest)),
-        _ => Err(ByteFault::BadTag(place_of(whole, bytes))),
-    }
 }
 
 #[tactic(auto, unfolding(crate::specs::Reading::state_at))]

@@ -1,12 +1,12 @@
 //! What outcomes are made of.
 
-ghost use Rattle.std.specs.Prelude.{◌≡◌, ◌↔◌, IsTrue, IfOk};
-ghost use Rattle.channel_values.specs.Outcomes.{is_same};
+ghost use Rattle.std.specs.Prelude.{◌≡◌, ◌<◌, ◌^◌, ◌↔◌, IsTrue, IfOk};
+ghost use Rattle.channel_values.specs.Outcomes.{is_same, total};
 
 use crate::fault::NoMemory;
 use crate::listed::Listed;
 
-/// The SHA-256 name of a person or a channel.
+/// The SHA-256 digest that names a person, a channel, a state or an outcome.
 pub type Name = [u8; 32];
 
 /// The LMS public key of a person (RFC 8554, section 5.3).
@@ -41,6 +41,14 @@ impl Default for Dest {
 pub struct Item {
     pub to: Dest,
     pub amount: u64,
+}
+
+/// The sum of the amounts.
+pub fn total(items: &[Item]) -> u64
+    requires { total items.now < 2 ^ 64 }
+    ensures { result ≡ total items.now }
+{
+    items.iter().map(|item| item.amount).sum()
 }
 
 /// How one asset is paid out.

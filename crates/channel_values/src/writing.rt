@@ -11,15 +11,16 @@ use crate::fault::NoMemory;
 use crate::outcome::Outcome;
 use crate::value::{AssetOutcome, Dest, Item, Key, Name, Shape};
 
-pub(crate) fn put_count(out: &mut Vec<u8>, length: usize) -> Result<(), NoMemory>
+/// Appends a count of one byte. One that doesn't fit is written as 255, which is over every limit.
+pub fn put_count(out: &mut Vec<u8>, length: usize) -> Result<(), NoMemory>
     ensures { OnOk result (out.new.items ≡ out.old.items ++ count length ∷ []) }
 {
     out.push(length.min(255) as u8)?;
     Ok(())
 }
 
-/// A name has 32 bytes.
-fn put_name(out: &mut Vec<u8>, name: &Name) -> Result<(), NoMemory>
+/// Appends a name, which has 32 bytes.
+pub fn put_name(out: &mut Vec<u8>, name: &Name) -> Result<(), NoMemory>
     ensures put { OnOk result (out.new.items ≡ out.old.items ++ name.now) }
     ensures fits { OnOk result (IsName name.now) }
 {
@@ -114,7 +115,8 @@ pub(crate) fn put_assets(out: &mut Vec<u8>, assets: &[AssetOutcome]) -> Result<(
     Ok(())
 }
 
-pub(crate) fn put_sized(out: &mut Vec<u8>, bytes: &[u8]) -> Result<(), NoMemory>
+/// Appends bytes after their length, which has two bytes.
+pub fn put_sized(out: &mut Vec<u8>, bytes: &[u8]) -> Result<(), NoMemory>
     ensures put { OnOk result (out.new.items ≡ out.old.items ++ sized bytes.now) }
     ensures fits { OnOk result (AreBytes bytes.now) }
 {
@@ -124,7 +126,8 @@ pub(crate) fn put_sized(out: &mut Vec<u8>, bytes: &[u8]) -> Result<(), NoMemory>
     Ok(())
 }
 
-fn put_flag(out: &mut Vec<u8>, holds: bool) -> Result<(), NoMemory>
+/// Appends a flag, which is one byte: 0 or 1.
+pub fn put_flag(out: &mut Vec<u8>, holds: bool) -> Result<(), NoMemory>
     ensures { OnOk result (out.new.items ≡ out.old.items ++ flag holds) }
 {
     out.push(if holds { 1 } else { 0 })?;

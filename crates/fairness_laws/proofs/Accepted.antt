@@ -71,8 +71,8 @@ pub record PaidBy (d : Deed) (o : Option Command) (c : Command) : Type 0 where
 pub paid-by : (d : Deed) (o : Option Command) (paid : List ℕ) (asset amount : ℕ) → payment_in d o ≡ Some (commands.Pay paid asset amount) → PaidBy d o (commands.Pay paid asset amount)
 paid-by (deeds.Commanded step None) (Some (commands.Pay channel a n)) paid asset amount e = record { step = step; deed = refl; command = e }
 paid-by (deeds.Commanded step None) (Some (commands.Open f outcome)) paid asset amount e = absurd (none-eq _ e)
-paid-by (deeds.Commanded step None) (Some (commands.OpenOn l f a n)) paid asset amount e = absurd (none-eq _ e)
-paid-by (deeds.Commanded step None) (Some (commands.OpenVirtual route ls gs j c a n)) paid asset amount e = absurd (none-eq _ e)
+paid-by (deeds.Commanded step None) (Some (commands.OpenOn o)) paid asset amount e = absurd (none-eq _ e)
+paid-by (deeds.Commanded step None) (Some (commands.OpenVirtual v)) paid asset amount e = absurd (none-eq _ e)
 paid-by (deeds.Commanded step None) (Some (commands.Close c)) paid asset amount e = absurd (none-eq _ e)
 paid-by (deeds.Commanded step None) (Some commands.Exit) paid asset amount e = absurd (none-eq _ e)
 paid-by (deeds.Commanded step None) None paid asset amount e = absurd (none-eq _ e)

@@ -162,9 +162,9 @@ accepted-new t r m command e = and-right (t.fits (facts_of m) command) (are_new 
 command-apart : (t : Tables) (r : Rules) (s : Signing) (used : ℕ) (m : Mind) (command : Command) → None ≡ command_refusal t r s.limit used m command → are_apart (names m.kept) ≡ true
     → are_apart (names (commanded_if r (Some command) None m).kept) ≡ true
 command-apart t r s used m (commands.Open f outcome) e apart = opens-apart r m (commands.Open f outcome) (accepted-new t r m (commands.Open f outcome) e) apart
-command-apart t r s used m (commands.OpenOn ledger f asset amounts) e apart = opens-apart r m (commands.OpenOn ledger f asset amounts) (accepted-new t r m (commands.OpenOn ledger f asset amounts) e) apart
-command-apart t r s used m (commands.OpenVirtual route ledgers guarantors joint channel asset amounts) e apart =
-    opens-apart r m (commands.OpenVirtual route ledgers guarantors joint channel asset amounts) (accepted-new t r m (commands.OpenVirtual route ledgers guarantors joint channel asset amounts) e) apart
+command-apart t r s used m (commands.OpenOn o) e apart = opens-apart r m (commands.OpenOn o) (accepted-new t r m (commands.OpenOn o) e) apart
+command-apart t r s used m (commands.OpenVirtual v) e apart =
+    opens-apart r m (commands.OpenVirtual v) (accepted-new t r m (commands.OpenVirtual v) e) apart
 command-apart t r s used m (commands.Pay channel asset amount) e apart = apart
 command-apart t r s used m (commands.Close channel) e apart = apart
 command-apart t r s used m commands.Exit e apart = apart

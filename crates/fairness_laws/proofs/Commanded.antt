@@ -105,8 +105,8 @@ taken-parts r (deeds.Commanded step None) (Some c) command m w is p i = by c (su
   where
     by : (c : Command) → In p (parts_of r m.key c) → In p (did r (deeds.Commanded step None) (Some c) m).parts
     by (commands.Open f outcome) i = In-append_right p m.parts (parts_of r m.key (commands.Open f outcome)) i
-    by (commands.OpenOn ledger f asset amounts) i = In-append_right p m.parts (parts_of r m.key (commands.OpenOn ledger f asset amounts)) i
-    by (commands.OpenVirtual route ledgers guarantors joint channel asset amounts) i = In-append_right p m.parts (parts_of r m.key (commands.OpenVirtual route ledgers guarantors joint channel asset amounts)) i
+    by (commands.OpenOn o) i = In-append_right p m.parts (parts_of r m.key (commands.OpenOn o)) i
+    by (commands.OpenVirtual v) i = In-append_right p m.parts (parts_of r m.key (commands.OpenVirtual v)) i
     by (commands.Pay channel asset amount) i = absurd i
     by (commands.Close channel) i = absurd i
     by commands.Exit i = absurd i
@@ -126,8 +126,8 @@ taken-can t r s past used waits (deeds.Commanded step None) (Some c) m allowed w
   where
     by : (c : Command) → Allowed t r s past m used waits (deeds.Commanded step None) (Some c) → In f (opened_by c) → can_open t r m c ≡ true
     by (commands.Open g outcome) a i = accepted-can t r m (commands.Open g outcome) a.1
-    by (commands.OpenOn ledger g asset amounts) a i = accepted-can t r m (commands.OpenOn ledger g asset amounts) a.1
-    by (commands.OpenVirtual route ledgers guarantors joint channel asset amounts) a i = accepted-can t r m (commands.OpenVirtual route ledgers guarantors joint channel asset amounts) a.1
+    by (commands.OpenOn o) a i = accepted-can t r m (commands.OpenOn o) a.1
+    by (commands.OpenVirtual v) a i = accepted-can t r m (commands.OpenVirtual v) a.1
     by (commands.Pay channel asset amount) a i = absurd i
     by (commands.Close channel) a i = absurd i
     by commands.Exit a i = absurd i

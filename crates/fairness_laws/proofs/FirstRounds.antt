@@ -93,15 +93,15 @@ joined-among c (Middle v) e =
 ledgers-are : (key : List ℕ) (command : Command) (q : Part) → In q (parts_of real key command) → ledgers_of q ≡ ledgers_for key command
 ledgers-are key (commands.Open f outcome) q (inl e) = ap ledgers_of e
 ledgers-are key (commands.Open f outcome) q (inr i) = absurd i
-ledgers-are key (commands.OpenOn ledger f asset amounts) q (inl e) = ap ledgers_of e
-ledgers-are key (commands.OpenOn ledger f asset amounts) q (inr i) = absurd i
-ledgers-are key (commands.OpenVirtual route ledgers guarantors joint channel asset amounts) q i = go (takes_part key channel) refl i
+ledgers-are key (commands.OpenOn o) q (inl e) = ap ledgers_of e
+ledgers-are key (commands.OpenOn o) q (inr i) = absurd i
+ledgers-are key (commands.OpenVirtual funding) q i = go (takes_part key funding.channel) refl i
   where
     v : Virtual
-    v = virtual real key ledgers guarantors joint channel asset amounts
+    v = virtual real key funding.ledgers funding.guarantors funding.joint funding.channel funding.asset funding.amounts
 
-    go : (b : Bool) → takes_part key channel ≡ b → In q (cond b (End v ∷ []) (Middle v ∷ [])) → ledgers_of q ≡ cond b (cond (place_among key channel == 1) ledgers.1 ledgers.0 ∷ []) (ledgers.0 ∷ ledgers.1 ∷ [])
-    go true t (inl e) = ap ledgers_of e ∙ ap (λ (x : Bool). cond (x && (place_among key channel == 1)) ledgers.1 ledgers.0 ∷ []) t
+    go : (b : Bool) → takes_part key funding.channel ≡ b → In q (cond b (End v ∷ []) (Middle v ∷ [])) → ledgers_of q ≡ cond b (cond (place_among key funding.channel == 1) funding.ledgers.1 funding.ledgers.0 ∷ []) (funding.ledgers.0 ∷ funding.ledgers.1 ∷ [])
+    go true t (inl e) = ap ledgers_of e ∙ ap (λ (x : Bool). cond (x && (place_among key funding.channel == 1)) funding.ledgers.1 funding.ledgers.0 ∷ []) t
     go true t (inr i) = absurd i
     go false t (inl e) = ap ledgers_of e
     go false t (inr i) = absurd i
@@ -151,8 +151,8 @@ pays : (s : Signing) (past : List Entry) (m : Mind) (used : ℕ) (waits : Option
 pays s past m used waits (deeds.Commanded step None) (Some (commands.Pay paid a n)) channel asset amount allowed e =
     record { accepts = subst (λ (x : Command). None ≡ command_refusal stages real s.limit used m x) (some-eq (commands.Pay paid a n) (commands.Pay channel asset amount) e) allowed.1; parts = refl }
 pays s past m used waits (deeds.Commanded step None) (Some (commands.Open f outcome)) channel asset amount allowed e = absurd (none-eq _ e)
-pays s past m used waits (deeds.Commanded step None) (Some (commands.OpenOn ledger f a n)) channel asset amount allowed e = absurd (none-eq _ e)
-pays s past m used waits (deeds.Commanded step None) (Some (commands.OpenVirtual route ledgers guarantors joint c a n)) channel asset amount allowed e = absurd (none-eq _ e)
+pays s past m used waits (deeds.Commanded step None) (Some (commands.OpenOn o)) channel asset amount allowed e = absurd (none-eq _ e)
+pays s past m used waits (deeds.Commanded step None) (Some (commands.OpenVirtual v)) channel asset amount allowed e = absurd (none-eq _ e)
 pays s past m used waits (deeds.Commanded step None) (Some (commands.Close c)) channel asset amount allowed e = absurd (none-eq _ e)
 pays s past m used waits (deeds.Commanded step None) (Some commands.Exit) channel asset amount allowed e = absurd (none-eq _ e)
 pays s past m used waits (deeds.Commanded step None) None channel asset amount allowed e = absurd (none-eq _ e)

@@ -16,6 +16,7 @@ use Rattle.fairness_laws.proofs.Plan.Names.{place-within}
 use Rattle.fairness_laws.proofs.Plan.Parts.{parts_are_known}
 use Rattle.fairness_laws.proofs.Plan.Places.{plays-there}
 use Rattle.fairness_laws.proofs.Signing.{kept-of}
+use Rattle.fairness_laws.specs.Openings.{open_virtual}
 use Rattle.fairness_laws.specs.PaymentLaws.{At}
 use Rattle.fairness_laws.specs.PlanLaws.{PartAt}
 use Rattle.fairness_laws.specs.PlanParts.{EndIs}
@@ -107,9 +108,9 @@ module _ (s : Signing) (h : List Entry) (journal : List Told) (fair : IsFair s h
   own-person f i = In-map name_of_person s.key f.keys (own-key f i)
 
   module _ (route : Route) (ledgers : List ℕ × List ℕ) (guarantors : FixedParts × FixedParts) (joint channel : FixedParts) (asset : ℕ) (amounts : ℕ × ℕ)
-      (took : Took (commands.OpenVirtual route ledgers guarantors joint channel asset amounts) front) where
+      (took : Took (open_virtual route ledgers guarantors joint channel asset amounts) front) where
     abbrev command : Command
-    command = commands.OpenVirtual route ledgers guarantors joint channel asset amounts
+    command = open_virtual route ledgers guarantors joint channel asset amounts
 
     abbrev v : Virtual
     v = virtual real s.key ledgers guarantors joint channel asset amounts
@@ -189,14 +190,14 @@ module _ (s : Signing) (h : List Entry) (journal : List Told) (fair : IsFair s h
     joins = inl (ap (λ (x : FixedParts). real.named x) is);
   }
   of-command f i own (commands.Open g outcome) took (inr j) = absurd j
-  of-command f i own (commands.OpenOn ledger g asset amounts) took (inl is) = record {
-    part = parts.OnLedger ledger (real.named g);
-    there = opened-part (commands.OpenOn ledger g asset amounts) (parts.OnLedger ledger (real.named g)) took (inl refl);
+  of-command f i own (commands.OpenOn o) took (inl is) = record {
+    part = parts.OnLedger o.ledger (real.named o.fixed);
+    there = opened-part (commands.OpenOn o) (parts.OnLedger o.ledger (real.named o.fixed)) took (inl refl);
     joins = inl (ap (λ (x : FixedParts). real.named x) is);
   }
-  of-command f i own (commands.OpenOn ledger g asset amounts) took (inr j) = absurd j
-  of-command f i own (commands.OpenVirtual route ledgers guarantors joint channel asset amounts) took inside =
-      of-virtual route ledgers guarantors joint channel asset amounts took f i own inside
+  of-command f i own (commands.OpenOn o) took (inr j) = absurd j
+  of-command f i own (commands.OpenVirtual v) took inside =
+      of-virtual v.route v.ledgers v.guarantors v.joint v.channel v.asset v.amounts took f i own inside
   of-command f i own (commands.Pay channel asset amount) took j = absurd j
   of-command f i own (commands.Close channel) took j = absurd j
   of-command f i own commands.Exit took j = absurd j

@@ -82,8 +82,8 @@ with-opened command m all = append-named m.kept (map (opened real m.key) (adds m
 
 commanded-named : (command : Command) (m : Mind) → AreNamed m.kept → AreNamed (commanded real command m).kept
 commanded-named (Open f outcome) m all = with-opened (Open f outcome) m all
-commanded-named (OpenOn ledger f asset amounts) m all = with-opened (OpenOn ledger f asset amounts) m all
-commanded-named (OpenVirtual route ledgers guarantors joint channel asset amounts) m all = with-opened (OpenVirtual route ledgers guarantors joint channel asset amounts) m all
+commanded-named (OpenOn o) m all = with-opened (OpenOn o) m all
+commanded-named (OpenVirtual v) m all = with-opened (OpenVirtual v) m all
 commanded-named (Pay channel asset amount) m all = all
 commanded-named (Close channel) m all = all
 commanded-named Exit m all = all

@@ -17,6 +17,7 @@ use Rattle.funding_plans.specs.declared.plan.Goal.{Goal}
 use Rattle.funding_plans.specs.declared.plan.Part.{Part}
 use Rattle.funding_plans.specs.declared.plan.Part.TheVariants as parts
 use Rattle.channel_safety.specs.Journals.{In, Line, made_in}
+use Rattle.fairness_laws.specs.Openings.{open_on, open_virtual}
 use Rattle.network.specs.declared.command.Command.{Command}
 use Rattle.network.specs.declared.command.Command.TheVariants as commands
 use Rattle.network.specs.declared.command.Route.{Route}
@@ -59,19 +60,19 @@ SignsFirst f opening journal =
 -- ---- by commands
 
 module _ (s : Signing) (h : List Entry) (journal : List Told) (legal : Legal real h) (plays : Plays stages real s h journal) where
-  child-signs : (ledger : List ℕ) (f : FixedParts) (asset : ℕ) (amounts : ℕ × ℕ) → Took (commands.OpenOn ledger f asset amounts) journal → SignsFirst f (shared f asset amounts) (lines_of s.key journal)
+  child-signs : (ledger : List ℕ) (f : FixedParts) (asset : ℕ) (amounts : ℕ × ℕ) → Took (open_on ledger f asset amounts) journal → SignsFirst f (shared f asset amounts) (lines_of s.key journal)
   child-signs ledger f asset amounts took x n i made small =
-      let p = first-place s h journal legal plays (commands.OpenOn ledger f asset amounts) (parts.OnLedger ledger (real.named f)) f (shared f asset amounts) (people f - 1) took (inl refl) (inl refl)
+      let p = first-place s h journal legal plays (open_on ledger f asset amounts) (parts.OnLedger ledger (real.named f)) f (shared f asset amounts) (people f - 1) took (inl refl) (inl refl)
       (child-starts ledger f asset amounts) x n i made small in
       wants-opening ledger f asset amounts p.m n.state ((n.state.outcome ≡ shared f asset amounts) × (n.state.app_bytes ≡ [])) p.known_there p.asked_is p.going p.wants
       (λ c from until is w. let z = exactly c (shared f asset amounts) from until n.state is w in (z.1, z.2))
 
   pub end-signs : (route : Route) (ledgers : List ℕ × List ℕ) (guarantors : FixedParts × FixedParts) (joint channel : FixedParts) (asset : ℕ) (amounts : ℕ × ℕ) (t : Terms)
-      → Took (commands.OpenVirtual route ledgers guarantors joint channel asset amounts) journal → takes_part s.key channel ≡ true
+      → Took (open_virtual route ledgers guarantors joint channel asset amounts) journal → takes_part s.key channel ≡ true
       → terms_for (virtual real s.key ledgers guarantors joint channel asset amounts) (persons joint) ≡ Some t → SignsFirst channel (shared channel asset amounts) (lines_of s.key journal)
   end-signs route ledgers guarantors joint channel asset amounts t took takes told x n i made small =
       let distinct = names-differ s h journal legal plays route ledgers guarantors joint channel asset amounts took in
-      let p = first-place s h journal legal plays (commands.OpenVirtual route ledgers guarantors joint channel asset amounts) (parts.End (virtual real s.key ledgers guarantors joint channel asset amounts)) channel
+      let p = first-place s h journal legal plays (open_virtual route ledgers guarantors joint channel asset amounts) (parts.End (virtual real s.key ledgers guarantors joint channel asset amounts)) channel
       (shared channel asset amounts) (people channel - 1) took (inr (inr (inr (inl refl)))) (at-end s.key route ledgers guarantors joint channel asset amounts takes)
       (end-starts s.key route ledgers guarantors joint channel asset amounts t told distinct channel (shared channel asset amounts) (payment-channel-of s.key route ledgers guarantors joint channel asset amounts t told distinct))
       x n i made small in
@@ -121,7 +122,7 @@ module _ (s : Signing) (h : List Entry) (journal : List Told) (fair : IsFair s h
     pub ledger : List ℕ
     pub asset : ℕ
     pub amounts : ℕ × ℕ
-    pub took : Took (commands.OpenOn ledger f asset amounts) journal
+    pub took : Took (open_on ledger f asset amounts) journal
     pub is : opening ≡ shared f asset amounts
 
   pub child-of : (ledger name : List ℕ) (g : Goal) → In (parts.OnLedger ledger name) m.parts → (o : OnLedgerIs s.key past (lines_of s.key front) (facts_of m) ledger name g)
@@ -138,18 +139,18 @@ module _ (s : Signing) (h : List Entry) (journal : List Told) (fair : IsFair s h
       c = part-command o.fixed (parts.OnLedger ledger name) i fa.g fa.goal
 
       of : (d : Command) → Took d front → In (parts.OnLedger ledger name) (parts_of real s.key d) → IsGoalOf d fa.g → ChildOf o.fixed g.opening
-      of (commands.OpenOn l f asset amounts) took (inl e) goal =
-          let is : o.fixed ≡ f = one-fixed (commands.OpenOn l f asset amounts) took f (inl refl) o.fixed o.seat.own.there (o.named ∙ ap own_channel e) in
-          let opens : g.opening ≡ shared f asset amounts = opening ∙ goal-opening l f asset amounts fa.g goal in
+      of (commands.OpenOn funding) took (inl e) goal =
+          let is : o.fixed ≡ funding.fixed = one-fixed (commands.OpenOn funding) took funding.fixed (inl refl) o.fixed o.seat.own.there (o.named ∙ ap own_channel e) in
+          let opens : g.opening ≡ shared funding.fixed funding.asset funding.amounts = opening ∙ goal-opening funding.ledger funding.fixed funding.asset funding.amounts fa.g goal in
           subst (λ (x : FixedParts). ChildOf x g.opening) (sym is)
-          (record { ledger = l; asset = asset; amounts = amounts; took = later-took (commands.OpenOn l f asset amounts) took; is = opens })
-      of (commands.OpenOn l f asset amounts) took (inr j) goal = absurd j
+          (record { ledger = funding.ledger; asset = funding.asset; amounts = funding.amounts; took = later-took (commands.OpenOn funding) took; is = opens })
+      of (commands.OpenOn o) took (inr j) goal = absurd j
       of (commands.Open f outcome) took (inl e) goal = absurd cc
       of (commands.Open f outcome) took (inr j) goal = absurd j
-      of (commands.OpenVirtual route ledgers guarantors joint channel asset amounts) took j goal = absurd (no (takes_part s.key channel) j)
+      of (commands.OpenVirtual v) took j goal = absurd (no (takes_part s.key v.channel) j)
         where
           no : (b : Bool) → In (parts.OnLedger ledger name)
-              (cond b (parts.End (virtual real s.key ledgers guarantors joint channel asset amounts) ∷ []) (parts.Middle (virtual real s.key ledgers guarantors joint channel asset amounts) ∷ [])) → ⊥
+              (cond b (parts.End (virtual real s.key v.ledgers v.guarantors v.joint v.channel v.asset v.amounts) ∷ []) (parts.Middle (virtual real s.key v.ledgers v.guarantors v.joint v.channel v.asset v.amounts) ∷ [])) → ⊥
           no true (inl e) = cc
           no true (inr k) = k
           no false (inl e) = cc

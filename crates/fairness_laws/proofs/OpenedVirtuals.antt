@@ -15,6 +15,7 @@ use Rattle.funding_plans.specs.declared.plan.Part.TheVariants as parts
 use Rattle.funding_plans.specs.declared.plan.Virtual.{Virtual}
 use Rattle.channel_safety.specs.Held.{held}
 use Rattle.channel_safety.specs.Journals.{In}
+use Rattle.fairness_laws.specs.Openings.{open_virtual}
 use Rattle.network.specs.declared.command.Command.{Command}
 use Rattle.network.specs.declared.command.Command.TheVariants as commands
 use Rattle.network.specs.declared.command.Route.{Route}
@@ -79,7 +80,7 @@ module _ (s : Signing) (h : List Entry) (journal : List Told) (fair : IsFair s h
     pub channel : FixedParts
     pub asset : ℕ
     pub amounts : ℕ × ℕ
-    pub took : Took (commands.OpenVirtual route ledgers guarantors joint channel asset amounts) front
+    pub took : Took (open_virtual route ledgers guarantors joint channel asset amounts) front
     pub takes : takes_part s.key channel ≡ end
     pub is : v ≡ virtual real s.key ledgers guarantors joint channel asset amounts
     pub goal : GoalIs channel asset amounts g
@@ -95,33 +96,33 @@ module _ (s : Signing) (h : List Entry) (journal : List Told) (fair : IsFair s h
       c = part-command s h journal fair past front at own (part-of v end) i g (ap (goal_in (facts_of m)) (about end) ∙ found)
 
       by-command : (end : Bool) (d : Command) → Took d front → In (part-of v end) (parts_of real s.key d) → IsGoalOf d g → OpenedBy v g end
-      by-command true (commands.OpenOn l f asset amounts) took (inl q) goal = absurd cc
-      by-command false (commands.OpenOn l f asset amounts) took (inl q) goal = absurd cc
-      by-command end (commands.OpenOn l f asset amounts) took (inr j) goal = absurd j
+      by-command true (commands.OpenOn o) took (inl q) goal = absurd cc
+      by-command false (commands.OpenOn o) took (inl q) goal = absurd cc
+      by-command end (commands.OpenOn o) took (inr j) goal = absurd j
       by-command true (commands.Open f outcome) took (inl q) goal = absurd cc
       by-command false (commands.Open f outcome) took (inl q) goal = absurd cc
       by-command end (commands.Open f outcome) took (inr j) goal = absurd j
-      by-command end (commands.OpenVirtual route ledgers guarantors joint channel asset amounts) took j goal = by end (takes_part s.key channel) refl j
+      by-command end (commands.OpenVirtual funding) took j goal = by end (takes_part s.key funding.channel) refl j
         where
           w : Virtual
-          w = virtual real s.key ledgers guarantors joint channel asset amounts
+          w = virtual real s.key funding.ledgers funding.guarantors funding.joint funding.channel funding.asset funding.amounts
 
-          opened : (end : Bool) → takes_part s.key channel ≡ end → v ≡ w → OpenedBy v g end
+          opened : (end : Bool) → takes_part s.key funding.channel ≡ end → v ≡ w → OpenedBy v g end
           opened end takes is = record {
-            route = route;
-            ledgers = ledgers;
-            guarantors = guarantors;
-            joint = joint;
-            channel = channel;
-            asset = asset;
-            amounts = amounts;
+            route = funding.route;
+            ledgers = funding.ledgers;
+            guarantors = funding.guarantors;
+            joint = funding.joint;
+            channel = funding.channel;
+            asset = funding.asset;
+            amounts = funding.amounts;
             took = took;
             takes = takes;
             is = is;
-            goal = goal-is route ledgers guarantors joint channel asset amounts g goal;
+            goal = goal-is funding.route funding.ledgers funding.guarantors funding.joint funding.channel funding.asset funding.amounts g goal;
           }
 
-          by : (end b : Bool) → takes_part s.key channel ≡ b → In (part-of v end) (cond b (parts.End w ∷ []) (parts.Middle w ∷ [])) → OpenedBy v g end
+          by : (end b : Bool) → takes_part s.key funding.channel ≡ b → In (part-of v end) (cond b (parts.End w ∷ []) (parts.Middle w ∷ [])) → OpenedBy v g end
           by true true takes (inl q) = opened true takes (ap (virtual-or v) q)
           by false false takes (inl q) = opened false takes (ap (virtual-or v) q)
           by true false takes (inl q) = absurd cc
@@ -176,7 +177,7 @@ module _ (s : Signing) (h : List Entry) (journal : List Told) (fair : IsFair s h
       w = virtual real s.key o.ledgers o.guarantors o.joint o.channel o.asset o.amounts
 
       command : Command
-      command = commands.OpenVirtual o.route o.ledgers o.guarantors o.joint o.channel o.asset o.amounts
+      command = commands.OpenVirtual o
 
       took : Took command journal
       took = later-took s h journal fair past front at command o.took
@@ -270,7 +271,7 @@ module _ (s : Signing) (h : List Entry) (journal : List Told) (fair : IsFair s h
       w = virtual real s.key o.ledgers o.guarantors o.joint o.channel o.asset o.amounts
 
       command : Command
-      command = commands.OpenVirtual o.route o.ledgers o.guarantors o.joint o.channel o.asset o.amounts
+      command = commands.OpenVirtual o
 
       took : Took command journal
       took = later-took s h journal fair past front at command o.took

@@ -227,8 +227,8 @@ module _ (s : Signing) where
   pays : (refusal : Option NodeRefusal) (command : Command) (n : NodeOf) → Owns n → Owns (paid_if stages real s refusal command n)
   pays (Some refusal) command n o = o
   pays None (Open fixed outcome) n o = o
-  pays None (OpenOn ledger fixed asset amounts) n o = o
-  pays None (OpenVirtual route ledgers guarantors joint channel asset amounts) n o = o
+  pays None (OpenOn opening) n o = o
+  pays None (OpenVirtual v) n o = o
   pays None (Pay channel asset amount) n o = signs channel (signs_in stages real (Some (Pay channel asset amount)) n.mind channel) n o
   pays None (Close channel) n o = o
   pays None Exit n o = o

@@ -149,37 +149,37 @@ module _ (s : Signing) (h : List Entry) (journal : List Told) (fair : IsFair s h
   starts-so f own (commands.Open g outcome) took (inl e) app =
       subst (Started s.key (commands.Open g outcome)) (sym e) (record { p = Root (real.named g); of = inl refl; opening = outcome; turn = _; starts = root-starts g outcome })
   starts-so f own (commands.Open g outcome) took (inr i) app = absurd i
-  starts-so f own (commands.OpenOn ledger g asset amounts) took (inl e) app =
-      subst (Started s.key (commands.OpenOn ledger g asset amounts)) (sym e)
-      (record { p = OnLedger ledger (real.named g); of = inl refl; opening = shared g asset amounts; turn = _; starts = child-starts ledger g asset amounts })
-  starts-so f own (commands.OpenOn ledger g asset amounts) took (inr i) app = absurd i
-  starts-so f own (commands.OpenVirtual route ledgers guarantors joint channel asset amounts) took i app = by i
+  starts-so f own (commands.OpenOn o) took (inl e) app =
+      subst (Started s.key (commands.OpenOn o)) (sym e)
+      (record { p = OnLedger o.ledger (real.named o.fixed); of = inl refl; opening = shared o.fixed o.asset o.amounts; turn = _; starts = child-starts o.ledger o.fixed o.asset o.amounts })
+  starts-so f own (commands.OpenOn o) took (inr i) app = absurd i
+  starts-so f own (commands.OpenVirtual v) took i app = by i
     where
-      took-here : Took (commands.OpenVirtual route ledgers guarantors joint channel asset amounts) journal
+      took-here : Took (commands.OpenVirtual v) journal
       took-here =
-          subst (Took (commands.OpenVirtual route ledgers guarantors joint channel asset amounts)) (sym at.front_is.events)
-          (took-later (commands.OpenVirtual route ledgers guarantors joint channel asset amounts) at.front_is.newer front took)
+          subst (Took (commands.OpenVirtual v)) (sym at.front_is.events)
+          (took-later (commands.OpenVirtual v) at.front_is.newer front took)
 
-      fixed : AreFixed guarantors joint
-      fixed = let a = fitted stages real s h fair.nodes.legal joint journal fair.nodes.plays (commands.OpenVirtual route ledgers guarantors joint channel asset amounts) joint took-here (inr (inr (inl refl))) in
-          are-fixed (facts_of a.0) route ledgers guarantors joint channel asset amounts a.1
+      fixed : AreFixed v.guarantors v.joint
+      fixed = let a = fitted stages real s h fair.nodes.legal v.joint journal fair.nodes.plays (commands.OpenVirtual v) v.joint took-here (inr (inr (inl refl))) in
+          are-fixed (facts_of a.0) v.route v.ledgers v.guarantors v.joint v.channel v.asset v.amounts a.1
 
-      paid : channel ≡ f → takes_part s.key channel ≡ true → Started s.key (commands.OpenVirtual route ledgers guarantors joint channel asset amounts) f
+      paid : v.channel ≡ f → takes_part s.key v.channel ≡ true → Started s.key (commands.OpenVirtual v) f
       paid same takes =
-          subst (Started s.key (commands.OpenVirtual route ledgers guarantors joint channel asset amounts)) same (record {
-            p = End (virtual real s.key ledgers guarantors joint channel asset amounts);
-            of = at-end s.key route ledgers guarantors joint channel asset amounts takes;
-            opening = shared channel asset amounts;
+          subst (Started s.key (commands.OpenVirtual v)) same (record {
+            p = End (virtual real s.key v.ledgers v.guarantors v.joint v.channel v.asset v.amounts);
+            of = at-end s.key v.route v.ledgers v.guarantors v.joint v.channel v.asset v.amounts takes;
+            opening = shared v.channel v.asset v.amounts;
             turn = _;
-            starts = end-starts s.key route ledgers guarantors joint channel asset amounts _ (ap (terms_for (virtual real s.key ledgers guarantors joint channel asset amounts)) fixed.people) names
-                channel (shared channel asset amounts)
-                (payment-channel-of s.key route ledgers guarantors joint channel asset amounts _ (ap (terms_for (virtual real s.key ledgers guarantors joint channel asset amounts)) fixed.people) names);
+            starts = end-starts s.key v.route v.ledgers v.guarantors v.joint v.channel v.asset v.amounts _ (ap (terms_for (virtual real s.key v.ledgers v.guarantors v.joint v.channel v.asset v.amounts)) fixed.people) names
+                v.channel (shared v.channel v.asset v.amounts)
+                (payment-channel-of s.key v.route v.ledgers v.guarantors v.joint v.channel v.asset v.amounts _ (ap (terms_for (virtual real s.key v.ledgers v.guarantors v.joint v.channel v.asset v.amounts)) fixed.people) names);
           })
         where
-          names : Differ (real.named guarantors.0) (real.named guarantors.1) (real.named joint) (real.named channel)
-          names = names-differ s h journal fair.nodes.legal fair.nodes.plays route ledgers guarantors joint channel asset amounts took-here
+          names : Differ (real.named v.guarantors.0) (real.named v.guarantors.1) (real.named v.joint) (real.named v.channel)
+          names = names-differ s h journal fair.nodes.legal fair.nodes.plays v.route v.ledgers v.guarantors v.joint v.channel v.asset v.amounts took-here
 
-      by : In f (opened_by (commands.OpenVirtual route ledgers guarantors joint channel asset amounts)) → Started s.key (commands.OpenVirtual route ledgers guarantors joint channel asset amounts) f
+      by : In f (opened_by (commands.OpenVirtual v)) → Started s.key (commands.OpenVirtual v) f
       by (inl e) = absurd (no-payments-either f (ap (λ (x : FixedParts). x.app) e ∙ fixed.first) app)
       by (inr (inl e)) = absurd (no-payments-either f (ap (λ (x : FixedParts). x.app) e ∙ fixed.second) app)
       by (inr (inr (inl e))) = absurd (no-payments f (ap (λ (x : FixedParts). x.app) e ∙ fixed.joint_app) app)

@@ -50,10 +50,10 @@ event-changes t r s past used waits (deeds.Commanded step (Some refusal)) (Some 
 event-changes t r s past used waits (deeds.Commanded step None) None m allowed = stays refl refl
 event-changes t r s past used waits (deeds.Commanded step None) (Some (commands.Open f outcome)) m allowed =
     opens (commands.Open f outcome) refl refl allowed.1 refl refl
-event-changes t r s past used waits (deeds.Commanded step None) (Some (commands.OpenOn ledger f asset amounts)) m allowed =
-    opens (commands.OpenOn ledger f asset amounts) refl refl allowed.1 refl refl
-event-changes t r s past used waits (deeds.Commanded step None) (Some (commands.OpenVirtual route ledgers guarantors joint channel asset amounts)) m allowed =
-    opens (commands.OpenVirtual route ledgers guarantors joint channel asset amounts) refl refl allowed.1 refl refl
+event-changes t r s past used waits (deeds.Commanded step None) (Some (commands.OpenOn o)) m allowed =
+    opens (commands.OpenOn o) refl refl allowed.1 refl refl
+event-changes t r s past used waits (deeds.Commanded step None) (Some (commands.OpenVirtual v)) m allowed =
+    opens (commands.OpenVirtual v) refl refl allowed.1 refl refl
 event-changes t r s past used waits (deeds.Commanded step None) (Some (commands.Pay channel asset amount)) m allowed = stays refl refl
 event-changes t r s past used waits (deeds.Commanded step None) (Some (commands.Close channel)) m allowed = closes channel allowed.1 refl refl
 event-changes t r s past used waits (deeds.Commanded step None) (Some commands.Exit) m allowed = stays refl refl
@@ -83,13 +83,13 @@ same-plan m new parts goals p = record {
 -- the channels of the part of a command that opens
 pub opened-channels : (r : Rules) (key : List ℕ) (command : Command) → channels (parts_of r key command) ≡ map r.named (opened_by command)
 opened-channels r key (commands.Open f outcome) = refl
-opened-channels r key (commands.OpenOn ledger f asset amounts) = refl
-opened-channels r key (commands.OpenVirtual route ledgers guarantors joint channel asset amounts) = go (takes_part key channel)
+opened-channels r key (commands.OpenOn o) = refl
+opened-channels r key (commands.OpenVirtual v) = go (takes_part key v.channel)
   where
     names : List (List ℕ)
-    names = r.named guarantors.0 ∷ r.named guarantors.1 ∷ r.named joint ∷ r.named channel ∷ []
+    names = r.named v.guarantors.0 ∷ r.named v.guarantors.1 ∷ r.named v.joint ∷ r.named v.channel ∷ []
 
-    go : (b : Bool) → channels (cond b (End (virtual r key ledgers guarantors joint channel asset amounts) ∷ []) (Middle (virtual r key ledgers guarantors joint channel asset amounts) ∷ [])) ≡ names
+    go : (b : Bool) → channels (cond b (End (virtual r key v.ledgers v.guarantors v.joint v.channel v.asset v.amounts) ∷ []) (Middle (virtual r key v.ledgers v.guarantors v.joint v.channel v.asset v.amounts) ∷ [])) ≡ names
     go true = refl
     go false = refl
 opened-channels r key (commands.Pay channel asset amount) = refl
@@ -121,15 +121,15 @@ pub record NewGoal (r : Rules) (key : List ℕ) (n : ℕ) (command : Command) (g
 pub new-goal : (r : Rules) (key : List ℕ) (n : ℕ) (command : Command) (g : Goal) → In g (goals_of n command) → NewGoal r key n command g
 new-goal r key n (commands.Open f outcome) g (inl e) = record { place = ap (λ (x : Goal). x.part) e; fresh = ap (λ (x : Goal). x.closing) e; one = refl }
 new-goal r key n (commands.Open f outcome) g (inr i) = absurd i
-new-goal r key n (commands.OpenOn ledger f asset amounts) g (inl e) = record { place = ap (λ (x : Goal). x.part) e; fresh = ap (λ (x : Goal). x.closing) e; one = refl }
-new-goal r key n (commands.OpenOn ledger f asset amounts) g (inr i) = absurd i
-new-goal r key n (commands.OpenVirtual route ledgers guarantors joint channel asset amounts) g (inl e) =
-    record { place = ap (λ (x : Goal). x.part) e; fresh = ap (λ (x : Goal). x.closing) e; one = go (takes_part key channel) }
+new-goal r key n (commands.OpenOn o) g (inl e) = record { place = ap (λ (x : Goal). x.part) e; fresh = ap (λ (x : Goal). x.closing) e; one = refl }
+new-goal r key n (commands.OpenOn o) g (inr i) = absurd i
+new-goal r key n (commands.OpenVirtual v) g (inl e) =
+    record { place = ap (λ (x : Goal). x.part) e; fresh = ap (λ (x : Goal). x.closing) e; one = go (takes_part key v.channel) }
   where
-    go : (b : Bool) → length (cond b (End (virtual r key ledgers guarantors joint channel asset amounts) ∷ []) (Middle (virtual r key ledgers guarantors joint channel asset amounts) ∷ [])) ≡ 1
+    go : (b : Bool) → length (cond b (End (virtual r key v.ledgers v.guarantors v.joint v.channel v.asset v.amounts) ∷ []) (Middle (virtual r key v.ledgers v.guarantors v.joint v.channel v.asset v.amounts) ∷ [])) ≡ 1
     go true = refl
     go false = refl
-new-goal r key n (commands.OpenVirtual route ledgers guarantors joint channel asset amounts) g (inr i) = absurd i
+new-goal r key n (commands.OpenVirtual v) g (inr i) = absurd i
 new-goal r key n (commands.Pay channel asset amount) g i = absurd i
 new-goal r key n (commands.Close channel) g i = absurd i
 new-goal r key n commands.Exit g i = absurd i

@@ -148,12 +148,12 @@ pub record RootOf (c : List ℕ) (command : Command) : Type 0 where
 
 pub root-of : (key c : List ℕ) (command : Command) → In (Root c) (parts_of real key command) → RootOf c command
 root-of key c (Open f outcome) i = record { f = f; outcome = outcome; is = refl }
-root-of key c (commands.OpenOn ledger f asset amounts) (inl e) = absurd cc
-root-of key c (commands.OpenOn ledger f asset amounts) (inr i) = absurd i
-root-of key c (commands.OpenVirtual route ledgers guarantors joint channel asset amounts) i = absurd (go (takes_part key channel) i)
+root-of key c (commands.OpenOn o) (inl e) = absurd cc
+root-of key c (commands.OpenOn o) (inr i) = absurd i
+root-of key c (commands.OpenVirtual funding) i = absurd (go (takes_part key funding.channel) i)
   where
     v : Virtual
-    v = virtual real key ledgers guarantors joint channel asset amounts
+    v = virtual real key funding.ledgers funding.guarantors funding.joint funding.channel funding.asset funding.amounts
 
     go : (b : Bool) → In (Root c) (cond b (End v ∷ []) (Middle v ∷ [])) → ⊥
     go true (inl e) = cc

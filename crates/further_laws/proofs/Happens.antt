@@ -33,16 +33,17 @@ use Rattle.call_history.specs.declared.call.Call.{Call}
 use Rattle.call_history.specs.declared.call.Call.TheVariants as calls
 use Rattle.network.specs.Ways.{Ways}
 use Rattle.network.specs.Worlds.{journal}
-use Rattle.script_reader.specs.Digests.{key_of, person_name}
+use Rattle.script_reader.specs.Digests.{fresh, key_of, person_name}
 use Rattle.script_reader.specs.Digits.{is_hex, is_lower_digit}
 use Rattle.script_reader.specs.Reading.{Keeps}
 use Rattle.script_reader.specs.Rules as rules
 use Rattle.script_reader.specs.Script.{start, AreChecked}
 use Rattle.script_reader.specs.step.Rule.TheVariants as broken
+use Rattle.script_steps.specs.declared.step.PersonStep.{PersonStep}
 use Rattle.script_reader.specs.step.Step.{Step}
 use Rattle.script_reader.specs.step.Step.TheVariants as steps
 use Rattle.further_laws.specs.Happens.{catches, IsCaught, HasCaught, EachHappens, HasOutcomes}
-use Rattle.step_meanings.specs.Meanings.{Meaning, learning, calling, valid_fixed, valid_state, hand_of, with_person, with_channel, names_by, both_by, message_by, signing, meant, meaning, nameless}
+use Rattle.step_meanings.specs.Meanings.{Meaning, learning, doing, calling, joins_if, valid_fixed, valid_state, hand_of, with_person, with_channel, names_by, both_by, message_by, signing, meant, meaning, nameless}
 use Rattle.step_meanings.specs.Chains.{state_by, listed, chain_of}
 use Rattle.step_meanings.specs.Names.{fixed_by, name_of, digest_or_digits, position_of, sign_state, sign_challenge}
 use Rattle.step_meanings.specs.People.{◌>>=◌, SignedBy, person_by, key_by, keys_by, sign}
@@ -57,7 +58,7 @@ use Rattle.script_play.proofs.Kept.{told_keeps, rounds_keep}
 use Rattle.further_laws.proofs.Finding.{first, second, mapped_some, named_some, any_mapped, some_after, both_push}
 use Rattle.further_laws.proofs.People.{IsHand, SamePeople, same_keys, known_key, people_more, people_push, tested_is_known, found, after_sign, signs, signed_people, apart_push}
 use Rattle.lms_signatures.proofs.Lengths.{short_signature}
-use Rattle.further_laws.proofs.States.{AreNamed, named_later, named_push, named_missed, named_caught, message_there}
+use Rattle.further_laws.proofs.States.{AreNamed, caught_by, named_later, named_push, named_missed, named_caught, message_there}
 
 -- ---- what names stand for
 
@@ -191,17 +192,17 @@ is_new_person : (a b d : Bool) → not (a || b || d) ≡ true → a ≡ false
 is_new_person true b d e = absurd (cc)
 is_new_person false b d e = refl
 
-declared_person : (c : Context) (n : Names) (before : List Step) (name seed : List ℕ) (h watchers : ℕ) (node : Bool) → Mirrors c n before → context.is_new c name ≡ true
-    → Mirrors (reader.after c (steps.Person name seed h node watchers)) (with_person n name seed h node) (before ++ steps.Person name seed h node watchers ∷ [])
-declared_person c n before name seed h watchers node m e =
+declared_person : (c : Context) (n : Names) (before : List Step) (p : PersonStep) → Mirrors c n before → context.is_new c p.name ≡ true
+    → Mirrors (reader.after c (steps.Person p)) (with_person n p.name p.seed p.h p.node) (before ++ steps.Person p ∷ [])
+declared_person c n before p m e =
     record {
-      people = people_push c.signers c.people n.people _ _ m.people (record { name = refl; key = refl; hand = hand node });
-      apart = apart_push c.people _ m.apart (is_new_person (context.is_person c name) (context.is_channel c name) (context.is_state c name) e);
+      people = people_push c.signers c.people n.people _ _ m.people (record { name = refl; key = refl; hand = hand p.node });
+      apart = apart_push c.people _ m.apart (is_new_person (context.is_person c p.name) (context.is_channel c p.name) (context.is_state c p.name) e);
       channels = m.channels;
-      states = named_later c.states before (steps.Person name seed h node watchers) n.states m.states;
+      states = named_later c.states before (steps.Person p) n.states m.states;
     }
   where
-    hand : (node : Bool) → IsHand c.signers (record { name = name; seed = seed; h = h; node = node; key = key_of seed h; digest = person_name seed h }) (hand_of node seed h)
+    hand : (node : Bool) → IsHand c.signers (record { name = p.name; seed = p.seed; h = p.h; node = node; key = key_of p.seed p.h; digest = person_name p.seed p.h }) (hand_of node p.seed p.h)
     hand true = refl
     hand false = (refl, omega (arith))
 
@@ -405,11 +406,11 @@ challenge_goes c n before s by f (last ∷ earlier) who call m is_hand has_index
 
 caught_goes : (c : Context) (n : Names) (before : List Step) (name from channel key digest : List ℕ) (turn : ℕ) → Mirrors c n before
     → (n' : Names) → (o : Option Signed) × (n' ≡ naming n name key digest o)
-    → Mirrors (record c { states = c.states ++ name ∷ [] }) n' (before ++ steps.Catch name from channel turn ∷ [])
+    → Mirrors (record c { states = c.states ++ name ∷ [] }) n' (before ++ caught_by name from channel turn ∷ [])
 caught_goes c n before name from channel key digest turn m n' becomes = still after (naming n name key digest becomes.0) (before ++ s ∷ []) (by becomes.0) n' becomes.1
   where
     s : Step
-    s = steps.Catch name from channel turn
+    s = caught_by name from channel turn
 
     after : Context
     after = record c { states = c.states ++ name ∷ [] }
@@ -437,47 +438,51 @@ always c n before s g = let h = it_goes (reader.after c s) n (before ++ s ∷ []
 quiet : (c : Context) (n : Names) (before : List Step) (s : Step) → Mirrors c n before → (n' : Names) → n' ≡ n → Mirrors c n' (before ++ s ∷ [])
 quiet c n before s m = still c n (before ++ s ∷ []) (next c n before s m)
 
-person_goes : (c : Context) (n : Names) (before : List Step) (name seed : List ℕ) (h watchers : ℕ) (node : Bool)
-    → Mirrors (reader.after c (steps.Person name seed h node watchers)) (with_person n name seed h node) (before ++ steps.Person name seed h node watchers ∷ [])
-    → Goes (reader.after c (steps.Person name seed h node watchers)) (before ++ steps.Person name seed h node watchers ∷ []) (meant n (steps.Person name seed h node watchers))
-person_goes c n before name seed h watchers true m = still _ _ _ m
-person_goes c n before name seed h watchers false m = still _ _ _ m
+person_goes : (c : Context) (n : Names) (before : List Step) (p : PersonStep)
+    → Mirrors (reader.after c (steps.Person p)) (with_person n p.name p.seed p.h p.node) (before ++ steps.Person p ∷ [])
+    → Goes (reader.after c (steps.Person p)) (before ++ steps.Person p ∷ []) (meant n (steps.Person p))
+person_goes c n before p m = by p.node
+  where
+    by : (node : Bool) → Goes (reader.after c (steps.Person p)) (before ++ steps.Person p ∷ [])
+        (Some (doing (with_person n p.name p.seed p.h p.node) (joins_if node (length n.people + 1) (fresh p.seed p.h) p.watchers)))
+    by true = still _ _ _ m
+    by false = still _ _ _ m
 
 step_goes : (c : Context) (n : Names) (before : List Step) (s : Step) → Mirrors c n before → Keeps c s → HasOutcomes s → StepGoes c n before s
-step_goes c n before (steps.Deposit channel asset expected amount) m k st =
-    let s = steps.Deposit channel asset expected amount in
-    let a = one_known (is_hex channel || context.is_channel c channel) (named_known c s k) in
-    always c n before s (goes c (before ++ s ∷ []) (digest_or_digits (fixed_by n.channels channel) channel) _ (placed_digest c n before m channel a) (λ to is. quiet c n before s m))
+step_goes c n before (steps.Deposit keys) m k st =
+    let s = steps.Deposit keys in
+    let a = one_known (is_hex keys.channel || context.is_channel c keys.channel) (named_known c s k) in
+    always c n before s (goes c (before ++ s ∷ []) (digest_or_digits (fixed_by n.channels keys.channel) keys.channel) _ (placed_digest c n before m keys.channel a) (λ to is. quiet c n before s m))
 step_goes c n before (steps.Time to) m k st = always c n before (steps.Time to) (quiet c n before (steps.Time to) m)
-step_goes c n before (steps.Person name seed h node watchers) m k st =
-    let s = steps.Person name seed h node watchers in
-    always c n before s (person_goes c n before name seed h watchers node (declared_person c n before name seed h watchers node m (named_free c s k)))
-step_goes c n before (steps.Channel name people nonce app duration) m k st =
-    let s = steps.Channel name people nonce app duration in
-    let part = has_part (reader.has_fixed c people nonce app duration) (reader.is_new_channel c people nonce app duration) k.apart in
-    let known = valid_of (fixed_of (fixed (fixed_with (reader.keys_in c people) nonce app duration))) part in
+step_goes c n before (steps.Person keys) m k st =
+    let s = steps.Person keys in
+    always c n before s (person_goes c n before keys (declared_person c n before keys m (named_free c s k)))
+step_goes c n before (steps.Channel form) m k st =
+    let s = steps.Channel form in
+    let part = has_part (reader.has_fixed c form.people form.nonce form.app form.duration) (reader.is_new_channel c form.people form.nonce form.app form.duration) k.apart in
+    let known = valid_of (fixed_of (fixed (fixed_with (reader.keys_in c form.people) form.nonce form.app form.duration))) part in
     always c n before s (
-    goes (reader.after c s) (before ++ s ∷ []) (valid_fixed (fixed_with (keys_by n.people people) nonce app duration)) _
-    (subst (λ keys. IsSome (valid_fixed (fixed_with keys nonce app duration))) (sym (same_keys c n.people m.people people)) known)
-    (λ f is. still (reader.after c s) (with_channel n name f) (before ++ s ∷ []) (record {
+    goes (reader.after c s) (before ++ s ∷ []) (valid_fixed (fixed_with (keys_by n.people form.people) form.nonce form.app form.duration)) _
+    (subst (λ keys. IsSome (valid_fixed (fixed_with keys form.nonce form.app form.duration))) (sym (same_keys c n.people m.people form.people)) known)
+    (λ f is. still (reader.after c s) (with_channel n form.name f) (before ++ s ∷ []) (record {
       people = m.people;
       apart = m.apart;
       channels = both_push (λ (k : KnownChannel). k.name) (λ (k : NamedChannel). k.name) c.channels n.channels _ _ m.channels refl;
       states = named_later c.states before s n.states m.states;
     })))
-step_goes c n before (steps.Sign name channel by turn is_final items votes proposal) m k st =
-    let s = steps.Sign name channel by turn is_final items votes proposal in
-    let a = two_known (context.is_channel c channel) (context.is_hand c by) (named_known c s k) in
-    let f = sign_fits (nat_lt turn (2 ^ 48)) (nat_le votes 3) (not (votes == 0) || length proposal == 0) (context.has_index c by) k.fit in
-    always c n before s (goes (reader.after c s) (before ++ s ∷ []) _ _ (made_some turn votes is_final items proposal f.0 f.1 st) (λ made is.
-    sign_goes c n before s name channel by made m a.0 a.1 (second _ (context.has_index c by) k.fit)))
-step_goes c n before (steps.Catch name from channel turn) m k st =
-    let s = steps.Catch name from channel turn in
-    let a = two_known (context.is_node c from) (context.is_channel c channel) (named_known c s k) in
+step_goes c n before (steps.Sign keys) m k st =
+    let s = steps.Sign keys in
+    let a = two_known (context.is_channel c keys.channel) (context.is_hand c keys.by) (named_known c s k) in
+    let f = sign_fits (nat_lt keys.turn (2 ^ 48)) (nat_le keys.votes 3) (not (keys.votes == 0) || length keys.proposal == 0) (context.has_index c keys.by) k.fit in
+    always c n before s (goes (reader.after c s) (before ++ s ∷ []) _ _ (made_some keys.turn keys.votes keys.is_final keys.outcome keys.proposal f.0 f.1 st) (λ made is.
+    sign_goes c n before s keys.name keys.channel keys.by made m a.0 a.1 (second _ (context.has_index c keys.by) k.fit)))
+step_goes c n before (steps.Catch keys) m k st =
+    let s = steps.Catch keys in
+    let a = two_known (context.is_node c keys.from) (context.is_channel c keys.channel) (named_known c s k) in
     always c n before s (
-    goes (reader.after c s) (before ++ s ∷ []) (person_by n.people from) _ (known_node c n before m from a.0) (λ p is.
-    goes (reader.after c s) (before ++ s ∷ []) (fixed_by n.channels channel) _ (known_channel c n before m channel a.1) (λ f was.
-    caught_goes c n before name from channel p.key (name_of f) turn m)))
+    goes (reader.after c s) (before ++ s ∷ []) (person_by n.people keys.from) _ (known_node c n before m keys.from a.0) (λ p is.
+    goes (reader.after c s) (before ++ s ∷ []) (fixed_by n.channels keys.channel) _ (known_channel c n before m keys.channel a.1) (λ f was.
+    caught_goes c n before keys.name keys.from keys.channel p.key (name_of f) keys.turn m)))
 step_goes c n before (steps.Send to state) m k st =
     let s = steps.Send to state in
     let a = two_known (context.is_node c to) (context.is_state c state) (named_known c s k) in
@@ -491,24 +496,24 @@ step_goes c n before (steps.Drop to) m k st =
     let s = steps.Drop to in
     let a = one_known (context.is_node c to) (named_known c s k) in
     always c n before s (goes c (before ++ s ∷ []) (person_by n.people to) _ (known_node c n before m to a) (λ p is. quiet c n before s m))
-step_goes c n before (steps.Challenge channel chain by) m k st =
-    let s = steps.Challenge channel chain by in
-    let a = ends_known (context.is_channel c channel) (list_all (λ x. context.is_state c x) chain) (context.is_hand c by) (named_known c s k) in
+step_goes c n before (steps.Challenge keys) m k st =
+    let s = steps.Challenge keys in
+    let a = ends_known (context.is_channel c keys.channel) (list_all (λ x. context.is_state c x) keys.chain) (context.is_hand c keys.by) (named_known c s k) in
     always c n before s (
-    goes (reader.after c s) (before ++ s ∷ []) (fixed_by n.channels channel) _ (known_channel c n before m channel a.0) (λ f is.
-    goes (reader.after c s) (before ++ s ∷ []) (key_by n.people by) _ (known_hand c n before m by a.1) (λ key has.
-    challenge_goes c n before s by f (listed n.states chain) (position_of f.keys key)
-    (λ signed. calls.Challenge (chain_of f (listed n.states chain)) (position_of f.keys key) signed.signature) m a.1 (second _ (context.has_index c by) k.fit))))
-step_goes c n before (steps.Respond channel from answer) m k st =
-    let s = steps.Respond channel from answer in
-    let a = three_known (context.is_channel c channel) (context.is_state c from) (context.is_state c answer) (named_known c s k) in
+    goes (reader.after c s) (before ++ s ∷ []) (fixed_by n.channels keys.channel) _ (known_channel c n before m keys.channel a.0) (λ f is.
+    goes (reader.after c s) (before ++ s ∷ []) (key_by n.people keys.by) _ (known_hand c n before m keys.by a.1) (λ key has.
+    challenge_goes c n before s keys.by f (listed n.states keys.chain) (position_of f.keys key)
+    (λ signed. calls.Challenge (chain_of f (listed n.states keys.chain)) (position_of f.keys key) signed.signature) m a.1 (second _ (context.has_index c keys.by) k.fit))))
+step_goes c n before (steps.Respond keys) m k st =
+    let s = steps.Respond keys in
+    let a = three_known (context.is_channel c keys.channel) (context.is_state c keys.from) (context.is_state c keys.state) (named_known c s k) in
     record {
       happens = λ caught.
-          some_after (fixed_by n.channels channel) _ (known_channel c n before m channel a.0) (λ f is.
-          some_after (state_by n.states from) _ (known_state c n before m from a.1 caught.0) (λ x was.
-          some_after (state_by n.states answer) _ (known_state c n before m answer a.2 caught.1) (λ y will. refl)));
+          some_after (fixed_by n.channels keys.channel) _ (known_channel c n before m keys.channel a.0) (λ f is.
+          some_after (state_by n.states keys.from) _ (known_state c n before m keys.from a.1 caught.0) (λ x was.
+          some_after (state_by n.states keys.state) _ (known_state c n before m keys.state a.2 caught.1) (λ y will. refl)));
       keeps = it_stays c n before s (meant n s) m (
-          stays n (fixed_by n.channels channel) _ (λ f. stays n (state_by n.states from) _ (λ x. stays n (state_by n.states answer) _ (λ y n' e. e))));
+          stays n (fixed_by n.channels keys.channel) _ (λ f. stays n (state_by n.states keys.from) _ (λ x. stays n (state_by n.states keys.state) _ (λ y n' e. e))));
     }
 step_goes c n before (steps.Refute channel answer) m k st =
     let s = steps.Refute channel answer in
@@ -527,52 +532,52 @@ step_goes c n before (steps.Conclude channel chain) m k st =
     let s = steps.Conclude channel chain in
     let a = first_known (context.is_channel c channel) (list_all (λ x. context.is_state c x) chain) (named_known c s k) in
     always c n before s (goes c (before ++ s ∷ []) (fixed_by n.channels channel) _ (known_channel c n before m channel a) (λ f is. quiet c n before s m))
-step_goes c n before (steps.Transfer channel state asset index) m k st =
-    let s = steps.Transfer channel state asset index in
-    let a = two_known (context.is_channel c channel) (context.is_state c state) (named_known c s k) in
+step_goes c n before (steps.Transfer keys) m k st =
+    let s = steps.Transfer keys in
+    let a = two_known (context.is_channel c keys.channel) (context.is_state c keys.state) (named_known c s k) in
     record {
       happens = λ caught.
-          some_after (fixed_by n.channels channel) _ (known_channel c n before m channel a.0) (λ f is.
-          some_after (state_by n.states state) _ (known_state c n before m state a.1 caught) (λ x was. refl));
-      keeps = it_stays c n before s (meant n s) m (stays n (fixed_by n.channels channel) _ (λ f. stays n (state_by n.states state) _ (λ x n' e. e)));
+          some_after (fixed_by n.channels keys.channel) _ (known_channel c n before m keys.channel a.0) (λ f is.
+          some_after (state_by n.states keys.state) _ (known_state c n before m keys.state a.1 caught) (λ x was. refl));
+      keeps = it_stays c n before s (meant n s) m (stays n (fixed_by n.channels keys.channel) _ (λ f. stays n (state_by n.states keys.state) _ (λ x n' e. e)));
     }
-step_goes c n before (steps.Claim guarantor promise target ending asset position) m k st =
-    let s = steps.Claim guarantor promise target ending asset position in
-    let a = four_known (context.is_channel c guarantor) (context.is_state c promise) (context.is_channel c target) (context.is_state c ending) (named_known c s k) in
+step_goes c n before (steps.Claim keys) m k st =
+    let s = steps.Claim keys in
+    let a = four_known (context.is_channel c keys.guarantor) (context.is_state c keys.state) (context.is_channel c keys.target) (context.is_state c keys.target_state) (named_known c s k) in
     record {
       happens = λ caught.
-          some_after (fixed_by n.channels guarantor) _ (known_channel c n before m guarantor a.0) (λ payer is.
-          some_after (state_by n.states promise) _ (known_state c n before m promise a.1 caught.0) (λ x was.
-          some_after (fixed_by n.channels target) _ (known_channel c n before m target a.2) (λ f has.
-          some_after (state_by n.states ending) _ (known_state c n before m ending a.3 caught.1) (λ y will. refl))));
+          some_after (fixed_by n.channels keys.guarantor) _ (known_channel c n before m keys.guarantor a.0) (λ payer is.
+          some_after (state_by n.states keys.state) _ (known_state c n before m keys.state a.1 caught.0) (λ x was.
+          some_after (fixed_by n.channels keys.target) _ (known_channel c n before m keys.target a.2) (λ f has.
+          some_after (state_by n.states keys.target_state) _ (known_state c n before m keys.target_state a.3 caught.1) (λ y will. refl))));
       keeps = it_stays c n before s (meant n s) m (
-          stays n (fixed_by n.channels guarantor) _ (λ payer. stays n (state_by n.states promise) _ (λ x.
-          stays n (fixed_by n.channels target) _ (λ f. stays n (state_by n.states ending) _ (λ y n' e. e)))));
+          stays n (fixed_by n.channels keys.guarantor) _ (λ payer. stays n (state_by n.states keys.state) _ (λ x.
+          stays n (fixed_by n.channels keys.target) _ (λ f. stays n (state_by n.states keys.target_state) _ (λ y n' e. e)))));
     }
-step_goes c n before (steps.Open who channel opening) m k st =
-    let s = steps.Open who channel opening in
-    let a = behind_one (list_all (λ x. context.is_node c x) who) (context.is_channel c channel) (named_known c s k) in
-    always c n before s (goes c (before ++ s ∷ []) (fixed_by n.channels channel) _ (known_channel c n before m channel a) (λ f is. quiet c n before s m))
-step_goes c n before (steps.OpenOn who ledger channel asset amounts) m k st =
-    let s = steps.OpenOn who ledger channel asset amounts in
-    let a = behind_two (list_all (λ x. context.is_node c x) who) (context.is_channel c ledger) (context.is_channel c channel) (named_known c s k) in
+step_goes c n before (steps.Open keys) m k st =
+    let s = steps.Open keys in
+    let a = behind_one (list_all (λ x. context.is_node c x) keys.who) (context.is_channel c keys.channel) (named_known c s k) in
+    always c n before s (goes c (before ++ s ∷ []) (fixed_by n.channels keys.channel) _ (known_channel c n before m keys.channel a) (λ f is. quiet c n before s m))
+step_goes c n before (steps.OpenOn keys) m k st =
+    let s = steps.OpenOn keys in
+    let a = behind_two (list_all (λ x. context.is_node c x) keys.who) (context.is_channel c keys.ledger) (context.is_channel c keys.channel) (named_known c s k) in
     always c n before s (
-    goes c (before ++ s ∷ []) (fixed_by n.channels ledger) _ (known_channel c n before m ledger a.0) (λ on is.
-    goes c (before ++ s ∷ []) (fixed_by n.channels channel) _ (known_channel c n before m channel a.1) (λ f was. quiet c n before s m)))
-step_goes c n before (steps.OpenVirtual who route ledgers guarantors joint channel asset amounts) m k st =
-    let s = steps.OpenVirtual who route ledgers guarantors joint channel asset amounts in
-    let a = behind_lists (list_all (λ x. context.is_node c x) who) (list_all (λ x. context.is_channel c x) ledgers) (list_all (λ x. context.is_channel c x) guarantors) (context.is_channel c joint)
-    (context.is_channel c channel) (named_known c s k) in
-    let both = first (length ledgers == 2 && length guarantors == 2) (nat_lt asset (2 ^ 32)) k.fit in
+    goes c (before ++ s ∷ []) (fixed_by n.channels keys.ledger) _ (known_channel c n before m keys.ledger a.0) (λ on is.
+    goes c (before ++ s ∷ []) (fixed_by n.channels keys.channel) _ (known_channel c n before m keys.channel a.1) (λ f was. quiet c n before s m)))
+step_goes c n before (steps.OpenVirtual keys) m k st =
+    let s = steps.OpenVirtual keys in
+    let a = behind_lists (list_all (λ x. context.is_node c x) keys.who) (list_all (λ x. context.is_channel c x) keys.ledgers) (list_all (λ x. context.is_channel c x) keys.guarantors) (context.is_channel c keys.joint)
+    (context.is_channel c keys.channel) (named_known c s k) in
+    let both = first (length keys.ledgers == 2 && length keys.guarantors == 2) (nat_lt keys.asset (2 ^ 32)) k.fit in
     always c n before s (
-    goes c (before ++ s ∷ []) (names_by n.channels ledgers) _ (known_names c n before m ledgers (first (length ledgers == 2) (length guarantors == 2) both) a.0) (λ on is.
-    goes c (before ++ s ∷ []) (both_by n.channels guarantors) _ (known_both c n before m guarantors (second (length ledgers == 2) (length guarantors == 2) both) a.1) (λ by was.
-    goes c (before ++ s ∷ []) (fixed_by n.channels joint) _ (known_channel c n before m joint a.2) (λ j has.
-    goes c (before ++ s ∷ []) (fixed_by n.channels channel) _ (known_channel c n before m channel a.3) (λ f will. quiet c n before s m)))))
-step_goes c n before (steps.Pay who channel asset amount) m k st =
-    let s = steps.Pay who channel asset amount in
-    let a = two_known (context.is_node c who) (context.is_channel c channel) (named_known c s k) in
-    always c n before s (goes c (before ++ s ∷ []) (fixed_by n.channels channel) _ (known_channel c n before m channel a.1) (λ f is. quiet c n before s m))
+    goes c (before ++ s ∷ []) (names_by n.channels keys.ledgers) _ (known_names c n before m keys.ledgers (first (length keys.ledgers == 2) (length keys.guarantors == 2) both) a.0) (λ on is.
+    goes c (before ++ s ∷ []) (both_by n.channels keys.guarantors) _ (known_both c n before m keys.guarantors (second (length keys.ledgers == 2) (length keys.guarantors == 2) both) a.1) (λ by was.
+    goes c (before ++ s ∷ []) (fixed_by n.channels keys.joint) _ (known_channel c n before m keys.joint a.2) (λ j has.
+    goes c (before ++ s ∷ []) (fixed_by n.channels keys.channel) _ (known_channel c n before m keys.channel a.3) (λ f will. quiet c n before s m)))))
+step_goes c n before (steps.Pay keys) m k st =
+    let s = steps.Pay keys in
+    let a = two_known (context.is_node c keys.who) (context.is_channel c keys.channel) (named_known c s k) in
+    always c n before s (goes c (before ++ s ∷ []) (fixed_by n.channels keys.channel) _ (known_channel c n before m keys.channel a.1) (λ f is. quiet c n before s m))
 step_goes c n before (steps.Close who channel) m k st =
     let s = steps.Close who channel in
     let a = behind_one (list_all (λ x. context.is_node c x) who) (context.is_channel c channel) (named_known c s k) in

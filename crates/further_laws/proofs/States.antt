@@ -59,27 +59,31 @@ named_push names before s states x fits h =
     by name e f false t =
         find_push (λ (y : NamedState). bytes_eq y.name name) states x (h.there name (any_before (λ u. bytes_eq u name) names x.name e t) f)
 
+-- the step that is to catch a state
+abbrev pub caught_by : (name from channel : List ℕ) → ℕ → Step
+caught_by name from channel turn = steps.Catch (record { name = name; from = from; channel = channel; turn = turn })
+
 -- a state is to be caught, and isn't
 missed_there : (names : List (List ℕ)) (before : List Step) (caught from channel : List ℕ) (turn : ℕ) (states : List NamedState) → AreNamed names before states
-    → (name : List ℕ) → list_any (λ s. bytes_eq s name) (names ++ caught ∷ []) ≡ true → list_any (catches name) (before ++ steps.Catch caught from channel turn ∷ []) ≡ false
+    → (name : List ℕ) → list_any (λ s. bytes_eq s name) (names ++ caught ∷ []) ≡ true → list_any (catches name) (before ++ caught_by caught from channel turn ∷ []) ≡ false
     → IsSome (state_by states name)
 missed_there names before caught from channel turn states h name e f =
-    let none = none_more (catches name) before (steps.Catch caught from channel turn) f in
+    let none = none_more (catches name) before (caught_by caught from channel turn) f in
     h.there name (any_before (λ s. bytes_eq s name) names caught e none.1) none.0
 
 pub named_missed : (names : List (List ℕ)) (before : List Step) (caught from channel : List ℕ) (turn : ℕ) (states : List NamedState) → AreNamed names before states
-    → AreNamed (names ++ caught ∷ []) (before ++ steps.Catch caught from channel turn ∷ []) states
+    → AreNamed (names ++ caught ∷ []) (before ++ caught_by caught from channel turn ∷ []) states
 named_missed names before caught from channel turn states h =
     record {
       there = missed_there names before caught from channel turn states h;
-      short = short_later before (steps.Catch caught from channel turn) states h.short;
+      short = short_later before (caught_by caught from channel turn) states h.short;
     }
 
 -- or is
 pub named_caught : (names : List (List ℕ)) (before : List Step) (from channel : List ℕ) (turn : ℕ) (states : List NamedState) (x : NamedState) → AreNamed names before states
-    → AreNamed (names ++ x.name ∷ []) (before ++ steps.Catch x.name from channel turn ∷ []) (states ++ x ∷ [])
+    → AreNamed (names ++ x.name ∷ []) (before ++ caught_by x.name from channel turn ∷ []) (states ++ x ∷ [])
 named_caught names before from channel turn states x h =
-    let s = steps.Catch x.name from channel turn in
+    let s = caught_by x.name from channel turn in
     record {
       there = λ name e f. find_push (λ (y : NamedState). bytes_eq y.name name) states x (missed_there names before x.name from channel turn states h name e f);
       short = short_push (before ++ s ∷ []) states x (short_later before s states h.short)

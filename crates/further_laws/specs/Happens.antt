@@ -15,7 +15,7 @@ use Rattle.step_meanings.specs.declared.names.Names.{Names}
 
 -- the step catches a state of a node, for this name
 abbrev pub catches : List ℕ → Step → Bool
-catches name (steps.Catch caught from channel turn) = bytes_eq caught name
+catches name (steps.Catch k) = bytes_eq k.name name
 catches name step = false
 
 -- the name stands for a state, if one of the steps before was to catch it
@@ -25,10 +25,10 @@ IsCaught n before name = list_any (catches name) before ≡ true → IsSome (sta
 -- what the step names of the states that steps before it were to catch was caught, and is short enough for a message that it sends
 abbrev pub HasCaught : Names → List Step → Step → Type 0
 HasCaught n before (steps.Send to state) = list_any (catches state) before ≡ true → IsSome (message_by n.states state)
-HasCaught n before (steps.Respond channel from next) = IsCaught n before from × IsCaught n before next
+HasCaught n before (steps.Respond k) = IsCaught n before k.from × IsCaught n before k.state
 HasCaught n before (steps.Refute channel next) = IsCaught n before next
-HasCaught n before (steps.Transfer channel state asset index) = IsCaught n before state
-HasCaught n before (steps.Claim guarantor promise target ending asset position) = IsCaught n before promise × IsCaught n before ending
+HasCaught n before (steps.Transfer k) = IsCaught n before k.state
+HasCaught n before (steps.Claim k) = IsCaught n before k.state × IsCaught n before k.target_state
 HasCaught n before step = ⊤
 
 -- each of the steps means something, by what names stand for in the play of the steps before it
@@ -39,5 +39,5 @@ EachHappens ways ss =
 
 -- a step's outcomes are outcomes, and what is voted on is spelled in bytes, as the types of its fields promise
 abbrev pub HasOutcomes : Step → Type 0
-HasOutcomes (steps.Sign name channel by turn is_final items votes proposal) = IsOutcome items × IsOutcome proposal × AreBytes (outcome proposal)
+HasOutcomes (steps.Sign k) = IsOutcome k.outcome × IsOutcome k.proposal × AreBytes (outcome k.proposal)
 HasOutcomes step = ⊤

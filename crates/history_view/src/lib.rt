@@ -13,5 +13,6 @@ mod room;
 mod turning;
 
 pub use following::{follow, unseen};
+pub use lowering::outcome_of;
 pub use readers::{held_amount, paid_amount, view_of};
 pub use room::can_follow;

@@ -7,8 +7,8 @@ ghost use Rattle.call_history.specs.Rest.{lower_at, lower_shape, lower_outcome};
 use channel_values::{AssetOutcome, ByteFault, Item, Listed, NoMemory, Outcome, Shape};
 use std::alloc::Global;
 
-/// The outcome of these assets, which are one's.
-pub(crate) fn outcome_of(alloc: Global, assets: Vec<AssetOutcome>) -> Result<Outcome, NoMemory>
+/// The outcome of these assets, which are those of an outcome.
+pub fn outcome_of(alloc: Global, assets: Vec<AssetOutcome>) -> Result<Outcome, NoMemory>
     requires { IsOutcome assets.items }
     ensures { IfOk result (λ outcome. outcome ≡ assets.items) }
 {

@@ -15,10 +15,9 @@ use crate::asking::asked;
 use byte_streams::{Sink, put_all};
 use channel_values::{Label, NoMemory};
 use hop_script::{Ending, HopFault, hop_script};
-use network_node::Node;
 use play_report::report_play;
 use report_text::{Report, tail_of};
-use script_run::{Records, Status};
+use script_run::{Node, Records, Status};
 use std::alloc::{AllocError, Global};
 
 /// What a hop answers. The report is there where it was played.

@@ -13,6 +13,8 @@ use Rattle.script_reader.specs.context.Channel.{Channel}
 use Rattle.script_reader.specs.context.Context.{Context}
 use Rattle.script_reader.specs.context.Person.{Person}
 use Rattle.script_reader.specs.step.Rule.TheVariants as rules
+use Rattle.script_steps.specs.declared.step.ChannelStep.{ChannelStep}
+use Rattle.script_steps.specs.declared.step.PersonStep.{PersonStep}
 use Rattle.script_reader.specs.step.Step.{Step}
 use Rattle.script_reader.specs.step.Step.TheVariants as steps
 use Rattle.hop_script.specs.Hop.{AreApart}
@@ -58,11 +60,11 @@ right_false true b e = absurd cc
 
 -- ---- what is declared
 
-abbrev new-person : (name seed : List ℕ) → ℕ → Bool → Person
-new-person name seed h node = record { name = name; seed = seed; h = h; node = node; key = key_of seed h; digest = person_name seed h }
+abbrev new-person : PersonStep → Person
+new-person k = record { name = k.name; seed = k.seed; h = k.h; node = k.node; key = key_of k.seed k.h; digest = person_name k.seed k.h }
 
-abbrev new-channel : Context → List ℕ → List (List ℕ) → ℕ → ℕ → ℕ → Channel
-new-channel c name people nonce app duration = record { name = name; digest = channel_name (keys_in c people) nonce app duration }
+abbrev new-channel : Context → ChannelStep → Channel
+new-channel c k = record { name = k.name; digest = channel_name (keys_in c k.people) k.nonce k.app k.duration }
 
 -- no two people have one digest, and no two channels
 pub record Clean (c : Context) : Type 0 where
@@ -71,19 +73,19 @@ pub record Clean (c : Context) : Type 0 where
 
 -- what declares a person or a channel
 pub data Declaration : Type 0 where
-  of-person : (name seed : List ℕ) (h : ℕ) (node : Bool) (watchers : ℕ) → Declaration
-  of-channel : (name : List ℕ) (people : List (List ℕ)) (nonce app duration : ℕ) → Declaration
+  of-person : PersonStep → Declaration
+  of-channel : ChannelStep → Declaration
 
 abbrev pub step : Declaration → Step
-step (of-person name seed h node watchers) = steps.Person name seed h node watchers
-step (of-channel name people nonce app duration) = steps.Channel name people nonce app duration
+step (of-person s) = steps.Person s
+step (of-channel s) = steps.Channel s
 
 -- the fixed part of each channel keeps the limits of fixed parts
 abbrev pub AreFixed : Context → List Declaration → Type 0
 AreFixed c [] = Unit {0}
-AreFixed c (of-person name seed h node watchers ∷ ds) = AreFixed (after c (steps.Person name seed h node watchers)) ds
-AreFixed c (of-channel name people nonce app duration ∷ ds) =
-    (has_fixed c people nonce app duration ≡ true) × AreFixed (after c (steps.Channel name people nonce app duration)) ds
+AreFixed c (of-person s ∷ ds) = AreFixed (after c (steps.Person s)) ds
+AreFixed c (of-channel s ∷ ds) =
+    (has_fixed c s.people s.nonce s.app s.duration ≡ true) × AreFixed (after c (steps.Channel s)) ds
 
 is-new : (b : Bool) → holds rules.Name (not b) ≡ Ok 0 → b ≡ false
 is-new false e = refl
@@ -105,39 +107,39 @@ new-channel-is false b fits e = absurd cc
 
 pub clean : (c : Context) (ds : List Declaration) → Clean c → AreApart c (map step ds) → Clean (fold after c (map step ds))
 clean c [] k a = k
-clean c (of-person name seed h node watchers ∷ ds) k a =
-    clean (after c (steps.Person name seed h node watchers)) ds
+clean c (of-person s ∷ ds) k a =
+    clean (after c (steps.Person s)) ds
     (record {
-      people = more (λ (p : Person). p.digest) c.people (new-person name seed h node) ∙ both-false _ _ k.people (is-new _ a.0);
+      people = more (λ (p : Person). p.digest) c.people (new-person s) ∙ both-false _ _ k.people (is-new _ a.0);
       channels = k.channels;
     }) a.1
-clean c (of-channel name people nonce app duration ∷ ds) k a =
-    clean (after c (steps.Channel name people nonce app duration)) ds
+clean c (of-channel s ∷ ds) k a =
+    clean (after c (steps.Channel s)) ds
     (record {
       people = k.people;
-      channels = more (λ (x : Channel). x.digest) c.channels (new-channel c name people nonce app duration) ∙ both-false _ _ k.channels (is-new-channel _ _ a.0);
+      channels = more (λ (x : Channel). x.digest) c.channels (new-channel c s) ∙ both-false _ _ k.channels (is-new-channel _ _ a.0);
     }) a.1
 
 -- ---- and back
 
 pub was_clean : (c : Context) (ds : List Declaration) → Clean (fold after c (map step ds)) → Clean c
 was_clean c [] k = k
-was_clean c (of-person name seed h node watchers ∷ ds) k =
-    let l = was_clean (after c (steps.Person name seed h node watchers)) ds k in
-    record { people = left_false _ _ (sym (more (λ (p : Person). p.digest) c.people (new-person name seed h node)) ∙ l.people); channels = l.channels }
-was_clean c (of-channel name people nonce app duration ∷ ds) k =
-    let l = was_clean (after c (steps.Channel name people nonce app duration)) ds k in
-    record { people = l.people; channels = left_false _ _ (sym (more (λ (x : Channel). x.digest) c.channels (new-channel c name people nonce app duration)) ∙ l.channels) }
+was_clean c (of-person s ∷ ds) k =
+    let l = was_clean (after c (steps.Person s)) ds k in
+    record { people = left_false _ _ (sym (more (λ (p : Person). p.digest) c.people (new-person s)) ∙ l.people); channels = l.channels }
+was_clean c (of-channel s ∷ ds) k =
+    let l = was_clean (after c (steps.Channel s)) ds k in
+    record { people = l.people; channels = left_false _ _ (sym (more (λ (x : Channel). x.digest) c.channels (new-channel c s)) ∙ l.channels) }
 
 pub apart : (c : Context) (ds : List Declaration) → AreFixed c ds → Clean (fold after c (map step ds)) → AreApart c (map step ds)
 apart c [] fixed k = tt
-apart c (of-person name seed h node watchers ∷ ds) fixed k =
-    let l = was_clean (after c (steps.Person name seed h node watchers)) ds k in (
-      new-is _ (right_false _ _ (sym (more (λ (p : Person). p.digest) c.people (new-person name seed h node)) ∙ l.people)),
-      apart (after c (steps.Person name seed h node watchers)) ds fixed k,
+apart c (of-person s ∷ ds) fixed k =
+    let l = was_clean (after c (steps.Person s)) ds k in (
+      new-is _ (right_false _ _ (sym (more (λ (p : Person). p.digest) c.people (new-person s)) ∙ l.people)),
+      apart (after c (steps.Person s)) ds fixed k,
     )
-apart c (of-channel name people nonce app duration ∷ ds) fixed k =
-    let l = was_clean (after c (steps.Channel name people nonce app duration)) ds k in (
-      new-channel-is _ _ fixed.0 (right_false _ _ (sym (more (λ (x : Channel). x.digest) c.channels (new-channel c name people nonce app duration)) ∙ l.channels)),
-      apart (after c (steps.Channel name people nonce app duration)) ds fixed.1 k,
+apart c (of-channel s ∷ ds) fixed k =
+    let l = was_clean (after c (steps.Channel s)) ds k in (
+      new-channel-is _ _ fixed.0 (right_false _ _ (sym (more (λ (x : Channel). x.digest) c.channels (new-channel c s)) ∙ l.channels)),
+      apart (after c (steps.Channel s)) ds fixed.1 k,
     )

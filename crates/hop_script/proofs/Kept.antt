@@ -5,7 +5,7 @@ use Rattle.std.specs.List.{fold}
 use Rattle.std.proofs.lemmas.Bool.{le-leb}
 use Rattle.std.proofs.lemmas.List.Elements.{filter_map-append}
 use Rattle.std.proofs.lemmas.List.Sums.{fold-append}
-use Rattle.load.proofs.Kept.{IsKept, checked_append}
+use Rattle.script_reader.proofs.Kept.{IsKept, checked_append}
 use Rattle.script_reader.proofs.Bounds as bounds
 use Rattle.script_reader.proofs.Bounds.{all_fit, few_people}
 use Rattle.script_reader.specs.Bounds.{signers_of}

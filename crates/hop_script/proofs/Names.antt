@@ -3,7 +3,7 @@ use Rattle.std.proofs.Common.{◌≡◌, ◌≤◌, ℕ, List, [], ◌∷◌, Bo
 use Rattle.std.specs.Prelude.{◌&&◌, ◌||◌, is_ok, replicate, Result}
 use Rattle.std.specs.Str.{bytes_eq}
 use Rattle.channel_values.specs.Digests.{name_of_person}
-use Rattle.load.proofs.Kept.{two_keys}
+use Rattle.script_reader.proofs.Kept.{two_keys}
 use Rattle.channel_values.proofs.Format.{valid_again}
 use Rattle.channel_values.proofs.Formats.{fixed_format}
 use Rattle.channel_values.specs.Parts.{FixedParts, IsKey, fixed_with}
@@ -43,13 +43,13 @@ not-true true never = absurd (never refl)
 -- ---- entered one behind the other
 
 abbrev person : List ℕ → ℕ → Declaration
-person name letter = of-person name (replicate 32 letter) 10 true 1
+person name letter = of-person (record { name = name; seed = replicate 32 letter; h = 10; node = true; watchers = 1 })
 
 abbrev the-people : List Declaration
 the-people = person (codes "A") 0x41 ∷ person (codes "I1") 0x31 ∷ person (codes "I2") 0x32 ∷ person (codes "B") 0x42 ∷ []
 
 abbrev channel : List ℕ → List (List ℕ) → (nonce app : ℕ) → Declaration
-channel name who nonce app = of-channel name who nonce app 5
+channel name who nonce app = of-channel (record { name = name; people = who; nonce = nonce; app = app; duration = 5 })
 
 abbrev the-channels : List Declaration
 the-channels =

@@ -28,7 +28,7 @@ use Rattle.hop_script.specs.declared.fault.HopFault.TheVariants as faults
 
 -- with a node and one watcher; the seed has this byte alone, and the key's tree height 10
 abbrev pub person : List ℕ → ℕ → Step
-person name letter = steps.Person name (replicate 32 letter) 10 true 1
+person name letter = steps.Person (record { name = name; seed = replicate 32 letter; h = 10; node = true; watchers = 1 })
 
 abbrev pub people : List Step
 people =
@@ -37,7 +37,7 @@ people =
 -- ---- channels: of consensus, of fixed outcomes as guarantors are, and of payments
 
 abbrev pub channel : List ℕ → List (List ℕ) → (nonce app : ℕ) → Step
-channel name who nonce app = steps.Channel name who nonce app 5
+channel name who nonce app = steps.Channel (record { name = name; people = who; nonce = nonce; app = app; duration = 5 })
 
 abbrev pub two : (first second : List ℕ) → List (List ℕ)
 two first second = first ∷ second ∷ []
@@ -126,7 +126,7 @@ abbrev pub sides : (first second : List ℕ) → List AssetOutcome
 sides first second = record { asset = 0; shape = Allocation (side first ∷ side second ∷ []) } ∷ []
 
 abbrev pub opened : List ℕ → (first second : Person) → Step
-opened ledger first second = steps.Open (two first.name second.name) ledger (sides first.digest second.digest)
+opened ledger first second = steps.Open (record { who = two first.name second.name; channel = ledger; outcome = sides first.digest second.digest })
 
 -- the people of each ledger have two digests
 abbrev pub AreOpened : List Person → Type 0
@@ -141,13 +141,29 @@ opened_ledgers _ = []
 
 abbrev pub opened_virtual : Step
 opened_virtual =
-    steps.OpenVirtual (three (codes "A") (codes "I1") (codes "I2")) Ledger (two (codes "LA") (codes "LI"))
-    (two (codes "GA1") (codes "GB1")) (codes "J1") (codes "VL") 0 (60, 20)
+    steps.OpenVirtual (record {
+      who = three (codes "A") (codes "I1") (codes "I2");
+      route = Ledger;
+      ledgers = two (codes "LA") (codes "LI");
+      guarantors = two (codes "GA1") (codes "GB1");
+      joint = codes "J1";
+      channel = codes "VL";
+      asset = 0;
+      amounts = (60, 20);
+    })
 
 abbrev pub opened_onward : Step
 opened_onward =
-    steps.OpenVirtual (three (codes "A") (codes "I2") (codes "B")) Onward (two (codes "VL") (codes "LB"))
-    (two (codes "GA2") (codes "GB2")) (codes "J2") (codes "X2") 0 (40, 10)
+    steps.OpenVirtual (record {
+      who = three (codes "A") (codes "I2") (codes "B");
+      route = Onward;
+      ledgers = two (codes "VL") (codes "LB");
+      guarantors = two (codes "GA2") (codes "GB2");
+      joint = codes "J2";
+      channel = codes "X2";
+      asset = 0;
+      amounts = (40, 10);
+    })
 
 abbrev pub opened_virtuals : List Step
 opened_virtuals = settled opened_virtual ++ settled opened_onward
@@ -159,7 +175,7 @@ openings = opened_ledgers declared_people ++ opened_virtuals
 
 -- a payment, and the round in which it is made
 abbrev pub payment : List ℕ → ℕ → List Step
-payment who amount = steps.Pay who (codes "X2") 0 amount ∷ steps.Rounds 1 ∷ []
+payment who amount = steps.Pay (record { who = who; channel = codes "X2"; asset = 0; amount = amount }) ∷ steps.Rounds 1 ∷ []
 
 -- 1 by A, and nothing by B, whose turn is next then
 abbrev pub exchange : List Step

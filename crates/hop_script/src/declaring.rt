@@ -5,20 +5,20 @@ ghost use Rattle.hop_script.specs.Hop.{channel, channels, declared, ledgers, onw
 
 use crate::parts::{label, three, two};
 use channel_values::{Label, Listed, NoMemory};
-use script_reader::Step;
+use script_steps::{ChannelStep, PersonStep, Step};
 use std::alloc::Global;
 
 /// A person with a node and one watcher, whose seed has this byte alone.
 fn person(alloc: Global, name: &str, letter: u8) -> Result<Step, NoMemory>
     ensures { IfOk result (λ s. s ≡ person name.now letter) }
 {
-    Ok(Step::Person {
+    Ok(Step::Person(PersonStep {
         name: label(alloc, name)?,
         seed: [letter; 32],
         h: 10,
         node: true,
         watchers: 1,
-    })
+    }))
 }
 
 fn channel(
@@ -30,13 +30,13 @@ fn channel(
 ) -> Result<Step, NoMemory>
     ensures { IfOk result (λ s. s ≡ channel name.now people nonce app) }
 {
-    Ok(Step::Channel {
+    Ok(Step::Channel(ChannelStep {
         name: label(alloc, name)?,
         people,
         nonce,
         app,
         duration: 5,
-    })
+    }))
 }
 
 fn push_ledgers(alloc: Global, steps: &mut Listed<Step>) -> Result<(), NoMemory>

@@ -7,7 +7,7 @@ ghost use Rattle.hop_script.specs.Hop.{are_apart, declared_people, opened, opene
 use crate::parts::{label, push_settled, three, two};
 use channel_values::{AssetOutcome, ByteFault, Dest, Item, Listed, Name, NoMemory, Outcome, Shape};
 use network::Route;
-use script_reader::{Person, Step};
+use script_steps::{OpenStep, OpenVirtualStep, Person, Step};
 use std::alloc::Global;
 
 /// What a person has in a ledger at first.
@@ -42,18 +42,18 @@ fn opened(alloc: Global, ledger: &str, first: &Person, second: &Person) -> Resul
     requires { bytes_eq first.now.digest second.now.digest ≡ false }
     ensures { IfOk result (λ s. s ≡ opened ledger.now first.now second.now) }
 {
-    Ok(Step::Open {
+    Ok(Step::Open(OpenStep {
         who: two(alloc, first.name.as_str(), second.name.as_str())?,
         channel: label(alloc, ledger)?,
         outcome: sides(alloc, first.digest, second.digest)?,
-    })
+    }))
 }
 
 /// The virtual ledger of A and I2, through I1.
 fn opened_virtual(alloc: Global) -> Result<Step, NoMemory>
     ensures { IfOk result (λ s. s ≡ opened_virtual) }
 {
-    Ok(Step::OpenVirtual {
+    Ok(Step::OpenVirtual(OpenVirtualStep {
         who: three(alloc, "A", "I1", "I2")?,
         route: Route::Ledger,
         ledgers: two(alloc, "LA", "LI")?,
@@ -62,14 +62,14 @@ fn opened_virtual(alloc: Global) -> Result<Step, NoMemory>
         channel: label(alloc, "VL")?,
         asset: 0,
         amounts: (60, 20),
-    })
+    }))
 }
 
 /// The channel of A and B, through I2.
 fn opened_onward(alloc: Global) -> Result<Step, NoMemory>
     ensures { IfOk result (λ s. s ≡ opened_onward) }
 {
-    Ok(Step::OpenVirtual {
+    Ok(Step::OpenVirtual(OpenVirtualStep {
         who: three(alloc, "A", "I2", "B")?,
         route: Route::Onward,
         ledgers: two(alloc, "VL", "LB")?,
@@ -78,7 +78,7 @@ fn opened_onward(alloc: Global) -> Result<Step, NoMemory>
         channel: label(alloc, "X2")?,
         asset: 0,
         amounts: (40, 10),
-    })
+    }))
 }
 
 fn push_opened(

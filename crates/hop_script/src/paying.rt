@@ -7,7 +7,7 @@ ghost use Rattle.script_reader.specs.step.Step.TheVariants as steps;
 use crate::ending::Ending;
 use crate::parts::{label, push_settled, three, two};
 use channel_values::{Label, Listed, NoMemory};
-use script_reader::Step;
+use script_steps::{PayStep, Step};
 use std::alloc::Global;
 
 /// Appends a payment, and the round in which it is made.
@@ -19,12 +19,12 @@ fn push_payment(
 ) -> Result<(), NoMemory>
     ensures { OnOk result (steps.new ≡ steps.old ++ payment who.now amount) }
 {
-    steps.push(Step::Pay {
+    steps.push(Step::Pay(PayStep {
         who: label(alloc, who)?,
         channel: label(alloc, "X2")?,
         asset: 0,
         amount,
-    })?;
+    }))?;
     steps.push(Step::Rounds { count: 1 })
 }
 

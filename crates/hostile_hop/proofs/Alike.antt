@@ -13,23 +13,23 @@ use Rattle.hostile_hop.specs.Routes.{plain, plainly}
 -- ---- a step
 
 same_persons : (s : Step) → persons (plain s) ≡ persons s
-same_persons (steps.OpenVirtual who route ledgers guarantors joint channel asset amounts) = refl
+same_persons (steps.OpenVirtual k) = refl
 same_persons s = refl
 
 same_rounds : (s : Step) → rounds (plain s) ≡ rounds s
-same_rounds (steps.OpenVirtual who route ledgers guarantors joint channel asset amounts) = refl
+same_rounds (steps.OpenVirtual k) = refl
 same_rounds s = refl
 
 same_signer : (s : Step) → signer_of (plain s) ≡ signer_of s
-same_signer (steps.OpenVirtual who route ledgers guarantors joint channel asset amounts) = refl
+same_signer (steps.OpenVirtual k) = refl
 same_signer s = refl
 
 fits_plainly : (s : Step) → Fits s → Fits (plain s)
-fits_plainly (steps.OpenVirtual who route ledgers guarantors joint channel asset amounts) h = h
+fits_plainly (steps.OpenVirtual k) h = h
 fits_plainly s h = h
 
 fits_anyhow : (s : Step) → Fits (plain s) → Fits s
-fits_anyhow (steps.OpenVirtual who route ledgers guarantors joint channel asset amounts) h = h
+fits_anyhow (steps.OpenVirtual k) h = h
 fits_anyhow s h = h
 
 -- ---- all steps

@@ -6,7 +6,7 @@ use Rattle.script_steps.specs.declared.step.Step.TheVariants as steps
 
 -- the step with the plain route
 abbrev pub plain : Step → Step
-plain (steps.OpenVirtual who route ledgers guarantors joint channel asset amounts) = steps.OpenVirtual who Plain ledgers guarantors joint channel asset amounts
+plain (steps.OpenVirtual k) = steps.OpenVirtual (record k { route = Plain })
 plain step = step
 
 abbrev pub plainly : List Step → List Step

@@ -10,11 +10,10 @@ use byte_streams::{ReadEnd, Source, read_all};
 use channel_values::NoMemory;
 use lms_signatures::Signer;
 use network::Route;
-use network_node::Node;
 use play_report::report_play;
 use report_text::{Report, text_of};
 use script_reader::{ScriptFault, read_script_with_signers};
-use script_run::{Records, Status, line_of};
+use script_run::{Node, Records, Status, line_of};
 use script_steps::{STEP_LIMIT, Step};
 use std::alloc::Global;
 

@@ -34,8 +34,8 @@ fn take_next(step: &mut Step, routes: &[Route], given: usize) -> usize
     ensures { plain step.new ≡ plain step.old }
 {
     match (step, routes.get(given)) {
-        (Step::OpenVirtual { route, .. }, Some(next)) => {
-            *route = *next;
+        (Step::OpenVirtual(keys), Some(next)) => {
+            keys.route = *next;
             given.saturating_add(1)
         }
         _ => given,

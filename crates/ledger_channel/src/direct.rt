@@ -9,9 +9,9 @@ ghost use Rattle.funding_plans.specs.Rows as rows;
 ghost use Rattle.funding_plans.specs.Seats as seats;
 ghost use Rattle.ledger_channel.specs.Roots as roots;
 
-use crate::money::{afforded, ahead_of, held_of, total};
+use crate::money::{afforded, ahead_of, held_of};
 use call_history::{Call, Standing, place_of};
-use channel_values::{AssetOutcome, Chain, Dest, Item, Name, NoMemory, Outcome, State};
+use channel_values::{AssetOutcome, Chain, Dest, Item, Name, NoMemory, Outcome, State, total};
 use funding_plans::{SeatView, amt, items_in};
 use std::alloc::Global;
 use std::marker::Model;

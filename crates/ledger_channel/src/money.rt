@@ -41,13 +41,6 @@ pub(crate) fn ahead_of(items: &[Item], to: &Dest) -> u64
     }
 }
 
-pub(crate) fn total(items: &[Item]) -> u64
-    requires { total items.now < 2 ^ 64 }
-    ensures { result ≡ total items.now }
-{
-    items.iter().map(|item| item.amount).sum()
-}
-
 /// What a balance affords a destination.
 pub(crate) fn afforded(items: &[Item], balance: u64, to: &Dest) -> u64
     ensures { result ≡ aff items.now balance to.now }

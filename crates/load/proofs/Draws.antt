@@ -40,9 +40,9 @@ pub next_drawn : (seed place number : ℕ) → number ≡ drawn seed place → n
 next_drawn seed place number is = ap next is ∙ ap (drawn seed) (sym (plus_one place))
 
 one_more : (seed place : ℕ) (old before : List Step) → before ≡ old ++ payments seed place
-    → (before ++ steps.Pay (payer (place + 1)) (codes "C") 0 (amount seed (place + 1)) ∷ []) ++ steps.Rounds 1 ∷ [] ≡ old ++ payments seed (place + 1)
+    → (before ++ steps.Pay (record { who = payer (place + 1); channel = codes "C"; asset = 0; amount = amount seed (place + 1) }) ∷ []) ++ steps.Rounds 1 ∷ [] ≡ old ++ payments seed (place + 1)
 one_more seed place old before is =
-    append_assoc before (steps.Pay (payer (place + 1)) (codes "C") 0 (amount seed (place + 1)) ∷ []) (steps.Rounds 1 ∷ [])
+    append_assoc before (steps.Pay (record { who = payer (place + 1); channel = codes "C"; asset = 0; amount = amount seed (place + 1) }) ∷ []) (steps.Rounds 1 ∷ [])
     ∙ ap (λ (xs : List Step). xs ++ payment seed (place + 1)) is
     ∙ append_assoc old (payments seed place) (payment seed (place + 1))
     ∙ ap (λ (n : ℕ). old ++ (payments seed place ++ payment seed n)) (plus_one place)
@@ -51,10 +51,10 @@ one_more seed place old before is =
 -- one payment more, pushed as two steps
 pub pushed : (seed place number : ℕ) (old before between after : List Step) (who name : List ℕ) → before ≡ old ++ payments seed place
     → number ≡ drawn seed (place + 1) → who ≡ payer (place + 1) → name ≡ codes "C"
-    → between ≡ before ++ steps.Pay who name 0 (number / 2 ^ 48 % 1000) ∷ [] → after ≡ between ++ steps.Rounds 1 ∷ []
+    → between ≡ before ++ steps.Pay (record { who = who; channel = name; asset = 0; amount = number / 2 ^ 48 % 1000 }) ∷ [] → after ≡ between ++ steps.Rounds 1 ∷ []
     → after ≡ old ++ payments seed (place + 1)
 pushed seed place number old before between after who name is drew paid named first second =
     second
     ∙ ap (λ (xs : List Step). xs ++ steps.Rounds 1 ∷ []) first
-    ∙ (λ i. (before ++ steps.Pay (paid i) (named i) 0 (drew i / 2 ^ 48 % 1000) ∷ []) ++ steps.Rounds 1 ∷ [])
+    ∙ (λ i. (before ++ steps.Pay (record { who = paid i; channel = named i; asset = 0; amount = drew i / 2 ^ 48 % 1000 }) ∷ []) ++ steps.Rounds 1 ∷ [])
     ∙ one_more seed place old before is

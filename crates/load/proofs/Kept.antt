@@ -1,19 +1,17 @@
 -- The steps of a load keep the rules of a script.
-use Rattle.std.proofs.Common.{◌≡◌, ◌≤◌, ◌+◌, ◌%◌, ℕ, zero, suc, List, [], ◌∷◌, ◌++◌, length, ap, sym, ◌∙◌, refl, arith, subst, true, false, not, codes}
-use Rattle.std.specs.Prelude.{Bool, ◌==◌, ◌&&◌, ◌||◌, Result, Ok, is_ok, nat_le, All, if◌then◌else◌}
+use Rattle.std.proofs.Common.{◌≡◌, ◌≤◌, ◌+◌, ◌%◌, ℕ, zero, suc, List, [], ◌∷◌, ◌++◌, ap, sym, ◌∙◌, refl, arith, subst, true, false, not, codes}
+use Rattle.std.specs.Prelude.{Bool, ◌==◌, ◌&&◌, ◌||◌, Result, Ok, is_ok, nat_le, if◌then◌else◌}
 use Rattle.std.specs.List.{fold}
 use Rattle.std.specs.Str.{bytes_eq}
 use Rattle.std.proofs.lemmas.Bool.{le-leb}
 use Rattle.std.proofs.lemmas.List.Sums.{fold-append}
-use Rattle.std.proofs.lemmas.Slice.Eq.{bytes_eq-Decides}
 use Rattle.channel_values.specs.Parts.{FixedParts, IsKey, IsFixed, fixed_with}
 use Rattle.channel_values.specs.declared.fault.ByteFault.{ByteFault}
 use Rattle.channel_values.specs.Reading.{fixed_of}
 use Rattle.channel_values.specs.Spelling.{fixed}
 use Rattle.channel_values.proofs.Format.{valid_again}
 use Rattle.channel_values.proofs.Formats.{fixed_format}
-use Rattle.channel_values.specs.Digests.{name_of_person}
-use Rattle.script_reader.specs.Bounds.{Fits, persons_of, rounds_of}
+use Rattle.script_reader.proofs.Kept.{IsKept, checked_append, two_keys}
 use Rattle.script_reader.proofs.Bounds as bounds
 use Rattle.script_reader.proofs.Bounds.{all_fit, few_people}
 use Rattle.script_reader.specs.Conditions.{after, within}
@@ -28,11 +26,6 @@ use Rattle.script_reader.specs.step.Step.{Step}
 use Rattle.script_reader.specs.step.Step.TheVariants as steps
 use Rattle.load.specs.Load.{key_seed, digest_of, are_two, person, channel, payer, amount, payment, payments, beginning, ending, load_steps}
 use Rattle.load.proofs.Draws.{few_steps}
-
--- one part behind another
-pub checked_append : (c : Context) (xs ys : List Step) → AreChecked c xs → AreChecked (fold after c xs) ys → AreChecked c (xs ++ ys)
-checked_append c [] ys h k = k
-checked_append c (x ∷ xs) ys h k = (h.0, checked_append (after c x) xs ys h.1 k)
 
 -- ---- what is declared
 
@@ -57,17 +50,6 @@ two_people false e = refl
 
 keeps_b : (seed : ℕ) → bytes_eq (digest_of 65 seed) (digest_of 66 seed) ≡ false → Keeps (with_a seed) (person 66 seed)
 keeps_b seed apart = record { named = refl; fit = refl; apart = two_people (bytes_eq (digest_of 65 seed) (digest_of 66 seed)) apart; raced = refl }
-
--- people of two digests have two keys
-pub two_keys : (a b : List ℕ) → bytes_eq (name_of_person a) (name_of_person b) ≡ false → bytes_eq a b ≡ false
-two_keys a b apart = by (bytes_eq a b) refl
-  where
-    by : (t : Bool) → bytes_eq a b ≡ t → bytes_eq a b ≡ false
-    by false e = e
-    by true e =
-        let same : bytes_eq (name_of_person a) (name_of_person b) ≡ true =
-        (bytes_eq-Decides (name_of_person a) (name_of_person b)).1 (ap name_of_person ((bytes_eq-Decides a b).0 e)) in
-        absurd (cc)
 
 -- their fixed part
 pub is_fixed : (a b : List ℕ) → IsKey a → IsKey b → bytes_eq a b ≡ false → IsFixed (fixed_with (a ∷ b ∷ []) 1 1 10)
@@ -128,10 +110,10 @@ module _ (seed : ℕ) (fits_a : IsKey (key_a seed)) (fits_b : IsKey (key_b seed)
 
 -- ---- payments
 
-is_paid : (seed rounds place pays : ℕ) → Keeps (after_rounds seed rounds) (steps.Pay (payer place) (codes "C") 0 pays)
+is_paid : (seed rounds place pays : ℕ) → Keeps (after_rounds seed rounds) (steps.Pay (record { who = payer place; channel = codes "C"; asset = 0; amount = pays }))
 is_paid seed rounds place pays = by (place % 2 == 1)
   where
-    by : (t : Bool) → Keeps (after_rounds seed rounds) (steps.Pay (if t then codes "A" else codes "B") (codes "C") 0 pays)
+    by : (t : Bool) → Keeps (after_rounds seed rounds) (steps.Pay (record { who = if t then codes "A" else codes "B"; channel = codes "C"; asset = 0; amount = pays }))
     by true = record { named = refl; fit = refl; apart = refl; raced = refl }
     by false = record { named = refl; fit = refl; apart = refl; raced = refl }
 
@@ -168,14 +150,6 @@ keeps seed count few fits_a fits_b apart =
     checked_append (start false) (beginning seed) (payments seed count ++ ending) (keeps_beginning seed fits_a fits_b apart)
     (checked_append (after_rounds seed 8) (payments seed count) ending (all_payments seed 8 count (omega (arith, few)))
     (subst (λ (c : Context). AreChecked c ending) (sym (after_payments seed 8 count)) (keeps_ending seed (8 + count) (omega (arith, few)))))
-
--- what a script keeps that is read
-pub record IsKept (ss : List Step) : Type 0 where
-  pub kept : AreChecked (start false) ss
-  pub fit : All Fits ss
-  pub few : length ss ≤ 4096
-  pub people : persons_of ss ≤ 16
-  pub rounds : rounds_of ss ≤ 4096
 
 pub load_is_kept : (seed count : ℕ) (ss : List Step) → ss ≡ load_steps seed count → count ≤ 1000 → IsKey (key_a seed) → IsKey (key_b seed) → are_two seed ≡ true → IsKept ss
 load_is_kept seed count ss is few fits_a fits_b two = subst IsKept (sym is) (record {

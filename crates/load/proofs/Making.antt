@@ -11,7 +11,8 @@ use Rattle.channel_values.proofs.Formats.{fixed_format}
 use Rattle.channel_safety.proofs.Tests.{lt-true}
 use Rattle.channel_values.specs.Digests.{name_of_person}
 use Rattle.load.specs.Load.{key_seed, digest_of, are_two}
-use Rattle.load.proofs.Kept.{two_keys, is_fixed}
+use Rattle.load.proofs.Kept.{is_fixed}
+use Rattle.script_reader.proofs.Kept.{two_keys}
 use Rattle.fairness_laws.proofs.NamesAreNames.{names_are_names, sums}
 use Rattle.channel_node.specs.Keys.{FitsSigner}
 use Rattle.channel_node.proofs.Keys.{made_keys_sign_well}

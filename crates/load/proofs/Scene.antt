@@ -74,7 +74,7 @@ both-there seed = run 1 (person 65 seed ∷ person 66 seed ∷ []) empty
 -- the steps from the channel on, by its fixed part
 abbrev from-channel : ℕ → Option FixedParts → SceneOf Numbered
 from-channel seed o =
-    run 4 (steps.Open people (codes "C") (stakes (digest_of 65 seed) (digest_of 66 seed)) ∷ steps.Rounds 8 ∷ [])
+    run 4 (steps.Open (record { who = people; channel = codes "C"; outcome = stakes (digest_of 65 seed) (digest_of 66 seed) }) ∷ steps.Rounds 8 ∷ [])
     (done_as ways 3 (both-there seed) (unwrap_or (o >>= λ f. Some (learning (with_channel (both-there seed).names (codes "C") f))) (learning (both-there seed).names)))
 
 pub begins : (seed : ℕ) → are_two seed ≡ true → run 1 (beginning seed) empty ≡ play_rounds ways 8 (told_both (pair_of seed) 4 (joined_both seed))
@@ -84,7 +84,7 @@ begins seed two = ap (from-channel seed) (is_valid seed two)
 
 -- a payment by the first if the test says so, else by the second
 abbrev pays-by : Names → Bool → (number amount : ℕ) → SceneOf Numbered → SceneOf Numbered
-pays-by n t number amount s = play_round ways (done_as ways number s (meaning n (steps.Pay (if t then codes "A" else codes "B") (codes "C") 0 amount)))
+pays-by n t number amount s = play_round ways (done_as ways number s (meaning n (steps.Pay (record { who = if t then codes "A" else codes "B"; channel = codes "C"; asset = 0; amount = amount }))))
 
 abbrev one-paid : ℕ → Bool → (number amount : ℕ) → SceneOf Numbered → SceneOf Numbered
 one-paid seed t number amount s = play_round ways (told ways number (Pay (name real (pair_of seed)) 0 amount) s (cond t 1 2))

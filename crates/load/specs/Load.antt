@@ -27,7 +27,7 @@ are_two seed = not (bytes_eq (digest_of 65 seed) (digest_of 66 seed))
 
 -- with a node, and one watcher
 abbrev pub person : (letter seed : ℕ) → Step
-person letter seed = steps.Person (letter ∷ []) (key_seed letter seed) 10 true 1
+person letter seed = steps.Person (record { name = letter ∷ []; seed = key_seed letter seed; h = 10; node = true; watchers = 1 })
 
 abbrev pub people : List (List ℕ)
 people = codes "A" ∷ codes "B" ∷ []
@@ -40,7 +40,7 @@ load_signers seed = fresh (key_seed 65 seed) 10 ∷ fresh (key_seed 66 seed) 10 
 
 -- for payments, with nonce 1 and duration 10
 abbrev pub channel : Step
-channel = steps.Channel (codes "C") people 1 1 10
+channel = steps.Channel (record { name = codes "C"; people = people; nonce = 1; app = 1; duration = 10 })
 
 -- what the person with a digest has in the channel at first
 abbrev pub stake : List ℕ → Item
@@ -69,7 +69,7 @@ payer place = if place % 2 == 1 then codes "A" else codes "B"
 
 -- a payment, and a round in which it is made
 abbrev pub payment : (seed place : ℕ) → List Step
-payment seed place = steps.Pay (payer place) (codes "C") 0 (amount seed place) ∷ steps.Rounds 1 ∷ []
+payment seed place = steps.Pay (record { who = payer place; channel = codes "C"; asset = 0; amount = amount seed place }) ∷ steps.Rounds 1 ∷ []
 
 -- the payments at the places from 1 on
 abbrev pub payments : (seed count : ℕ) → List Step
@@ -81,7 +81,7 @@ payments seed (suc count) = payments seed count ++ payment seed (suc count)
 abbrev pub beginning : ℕ → List Step
 beginning seed =
     person 65 seed ∷ person 66 seed ∷ channel
-    ∷ steps.Open people (codes "C") (stakes (digest_of 65 seed) (digest_of 66 seed)) ∷ steps.Rounds 8 ∷ []
+    ∷ steps.Open (record { who = people; channel = codes "C"; outcome = stakes (digest_of 65 seed) (digest_of 66 seed) }) ∷ steps.Rounds 8 ∷ []
 
 abbrev pub ending : List Step
 ending = steps.Close people (codes "C") ∷ steps.Rounds 6 ∷ []

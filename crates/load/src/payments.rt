@@ -5,7 +5,7 @@ ghost use Rattle.load.specs.Load.{next, drawn, payer, payments};
 
 use crate::people::label;
 use channel_values::{Listed, NoMemory};
-use script_reader::Step;
+use script_steps::{PayStep, Step};
 use std::alloc::Global;
 
 /// The number behind another in the row of a seed.
@@ -36,12 +36,12 @@ pub(crate) fn push_payments(
     let mut number = seed;
     for place in 0..count {
         number = next(number);
-        steps.push(Step::Pay {
+        steps.push(Step::Pay(PayStep {
             who: label(alloc, payer(place + 1))?,
             channel: label(alloc, "C")?,
             asset: 0,
             amount: (number >> 48) % 1000,
-        })?;
+        }))?;
         steps.push(Step::Rounds { count: 1 })?;
     }
     Ok(())

@@ -11,7 +11,7 @@ use channel_values::{
     AssetOutcome, ByteFault, Dest, Item, Label, Listed, Name, NoMemory, Outcome, Shape, person_name,
 };
 use lms_signatures::Signer;
-use script_reader::{Step, id_of};
+use script_steps::{ChannelStep, OpenStep, PersonStep, Step, id_of};
 use std::alloc::Global;
 
 /// The height of the tree of a person's key.
@@ -100,28 +100,29 @@ fn stake(digest: Name) -> Item
 }
 
 fn person(alloc: Global, name: &str, seed: [u8; 32]) -> Result<Step, NoMemory>
-    ensures { IfOk result (λ s. s ≡ steps.Person name.now seed 10 true 1) }
+    ensures { IfOk result (λ s. s
+        ≡ steps.Person (record { name = name.now; seed = seed; h = 10; node = true; watchers = 1 })) }
 {
-    Ok(Step::Person {
+    Ok(Step::Person(PersonStep {
         name: label(alloc, name)?,
         seed,
         h: u64::from(HEIGHT),
         node: true,
         watchers: 1,
-    })
+    }))
 }
 
 /// A channel for payments.
 fn channel(alloc: Global) -> Result<Step, NoMemory>
     ensures { IfOk result (λ s. s ≡ channel) }
 {
-    Ok(Step::Channel {
+    Ok(Step::Channel(ChannelStep {
         name: label(alloc, "C")?,
         people: people(alloc)?,
         nonce: 1,
         app: 1,
         duration: 10,
-    })
+    }))
 }
 
 /// The steps before the payments, of two people whose digests differ.
@@ -131,11 +132,11 @@ pub(crate) fn beginning(alloc: Global, a: &Party, b: &Party) -> Result<Listed<St
         → a.now.digest ≡ digest_of 65 seed → b.now.digest ≡ digest_of 66 seed → s ≡ beginning seed) }
 {
     let outcome = stakes(alloc, a.digest, b.digest)?;
-    let open = Step::Open {
+    let open = Step::Open(OpenStep {
         who: people(alloc)?,
         channel: label(alloc, "C")?,
         outcome,
-    };
+    });
     let first = person(alloc, "A", a.seed)?;
     let second = person(alloc, "B", b.seed)?;
     let channel = channel(alloc)?;

@@ -16,6 +16,64 @@ pub enum Route {
     Onward,
 }
 
+/// How a channel of the ledger's two people is funded by what they have in the ledger.
+#[derive(Drop)]
+pub struct LedgerFunding {
+    pub ledger: Name,
+    pub fixed: Fixed,
+    pub asset: u32,
+    pub amounts: (u64, u64),
+}
+
+impl LedgerFunding {
+    /// A second one that equals this one.
+    pub fn copy(&self) -> Result<LedgerFunding, NoMemory>
+        ensures { IfOk result (λ f. f ≡ self.now) }
+    {
+        let fixed = self.fixed.copy()?;
+        Ok(LedgerFunding {
+            ledger: self.ledger,
+            fixed,
+            asset: self.asset,
+            amounts: self.amounts,
+        })
+    }
+}
+
+/// How a channel of two people is funded through an intermediary with whom each has a ledger.
+#[derive(Drop)]
+pub struct VirtualFunding {
+    pub route: Route,
+    pub ledgers: (Name, Name),
+    pub guarantors: (Fixed, Fixed),
+    pub joint: Fixed,
+    pub channel: Fixed,
+    pub asset: u32,
+    pub amounts: (u64, u64),
+}
+
+impl VirtualFunding {
+    /// A second one that equals this one.
+    pub fn copy(&self) -> Result<VirtualFunding, NoMemory>
+        ensures { IfOk result (λ f. f ≡ self.now) }
+    {
+        let (first, second) = &self.guarantors;
+        let first = first.copy()?;
+        let second = second.copy()?;
+        let joint = self.joint.copy()?;
+        let channel = self.channel.copy()?;
+        Ok(VirtualFunding {
+            route: self.route,
+            ledgers: self.ledgers,
+            guarantors: (first, second),
+            joint,
+            channel,
+            asset: self.asset,
+            amounts: self.amounts,
+        })
+    }
+}
+
 /// A command.
 #[derive(Drop)]
 pub enum Command {
@@ -24,23 +82,10 @@ pub enum Command {
         fixed: Fixed,
         outcome: Outcome,
     },
-    /// Opens a channel of the ledger's two people on what they have in the ledger.
-    OpenOn {
-        ledger: Name,
-        fixed: Fixed,
-        asset: u32,
-        amounts: (u64, u64),
-    },
-    /// Opens a channel of two people through an intermediary with whom each has a ledger.
-    OpenVirtual {
-        route: Route,
-        ledgers: (Name, Name),
-        guarantors: (Fixed, Fixed),
-        joint: Fixed,
-        channel: Fixed,
-        asset: u32,
-        amounts: (u64, u64),
-    },
+    /// Opens a channel of the ledger's two people.
+    OpenOn(LedgerFunding),
+    /// Opens a channel of two people through an intermediary.
+    OpenVirtual(VirtualFunding),
     /// Pays the other an amount in a payment channel, or passes the turn with 0.
     Pay {
         channel: Name,
@@ -63,62 +108,14 @@ fn copy_open(fixed: &Fixed, outcome: &Outcome) -> Result<Command, NoMemory>
     Ok(Command::Open { fixed, outcome })
 }
 
-fn copy_open_virtual(
-    route: Route,
-    ledgers: &(Name, Name),
-    guarantors: &(Fixed, Fixed),
-    joint: &Fixed,
-    channel: &Fixed,
-    asset: u32,
-    amounts: &(u64, u64),
-) -> Result<Command, NoMemory>
-    ensures { IfOk result (λ c. c ≡ commands.OpenVirtual route ledgers.now guarantors.now joint.now channel.now asset amounts.now) }
-{
-    let (first, second) = guarantors;
-    let first = first.copy()?;
-    let second = second.copy()?;
-    let joint = joint.copy()?;
-    let channel = channel.copy()?;
-    Ok(Command::OpenVirtual {
-        route,
-        ledgers: *ledgers,
-        guarantors: (first, second),
-        joint,
-        channel,
-        asset,
-        amounts: *amounts,
-    })
-}
-
 /// A second command that equals this one.
 pub fn copy_command(command: &Command) -> Result<Command, NoMemory>
     ensures { IfOk result (λ c. c ≡ command.now) }
 {
     match command {
         Command::Open { fixed, outcome } => copy_open(fixed, outcome),
-        Command::OpenOn {
-            ledger,
-            fixed,
-            asset,
-            amounts,
-        } => {
-            let fixed = fixed.copy()?;
-            Ok(Command::OpenOn {
-                ledger: *ledger,
-                fixed,
-                asset: *asset,
-                amounts: *amounts,
-            })
-        }
-        Command::OpenVirtual {
-            route,
-            ledgers,
-            guarantors,
-            joint,
-            channel,
-            asset,
-            amounts,
-        } => copy_open_virtual(*route, ledgers, guarantors, joint, channel, *asset, amounts),
+        Command::OpenOn(funding) => Ok(Command::OpenOn(funding.copy()?)),
+        Command::OpenVirtual(funding) => Ok(Command::OpenVirtual(funding.copy()?)),
         Command::Pay {
             channel,
             asset,

@@ -94,11 +94,11 @@ fewer test (x ∷ xs) = go (test x) (fewer test xs)
 -- a part has as many channels as its command opens
 as-opened : (key : List ℕ) (command : Command) → length (channels (parts_of real key command)) ≡ length (opened_by command)
 as-opened key (Open f outcome) = refl
-as-opened key (OpenOn ledger f asset amounts) = refl
-as-opened key (OpenVirtual route ledgers guarantors joint channel asset amounts) = go (takes_part key channel)
+as-opened key (OpenOn o) = refl
+as-opened key (OpenVirtual funding) = go (takes_part key funding.channel)
   where
     v : Virtual
-    v = virtual real key ledgers guarantors joint channel asset amounts
+    v = virtual real key funding.ledgers funding.guarantors funding.joint funding.channel funding.asset funding.amounts
 
     go : (b : Bool) → length (channels (cond b (End v ∷ []) (Middle v ∷ []))) ≡ 4
     go true = refl
@@ -121,8 +121,8 @@ few-opened m command e few =
 
 few-commanded : (limit used : ℕ) (m : Mind) (command : Command) → command_refusal stages real limit used m command ≡ None → KeepsFew m → KeepsFew (commanded real command m)
 few-commanded limit used m (Open f outcome) e few = few-opened m (Open f outcome) e few
-few-commanded limit used m (OpenOn ledger f asset amounts) e few = few-opened m (OpenOn ledger f asset amounts) e few
-few-commanded limit used m (OpenVirtual route ledgers guarantors joint channel asset amounts) e few = few-opened m (OpenVirtual route ledgers guarantors joint channel asset amounts) e few
+few-commanded limit used m (OpenOn o) e few = few-opened m (OpenOn o) e few
+few-commanded limit used m (OpenVirtual v) e few = few-opened m (OpenVirtual v) e few
 few-commanded limit used m (Pay channel asset amount) e few = few
 few-commanded limit used m (Close channel) e few = few-same m (commanded real (Close channel) m) refl refl few
 few-commanded limit used m Exit e few = few-same m (commanded real Exit m) refl refl few
@@ -180,8 +180,8 @@ small-told s step command n small = go (command_refusal stages real s.limit n.us
   where
     paid : (other : Command) (m : NodeOf) → IsSmall m → IsSmall (paid_if stages real s None other m)
     paid (Open f outcome) m fine = fine
-    paid (OpenOn ledger f asset amounts) m fine = fine
-    paid (OpenVirtual route ledgers guarantors joint channel asset amounts) m fine = fine
+    paid (OpenOn o) m fine = fine
+    paid (OpenVirtual v) m fine = fine
     paid (Pay channel asset amount) m fine = small-signed s channel (signs_in stages real (Some (Pay channel asset amount)) m.mind channel) m fine
     paid (Close channel) m fine = fine
     paid Exit m fine = fine

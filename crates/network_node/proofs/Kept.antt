@@ -81,8 +81,8 @@ watch_keeps p entries l after place chains calls given new after-is chains-are c
 -- what is known just after a command to exit is what was known before
 exit-gains : (step : ℕ) (command : Command) (n : NodeOf) → leaves command ≡ true → shares_known (told_to stages real (signing_of n.signer) step command n).mind ≡ shares_known n.mind
 exit-gains step (Open f outcome) n e = absurd cc
-exit-gains step (OpenOn ledger f asset amounts) n e = absurd cc
-exit-gains step (OpenVirtual route ledgers guarantors joint channel asset amounts) n e = absurd cc
+exit-gains step (OpenOn o) n e = absurd cc
+exit-gains step (OpenVirtual v) n e = absurd cc
 exit-gains step (Pay channel asset amount) n e = absurd cc
 exit-gains step (Close channel) n e = absurd cc
 exit-gains step Exit n e = refl
@@ -90,8 +90,8 @@ exit-gains step Exit n e = refl
 -- an exit is never refused
 no-exit : (s : Signing) (command : Command) (n : NodeOf) (refusal : NodeRefusal) → Err (Refused refusal) ≡ command_answers stages real s 0 command n → leaves command ≡ false
 no-exit s (Open f outcome) n refusal e = refl
-no-exit s (OpenOn ledger f asset amounts) n refusal e = refl
-no-exit s (OpenVirtual route ledgers guarantors joint channel asset amounts) n refusal e = refl
+no-exit s (OpenOn o) n refusal e = refl
+no-exit s (OpenVirtual v) n refusal e = refl
 no-exit s (Pay channel asset amount) n refusal e = refl
 no-exit s (Close channel) n refusal e = refl
 no-exit s Exit n refusal e = absurd cc

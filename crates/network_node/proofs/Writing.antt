@@ -122,8 +122,8 @@ adds-one n new deed calls plain gives journal commands signer lost count = recor
 
 commanded-view : (r : Rules) (command : Command) (m : Mind) → (commanded r command m).view.count ≡ m.view.count
 commanded-view r (Open f outcome) m = refl
-commanded-view r (OpenOn ledger f asset amounts) m = refl
-commanded-view r (OpenVirtual route ledgers guarantors joint channel asset amounts) m = refl
+commanded-view r (OpenOn o) m = refl
+commanded-view r (OpenVirtual v) m = refl
 commanded-view r (Pay channel asset amount) m = refl
 commanded-view r (Close channel) m = refl
 commanded-view r Exit m = refl
@@ -216,8 +216,8 @@ module _ (t : Tables) (r : Rules) where
   paid-adds : (s : Signing) (refusal : Option NodeRefusal) (command : Command) (n : NodeOf) → Adds [] n (paid_if t r s refusal command n)
   paid-adds s (Some refusal) command n = adds-none n
   paid-adds s None (Open f outcome) n = adds-none n
-  paid-adds s None (OpenOn ledger f asset amounts) n = adds-none n
-  paid-adds s None (OpenVirtual route ledgers guarantors joint channel asset amounts) n = adds-none n
+  paid-adds s None (OpenOn o) n = adds-none n
+  paid-adds s None (OpenVirtual v) n = adds-none n
   paid-adds s None (Pay channel asset amount) n = signed-adds s channel (signs_in t r (Some (Pay channel asset amount)) n.mind channel) n
   paid-adds s None (Close channel) n = adds-none n
   paid-adds s None Exit n = adds-none n

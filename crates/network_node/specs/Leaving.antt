@@ -60,8 +60,8 @@ ends-with (x ∷ journal) front e = go (until_exit journal) refl (λ here. ends-
 exit-deed : (deed : Deed) (command : Option Command) → (is_followed deed && leaves_by command) ≡ true → is_exit_deed deed command ≡ true
 exit-deed (deeds.Commanded step None) (Some Exit) e = refl
 exit-deed (deeds.Commanded step None) (Some (Open f outcome)) e = absurd cc
-exit-deed (deeds.Commanded step None) (Some (OpenOn ledger f asset amounts)) e = absurd cc
-exit-deed (deeds.Commanded step None) (Some (OpenVirtual route ledgers guarantors joint channel asset amounts)) e = absurd cc
+exit-deed (deeds.Commanded step None) (Some (OpenOn o)) e = absurd cc
+exit-deed (deeds.Commanded step None) (Some (OpenVirtual v)) e = absurd cc
 exit-deed (deeds.Commanded step None) (Some (Pay channel asset amount)) e = absurd cc
 exit-deed (deeds.Commanded step None) (Some (Close channel)) e = absurd cc
 exit-deed (deeds.Commanded step None) None e = absurd cc

@@ -34,18 +34,14 @@ fn openings_are_valid(command: &Command)
     ensures { AllByRecursion IsFixed (opened_by command.now) }
 {
     match command {
-        Command::Open { fixed, .. } | Command::OpenOn { fixed, .. } => fixed_is_valid(fixed),
-        Command::OpenVirtual {
-            guarantors,
-            joint,
-            channel,
-            ..
-        } => {
-            let (first, second) = guarantors;
+        Command::Open { fixed, .. } => fixed_is_valid(fixed),
+        Command::OpenOn(funding) => fixed_is_valid(&funding.fixed),
+        Command::OpenVirtual(funding) => {
+            let (first, second) = &funding.guarantors;
             fixed_is_valid(first);
             fixed_is_valid(second);
-            fixed_is_valid(joint);
-            fixed_is_valid(channel);
+            fixed_is_valid(&funding.joint);
+            fixed_is_valid(&funding.channel);
         }
         Command::Pay { .. } | Command::Close { .. } | Command::Exit => {}
     }

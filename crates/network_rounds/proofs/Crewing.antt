@@ -9,7 +9,7 @@ use Rattle.network.specs.Ways.{Ways}
 use Rattle.network_rounds.specs.Rounds.{Runs, nodes_of, cast_of, sent_by}
 use Rattle.network_rounds.specs.Workers.{WorkerOf, a_node, an_actor, Acts, Watches, Phase}
 use Rattle.network_rounds.specs.declared.actor.Act.{Act}
-use Rattle.network_rounds.specs.Views.{player_of, worker_of, crew_of, Taking, Adding, Giving}
+use Rattle.network_rounds.specs.Views.{Boxed, player_of, worker_of, crew_of, Taking, Adding, Giving}
 use Rattle.network_rounds.specs.declared.cast.Cast.{Cast}
 use Rattle.network_rounds.specs.declared.crew.Crew.{Crew}
 use Rattle.network_rounds.specs.declared.worker.Worker.{Worker}
@@ -49,7 +49,7 @@ module _ {P D : Type 0} {V : D → Type 0} where
   took_none tells told = refl
 
   pub took_node : (nodes : List (MemberOf P)) (workers after : List (Worker P D V)) (m : MemberOf P) (w : Worker P D V) → Taking nodes [] workers
-      → ((tells : Cast D V → Bool) (told : Cast D V → List Act) → worker_of tells told w ≡ a_node m []) → after ≡ workers ++ w ∷ [] → Taking (nodes ++ m ∷ []) [] after
+      → ((tells : Boxed D V → Bool) (told : Boxed D V → List Act) → worker_of tells told w ≡ a_node m []) → after ≡ workers ++ w ∷ [] → Taking (nodes ++ m ∷ []) [] after
   took_node nodes workers after m w took is e tells told =
       ap (map (worker_of tells told)) e ∙ (map-append (worker_of tells told) workers (w ∷ [])
       ∙ (ap (λ (x : WorkerOf P). map (worker_of tells told) workers ++ x ∷ []) (is tells told)
@@ -69,7 +69,7 @@ module _ {P D : Type 0} {V : D → Type 0} where
       ∙ (ap (λ (b : Bool). awake (map (player_of tells told) cast) ++ cond b [] (player_of tells told c ∷ [])) done ∙ append-nil (awake (map (player_of tells told) cast))))))
 
   pub added_actor : (first workers after : List (Worker P D V)) (cast : List (Cast D V)) (c : Cast D V) (w : Worker P D V) → Adding first cast workers → c.done ≡ false
-      → ((tells : Cast D V → Bool) (told : Cast D V → List Act) → worker_of tells told w ≡ an_actor (player_of tells told c) []) → after ≡ workers ++ w ∷ [] → Adding first (cast ++ c ∷ []) after
+      → ((tells : Boxed D V → Bool) (told : Boxed D V → List Act) → worker_of tells told w ≡ an_actor (player_of tells told c) []) → after ≡ workers ++ w ∷ [] → Adding first (cast ++ c ∷ []) after
   added_actor first workers after cast c w took up is e tells told =
       let front = map (worker_of tells told) first in
       let players = awake (map (player_of tells told) cast) in
@@ -96,7 +96,7 @@ module _ {P D : Type 0} {V : D → Type 0} where
   gave_none tells told = (refl, refl, refl)
 
   pub gave_more : (taken : List (Worker P D V)) (w : Worker P D V) (nodes nodes' : List (MemberOf P)) (cast cast' : List (Cast D V)) (post post' : List Letter) → Giving taken nodes cast post
-      → ((tells : Cast D V → Bool) (told : Cast D V → List Act) → (nodes' ≡ nodes ++ nodes_of (worker_of tells told w ∷ []))
+      → ((tells : Boxed D V → Bool) (told : Boxed D V → List Act) → (nodes' ≡ nodes ++ nodes_of (worker_of tells told w ∷ []))
       × (map (player_of tells told) cast' ≡ map (player_of tells told) cast ++ cast_of (worker_of tells told w ∷ [])) × (post' ≡ post ++ sent_by (worker_of tells told w ∷ [])))
       → Giving (taken ++ w ∷ []) nodes' cast' post'
   gave_more taken w nodes nodes' cast cast' post post' gave one tells told =
@@ -130,7 +130,7 @@ module _ {P D : Type 0} {V : D → Type 0} where
 
   -- ---- a round
 
-  pub runs_of : (ways : Ways P) (tells : Cast D V → Bool) (told : Cast D V → List Act) (crew after : Crew P D V) (post : List Letter) (ws acted looked : List (Worker P D V)) (c b d : Caller Entry)
+  pub runs_of : (ways : Ways P) (tells : Boxed D V → Bool) (told : Boxed D V → List Act) (crew after : Crew P D V) (post : List Letter) (ws acted looked : List (Worker P D V)) (c b d : Caller Entry)
       → Taking crew.nodes.items crew.cast.items ws → post ≡ crew.post.items → Phase (Acts ways post) (map (worker_of tells told) ws) (map (worker_of tells told) acted) c b
       → Phase (Watches ways) (map (worker_of tells told) acted) (map (worker_of tells told) looked) b d → Giving looked after.nodes.items after.cast.items after.post.items
       → Runs ways (crew_of tells told crew) (crew_of tells told after) c d

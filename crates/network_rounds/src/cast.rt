@@ -68,8 +68,7 @@ pub(crate) fn play<R: Threads + Wait + Sync>(
     requires book { seat.old.book ≡ book.now }
     ensures book { OnOk result (seat.new.book ≡ seat.old.book) }
     ensures plays { IfOk result (λ r.
-        Working (Asks (player_of (λ c. tells c.actor) (λ c. told c.actor) cast) (player_of (λ c. tells c.actor) (λ c.
-        told c.actor) r.0) (posted r.1)) seat.old seat.new) }
+        Working (Asks (player_of tells told cast) (player_of tells told r.0) (posted r.1)) seat.old seat.new) }
 {
     let cast = shown(rt, alloc, book, cast, seat)?;
     let (mut cast, act) = asked(cast);

@@ -40,23 +40,21 @@ fn act_all<R: Threads + Wait + Sync, G: Gate + Sync, P: Party + Send>(
     post: &[Letter],
     jobs: Vec<Job<P>>,
 ) -> Result<Vec<Result<Job<P>, RoundFault>>, AllocError>
-    requires { All (λ job. IsReady (CanAct P.ways) book.now job.seat (worker_of (λ c. tells c.actor) (λ c.
-        told c.actor) job.worker)) jobs.items }
+    requires { All (λ job. IsReady (CanAct P.ways) book.now job.seat (worker_of tells told job.worker)) jobs.items }
     ensures len { IfOk result (λ v. vec_len v ≡ vec_len jobs) }
     ensures each { IfOk result (λ v. (i : ℕ) (d e : _) → i < vec_len jobs
-        → IfOk (slice_index_or v.items i e) (λ x. (x.seat.book ≡ book.now) × Working (Acts P.ways post.now
-        (worker_of (λ c. tells c.actor) (λ c. told c.actor) (slice_index_or jobs.items i d).worker) (worker_of (λ c.
-        tells c.actor) (λ c. told c.actor) x.worker)) (slice_index_or jobs.items i d).seat x.seat)) }
+        → IfOk (slice_index_or v.items i e) (λ x. (x.seat.book ≡ book.now)
+        × Working (Acts P.ways post.now (worker_of tells told (slice_index_or jobs.items i d).worker)
+        (worker_of tells told x.worker)) (slice_index_or jobs.items i d).seat x.seat)) }
 {
     let results = map_jobs(
         rt,
         jobs,
         &|job: Job<P>| -> Result<Job<P>, RoundFault>
-            requires { IsReady (CanAct P.ways) book.now job.seat (worker_of (λ c. tells c.actor) (λ c.
-                told c.actor) job.worker) }
+            requires { IsReady (CanAct P.ways) book.now job.seat (worker_of tells told job.worker) }
             ensures { IfOk result (λ x. (x.seat.book ≡ book.entry.now)
-                × Working (Acts P.ways post.entry.now (worker_of (λ c. tells c.actor) (λ c. told c.actor) job.worker)
-                (worker_of (λ c. tells c.actor) (λ c. told c.actor) x.worker)) job.seat x.seat) }
+                × Working (Acts P.ways post.entry.now (worker_of tells told job.worker) (worker_of tells told x.worker))
+                job.seat x.seat) }
         { act(rt, alloc, book, gate, post, job) },
     )?;
     Ok(results)
@@ -69,23 +67,21 @@ fn watch_all<R: Threads + Wait + Sync, G: Gate + Sync, P: Party + Send>(
     gate: &G,
     jobs: Vec<Job<P>>,
 ) -> Result<Vec<Result<Job<P>, RoundFault>>, AllocError>
-    requires { All (λ job. IsReady CanWatch book.now job.seat (worker_of (λ c. tells c.actor) (λ c.
-        told c.actor) job.worker)) jobs.items }
+    requires { All (λ job. IsReady CanWatch book.now job.seat (worker_of tells told job.worker)) jobs.items }
     ensures len { IfOk result (λ v. vec_len v ≡ vec_len jobs) }
     ensures each { IfOk result (λ v. (i : ℕ) (d e : _) → i < vec_len jobs
-        → IfOk (slice_index_or v.items i e) (λ x. (x.seat.book ≡ book.now) × Working (Watches P.ways
-        (worker_of (λ c. tells c.actor) (λ c. told c.actor) (slice_index_or jobs.items i d).worker) (worker_of (λ c.
-        tells c.actor) (λ c. told c.actor) x.worker)) (slice_index_or jobs.items i d).seat x.seat)) }
+        → IfOk (slice_index_or v.items i e) (λ x. (x.seat.book ≡ book.now)
+        × Working (Watches P.ways (worker_of tells told (slice_index_or jobs.items i d).worker)
+        (worker_of tells told x.worker)) (slice_index_or jobs.items i d).seat x.seat)) }
 {
     let results = map_jobs(
         rt,
         jobs,
         &|job: Job<P>| -> Result<Job<P>, RoundFault>
-            requires { IsReady CanWatch book.now job.seat (worker_of (λ c. tells c.actor) (λ c.
-                told c.actor) job.worker) }
+            requires { IsReady CanWatch book.now job.seat (worker_of tells told job.worker) }
             ensures { IfOk result (λ x. (x.seat.book ≡ book.entry.now)
-                × Working (Watches P.ways (worker_of (λ c. tells c.actor) (λ c. told c.actor) job.worker)
-                (worker_of (λ c. tells c.actor) (λ c. told c.actor) x.worker)) job.seat x.seat) }
+                × Working (Watches P.ways (worker_of tells told job.worker) (worker_of tells told x.worker))
+                job.seat x.seat) }
         { watch(rt, alloc, book, gate, job) },
     )?;
     Ok(results)
@@ -102,12 +98,11 @@ pub(crate) fn act_phase<R: Threads + Wait + Sync, G: Gate + Sync, P: Party + Sen
     workers: Vec<Worker<P>>,
 ) -> Result<Vec<Worker<P>>, RoundFault>
     requires book { seat.old.book ≡ book.now }
-    requires can { All (λ w. CanAct P.ways seat.old.seen (worker_of (λ c. tells c.actor) (λ c.
-        told c.actor) w)) workers.items }
+    requires can { All (λ w. CanAct P.ways seat.old.seen (worker_of tells told w)) workers.items }
     ensures book { OnOk result (seat.new.book ≡ seat.old.book) }
     ensures phase { IfOk result (λ ws.
-        Phase (Acts P.ways post.now) (map (worker_of (λ c. tells c.actor) (λ c. told c.actor)) workers.items)
-        (map (worker_of (λ c. tells c.actor) (λ c. told c.actor)) ws.items) seat.old seat.new) }
+        Phase (Acts P.ways post.now) (map (worker_of tells told) workers.items)
+        (map (worker_of tells told) ws.items) seat.old seat.new) }
 {
     if workers.is_empty() {
         return Ok(workers);
@@ -130,12 +125,11 @@ pub(crate) fn watch_phase<R: Threads + Wait + Sync, G: Gate + Sync, P: Party + S
     workers: Vec<Worker<P>>,
 ) -> Result<Vec<Worker<P>>, RoundFault>
     requires book { seat.old.book ≡ book.now }
-    requires can { All (λ w. CanWatch seat.old.seen (worker_of (λ c. tells c.actor) (λ c.
-        told c.actor) w)) workers.items }
+    requires can { All (λ w. CanWatch seat.old.seen (worker_of tells told w)) workers.items }
     ensures book { OnOk result (seat.new.book ≡ seat.old.book) }
     ensures phase { IfOk result (λ ws.
-        Phase (Watches P.ways) (map (worker_of (λ c. tells c.actor) (λ c. told c.actor)) workers.items)
-        (map (worker_of (λ c. tells c.actor) (λ c. told c.actor)) ws.items) seat.old seat.new) }
+        Phase (Watches P.ways) (map (worker_of tells told) workers.items)
+        (map (worker_of tells told) ws.items) seat.old seat.new) }
 {
     if workers.is_empty() {
         return Ok(workers);

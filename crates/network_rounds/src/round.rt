@@ -81,8 +81,8 @@ pub fn race_round<R: Threads + Wait + Sync, G: Gate + Sync, P: Party + Send>(
     requires book { seat.old.book ≡ book.now }
     requires followed { All (HasFollowed P.ways seat.old.seen) crew.old.nodes.items }
     ensures book { OnOk result (seat.new.book ≡ seat.old.book) }
-    ensures runs { OnOk result (Runs P.ways (crew_of (λ c. tells c.actor) (λ c. told c.actor) crew.old)
-        (crew_of (λ c. tells c.actor) (λ c. told c.actor) crew.new) seat.old seat.new) }
+    ensures runs { OnOk result
+        (Runs P.ways (crew_of tells told crew.old) (crew_of tells told crew.new) seat.old seat.new) }
 {
     let workers = take_workers(alloc, crew)?;
     let post = mem::replace(&mut crew.post, Vec::new(alloc));

@@ -61,8 +61,7 @@ fn ask<R: Threads + Wait + Sync, G: Gate>(
     requires { seat.old.book ≡ book.now }
     ensures book { OnOk result (seat.new.book ≡ seat.old.book) }
     ensures asks { IfOk result (λ r. (more : _) × (sent.new.items ≡ sent.old.items ++ more)
-        × Working (AsksIf (player_of (λ c. tells c.actor) (λ c. told c.actor) cast) (player_of (λ c.
-        tells c.actor) (λ c. told c.actor) r) more) seat.old seat.new) }
+        × Working (AsksIf (player_of tells told cast) (player_of tells told r) more) seat.old seat.new) }
 {
     if cast.done {
         return Ok(cast);
@@ -84,12 +83,11 @@ pub(crate) fn act<R: Threads + Wait + Sync, G: Gate, P: Party>(
     post: &[Letter],
     job: Job<P>,
 ) -> Result<Job<P>, RoundFault>
-    requires { IsReady (CanAct P.ways) book.now job.seat (worker_of (λ c. tells c.actor) (λ c.
-        told c.actor) job.worker) }
+    requires { IsReady (CanAct P.ways) book.now job.seat (worker_of tells told job.worker) }
     ensures book { IfOk result (λ d. d.seat.book ≡ job.seat.book) }
     ensures acts { IfOk result (λ d.
-        Working (Acts P.ways post.now (worker_of (λ c. tells c.actor) (λ c. told c.actor) job.worker)
-        (worker_of (λ c. tells c.actor) (λ c. told c.actor) d.worker)) job.seat d.seat) }
+        Working (Acts P.ways post.now (worker_of tells told job.worker) (worker_of tells told d.worker))
+        job.seat d.seat) }
 {
     let Job { mut seat, worker } = job;
     match worker {
@@ -122,11 +120,11 @@ pub(crate) fn watch<R: Threads + Wait + Sync, G: Gate, P: Party>(
     gate: &G,
     job: Job<P>,
 ) -> Result<Job<P>, RoundFault>
-    requires { IsReady CanWatch book.now job.seat (worker_of (λ c. tells c.actor) (λ c. told c.actor) job.worker) }
+    requires { IsReady CanWatch book.now job.seat (worker_of tells told job.worker) }
     ensures book { IfOk result (λ d. d.seat.book ≡ job.seat.book) }
     ensures watches { IfOk result (λ d.
-        Working (Watches P.ways (worker_of (λ c. tells c.actor) (λ c. told c.actor) job.worker) (worker_of (λ c.
-        tells c.actor) (λ c. told c.actor) d.worker)) job.seat d.seat) }
+        Working (Watches P.ways (worker_of tells told job.worker) (worker_of tells told d.worker))
+        job.seat d.seat) }
 {
     let Job { mut seat, worker } = job;
     match worker {

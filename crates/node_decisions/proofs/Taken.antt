@@ -55,14 +55,14 @@ fitting m command e = left_true (fits (facts_of m) command) (are_new m (map real
 pub accepted_fits : (limit used : ℕ) (m : Mind) (command : Command) → command_refusal stages real limit used m command ≡ None → CanTake command m
 unfolding fits
 accepted_fits limit used m (Open f outcome) e = can_join stages m (Open f outcome) e (omega arith)
-accepted_fits limit used m (OpenOn ledger f asset amounts) e = (
-  can_join stages m (OpenOn ledger f asset amounts) e (omega arith),
-  shares_on_ledger (facts_of m) ledger f asset amounts (fitting m (OpenOn ledger f asset amounts) e),
+accepted_fits limit used m (OpenOn o) e = (
+  can_join stages m (OpenOn o) e (omega arith),
+  shares_on_ledger (facts_of m) o.ledger o.fixed o.asset o.amounts (fitting m (OpenOn o) e),
 )
-accepted_fits limit used m (OpenVirtual route ledgers guarantors joint channel asset amounts) e = (
-  can_join stages m (OpenVirtual route ledgers guarantors joint channel asset amounts) e (omega arith),
-  shares_in_virtual (facts_of m) route ledgers guarantors joint channel asset amounts
-      (fitting m (OpenVirtual route ledgers guarantors joint channel asset amounts) e),
+accepted_fits limit used m (OpenVirtual v) e = (
+  can_join stages m (OpenVirtual v) e (omega arith),
+  shares_in_virtual (facts_of m) v.route v.ledgers v.guarantors v.joint v.channel v.asset v.amounts
+      (fitting m (OpenVirtual v) e),
 )
 accepted_fits limit used m (Pay channel asset amount) e = tt
 accepted_fits limit used m (Close channel) e = tt

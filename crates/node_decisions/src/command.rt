@@ -24,8 +24,8 @@ fn refusal_of(
 {
     match command {
         Command::Open { .. } => Ok(open_refusal(known, command)),
-        Command::OpenOn { .. } => Ok(open_refusal(known, command)),
-        Command::OpenVirtual { .. } => Ok(open_refusal(known, command)),
+        Command::OpenOn(_) => Ok(open_refusal(known, command)),
+        Command::OpenVirtual(_) => Ok(open_refusal(known, command)),
         Command::Pay {
             channel,
             asset,

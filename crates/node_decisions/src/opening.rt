@@ -23,19 +23,14 @@ fn opens_new(known: &Known, command: &Command) -> bool
 {
     match command {
         Command::Open { fixed, .. } => are_new(known, &[name_of(fixed)]),
-        Command::OpenOn { fixed, .. } => are_new(known, &[name_of(fixed)]),
-        Command::OpenVirtual {
-            guarantors,
-            joint,
-            channel,
-            ..
-        } => are_new(
+        Command::OpenOn(funding) => are_new(known, &[name_of(&funding.fixed)]),
+        Command::OpenVirtual(funding) => are_new(
             known,
             &[
-                name_of(&guarantors.0),
-                name_of(&guarantors.1),
-                name_of(joint),
-                name_of(channel),
+                name_of(&funding.guarantors.0),
+                name_of(&funding.guarantors.1),
+                name_of(&funding.joint),
+                name_of(&funding.channel),
             ],
         ),
         _ => are_new(known, &[]),
@@ -67,12 +62,10 @@ fn ledgers_are_planned(known: &Known, command: &Command) -> bool
     ensures { result ≡ refusing.are_planned known.now (openings.ledgers_for known.now.key command.now) }
 {
     match command {
-        Command::OpenOn { ledger, .. } => are_planned(known, &[*ledger]),
-        Command::OpenVirtual {
-            ledgers,
-            channel,
-            ..
-        } => virtual_ledgers_are_planned(known, ledgers, channel),
+        Command::OpenOn(funding) => are_planned(known, &[funding.ledger]),
+        Command::OpenVirtual(funding) => {
+            virtual_ledgers_are_planned(known, &funding.ledgers, &funding.channel)
+        }
         _ => are_planned(known, &[]),
     }
 }
@@ -82,8 +75,8 @@ fn opened_count(command: &Command) -> u32
     ensures few { result ≤ 4 }
 {
     match command {
-        Command::Open { .. } | Command::OpenOn { .. } => 1,
-        Command::OpenVirtual { .. } => 4,
+        Command::Open { .. } | Command::OpenOn(_) => 1,
+        Command::OpenVirtual(_) => 4,
         _ => 0,
     }
 }

@@ -1,8 +1,7 @@
 //! Payments: why one is refused, and the state of one that was taken up.
 
-ghost use Rattle.std.specs.Prelude.{◌≡◌, ◌<◌, ◌≤◌, ◌==◌, ◌&&◌, ◌^◌, nat_lt, Some, Ok, IfOk, IfErr};
+ghost use Rattle.std.specs.Prelude.{◌≡◌, ◌<◌, ◌≤◌, ◌==◌, ◌&&◌, ◌^◌, nat_lt, Some, IfOk};
 ghost use Rattle.std.specs.Option.{option_copied};
-ghost use Rattle.channel_values.specs.declared.fault.ByteFault.TheVariants as faults;
 ghost use Rattle.channel_values.specs.Amounts as amounts;
 ghost use Rattle.channel_values.specs.Rules.{people};
 ghost use Rattle.channel_store.specs.Keeping.{next_of};
@@ -22,7 +21,7 @@ use channel_store::Kept;
 use channel_values::{ByteFault, Dest, Name, NoMemory, Outcome, State};
 use funding_plans::Goal;
 use node_knowledge::{Known, place_with};
-use support_rules::people_of;
+use support_rules::{people_of, unless_memory};
 
 fn goal_of<'a>(known: &'a Known, channel: &Name) -> Option<&'a Goal>
     ensures { option_copied result ≡ refusing.goal_of known.now channel.now }
@@ -107,18 +106,6 @@ fn takes_payments(k: &Kept) -> bool
     ensures { result ≡ (k.now.chain.fixed.app == 1 && nat_lt (next_of k.now) (2 ^ 48)) }
 {
     k.chain.fixed.app() == 1 && k.next() < 1 << 48
-}
-
-/// What a state's making answered, where nothing but memory was wanting.
-fn unless_memory(made: Result<State, ByteFault>) -> Result<State, NoMemory>
-    requires { IfErr made (λ fault. fault ≡ faults.NoMemory) }
-    ensures { IfOk result (λ s. made ≡ Ok s) }
-{
-    match made {
-        Ok(state) => Ok(state),
-        Err(ByteFault::NoMemory) => Err(NoMemory),
-        Err(_) => unreachable!(),
-    }
 }
 
 fn is_payable(

@@ -11,12 +11,11 @@ ghost use Rattle.support_rules.specs.Real.{real};
 
 use crate::live::not_open;
 use channel_store::Kept;
-use channel_values::{Name, NoMemory, State};
+use channel_values::{Name, NoMemory, State, mover_at};
 use funding_plans::Facts;
 use node_knowledge::{Known, is_open, stands_in};
 use stage_tables::wanted;
 use std::alloc::Global;
-use support_rules::mover_at;
 
 /// Whether the next turn is the node's own.
 pub(crate) fn is_own_turn(k: &Kept) -> bool

@@ -16,8 +16,8 @@ use Rattle.channel_values.specs.Rules.{Rules}
 paid-so : (t : Tables) (r : Rules) (s : Signing) (step : ℕ) (command : Command) (n : NodeOf)
     → paid_sends t r s command (asked r s step command None n) ≡ paid_sends t r s command (asked r s 0 command None n)
 paid-so t r s step (Open f outcome) n = refl
-paid-so t r s step (OpenOn ledger f asset amounts) n = refl
-paid-so t r s step (OpenVirtual route ledgers guarantors joint channel asset amounts) n = refl
+paid-so t r s step (OpenOn o) n = refl
+paid-so t r s step (OpenVirtual v) n = refl
 paid-so t r s step (Pay channel asset amount) n = go (signs_in t r (Some (Pay channel asset amount)) n.mind channel)
   where
     go : (o : Option StateParts) → sent_if r s channel o (asked r s step (Pay channel asset amount) None n) ≡ sent_if r s channel o (asked r s 0 (Pay channel asset amount) None n)

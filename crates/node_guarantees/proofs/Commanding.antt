@@ -91,8 +91,8 @@ module _ (commands : ℕ → Option Command) where
     pays : (refusal : Option NodeRefusal) (command : Command) (n : NodeOf) → Follows n → Follows (paid_if t r s refusal command n)
     pays (Some refusal) command n f = f
     pays None (Open fixed outcome) n f = f
-    pays None (OpenOn ledger fixed asset amounts) n f = f
-    pays None (OpenVirtual route ledgers guarantors joint channel asset amounts) n f = f
+    pays None (OpenOn o) n f = f
+    pays None (OpenVirtual v) n f = f
     pays None (Pay channel asset amount) n f = signs channel (signs_in t r (Some (Pay channel asset amount)) n.mind channel) n f
     pays None (Close channel) n f = f
     pays None Exit n f = f

@@ -163,9 +163,9 @@ command-placed h step command p stays legal is =
 
 commanded-placed : (h : List Entry) (step : ℕ) (command : Command) (p : Numbered) → Legal real h → IsPlaced h p → IsPlaced h (ways.commanded step command p)
 commanded-placed h step (Open f outcome) p legal is = command-placed h step (Open f outcome) p refl legal is
-commanded-placed h step (OpenOn ledger f asset amounts) p legal is = command-placed h step (OpenOn ledger f asset amounts) p refl legal is
-commanded-placed h step (OpenVirtual route ledgers guarantors joint channel asset amounts) p legal is =
-    command-placed h step (OpenVirtual route ledgers guarantors joint channel asset amounts) p refl legal is
+commanded-placed h step (OpenOn o) p legal is = command-placed h step (OpenOn o) p refl legal is
+commanded-placed h step (OpenVirtual v) p legal is =
+    command-placed h step (OpenVirtual v) p refl legal is
 commanded-placed h step (Pay channel asset amount) p legal is = command-placed h step (Pay channel asset amount) p refl legal is
 commanded-placed h step (Close channel) p legal is = command-placed h step (Close channel) p refl legal is
 commanded-placed h step Exit p legal is = exit-placed h step p legal is

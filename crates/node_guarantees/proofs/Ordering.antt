@@ -26,11 +26,11 @@ parts_told r key (x ∷ front) = parts_told r key front ++ part_in r key x
 -- the order of a command opens the parts that the command adds
 pub order-opens : (r : Rules) (key : List ℕ) (command : Command) → part_of (order_of r key (Some command)) ≡ parts_of r key command
 order-opens r key (Open f outcome) = refl
-order-opens r key (OpenOn ledger f asset amounts) = refl
-order-opens r key (OpenVirtual route ledgers guarantors joint channel asset amounts) = go (takes_part key channel)
+order-opens r key (OpenOn o) = refl
+order-opens r key (OpenVirtual v) = go (takes_part key v.channel)
   where
-    go : (b : Bool) → part_of (opening_of (cond b (End (virtual r key ledgers guarantors joint channel asset amounts) ∷ []) (Middle (virtual r key ledgers guarantors joint channel asset amounts) ∷ [])))
-        ≡ cond b (End (virtual r key ledgers guarantors joint channel asset amounts) ∷ []) (Middle (virtual r key ledgers guarantors joint channel asset amounts) ∷ [])
+    go : (b : Bool) → part_of (opening_of (cond b (End (virtual r key v.ledgers v.guarantors v.joint v.channel v.asset v.amounts) ∷ []) (Middle (virtual r key v.ledgers v.guarantors v.joint v.channel v.asset v.amounts) ∷ [])))
+        ≡ cond b (End (virtual r key v.ledgers v.guarantors v.joint v.channel v.asset v.amounts) ∷ []) (Middle (virtual r key v.ledgers v.guarantors v.joint v.channel v.asset v.amounts) ∷ [])
     go true = refl
     go false = refl
 order-opens r key (Pay channel asset amount) = refl

@@ -96,9 +96,9 @@ module _ (t : Tables) (r : Rules) (s : Signing) where
   follows : (seen step used : ℕ) (command : Command) (front : List Told) (m : Mind) → None ≡ command_refusal t r s.limit used m command → Grows r s.key front m
       → Grows r s.key (record { seen = seen; deed = deeds.Commanded step None; command = Some command } ∷ front) (commanded_if r (Some command) None m)
   follows seen step used (Open f outcome) front m taken was = opening seen step (Open f outcome) front m taken was
-  follows seen step used (OpenOn ledger f asset amounts) front m taken was = opening seen step (OpenOn ledger f asset amounts) front m taken was
-  follows seen step used (OpenVirtual route ledgers guarantors joint channel asset amounts) front m taken was =
-      opening seen step (OpenVirtual route ledgers guarantors joint channel asset amounts) front m taken was
+  follows seen step used (OpenOn o) front m taken was = opening seen step (OpenOn o) front m taken was
+  follows seen step used (OpenVirtual v) front m taken was =
+      opening seen step (OpenVirtual v) front m taken was
   follows seen step used (Pay channel asset amount) front m taken was =
       quiet r s.key (record { seen = seen; deed = deeds.Commanded step None; command = Some (Pay channel asset amount) }) front refl refl m.key m.parts m.kept (λ c. refl) was
   follows seen step used (Close channel) front m taken was =

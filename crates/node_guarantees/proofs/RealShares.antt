@@ -22,12 +22,11 @@ use Rattle.support_rules.specs.Steps.{persons}
 use Rattle.support_rules.specs.Real.{real}
 use Rattle.support_rules.specs.NoWorse.{ShapeNoWorse, NoWorse}
 use Rattle.support_rules.specs.May as mays
-use Rattle.support_rules.specs.May.{Ends, may}
+use Rattle.support_rules.specs.May.{OneOf, Ends, may}
 use Rattle.support_rules.proofs.Kept.{steps_keep}
 use Rattle.support_rules.proofs.Finals.{real_keeps_final}
 use Rattle.funding_plans.specs.Shapes.{items_of, list_of, items_in, list_in}
 use Rattle.share_laws.specs.Places.{proposed, listed, outcomes_of}
-use Rattle.share_laws.specs.Turns.{OneOf}
 use Rattle.share_laws.specs.Finality.{StandsFor}
 use Rattle.share_laws.proofs.FairPlaces.{fair_kept}
 use Rattle.channel_safety.proofs.Lists.{get-within}
@@ -87,15 +86,15 @@ named-at (k ∷ ks) (suc j) key e = named-at ks j key e
 
 -- ---- what was possible by the rules is possible by the data alone
 
-read-listed : (P : List AssetOutcome → Type 0) (x : Result (List AssetOutcome) ByteFault) → mays.OneOf P (mays.read_or_none x) → OneOf P (listed (result_ok x))
+read-listed : (P : List AssetOutcome → Type 0) (x : Result (List AssetOutcome) ByteFault) → OneOf P (mays.read_or_none x) → OneOf P (listed (result_ok x))
 read-listed P (Ok o) h = h
 read-listed P (Err fault) h = absurd h
 
-proposed-listed : (P : List AssetOutcome → Type 0) (n : ℕ) (data' : List ℕ) → n ≤ 4 → mays.OneOf P (mays.proposed (ballot_of n data')) → OneOf P (listed (proposed data'))
+proposed-listed : (P : List AssetOutcome → Type 0) (n : ℕ) (data' : List ℕ) → n ≤ 4 → OneOf P (mays.proposed (ballot_of n data')) → OneOf P (listed (proposed data'))
 proposed-listed P n [] four h = absurd h
 proposed-listed P n (k ∷ bytes) four h = go ((nat_le 1 k && nat_lt k n) && is_ok (outcome_of bytes)) refl h
   where
-    go : (b : Bool) → ((nat_le 1 k && nat_lt k n) && is_ok (outcome_of bytes)) ≡ b → mays.OneOf P (mays.proposed (cond b (Some (record { votes = k; proposal = bytes })) None)) → OneOf P (listed (proposed (k ∷ bytes)))
+    go : (b : Bool) → ((nat_le 1 k && nat_lt k n) && is_ok (outcome_of bytes)) ≡ b → OneOf P (mays.proposed (cond b (Some (record { votes = k; proposal = bytes })) None)) → OneOf P (listed (proposed (k ∷ bytes)))
     go false e h = absurd h
     go true e h =
         let range : (nat_le 1 k && nat_lt k n) ≡ true = and-left (nat_le 1 k && nat_lt k n) (is_ok (outcome_of bytes)) e in
@@ -105,19 +104,19 @@ proposed-listed P n (k ∷ bytes) four h = go ((nat_le 1 k && nat_lt k n) && is_
         let both : (nat_le 1 k && nat_le k 3) ≡ true = ap (λ (b : Bool). b && nat_le k 3) one ∙ three in
         subst (λ (b : Bool). OneOf P (listed (cond b (result_ok (outcome_of bytes)) None))) (sym both) (read-listed P (outcome_of bytes) (votes (k == 0) h))
       where
-        votes : (b : Bool) → mays.OneOf P (cond b [] (mays.read_or_none (outcome_of bytes))) → mays.OneOf P (mays.read_or_none (outcome_of bytes))
+        votes : (b : Bool) → OneOf P (cond b [] (mays.read_or_none (outcome_of bytes))) → OneOf P (mays.read_or_none (outcome_of bytes))
         votes true h = absurd h
         votes false h = h
 
-within : (P : List AssetOutcome → Type 0) (f : FixedParts) (s : StateParts) → people f ≤ 4 → mays.OneOf P (may f s) → OneOf P (outcomes_of s)
+within : (P : List AssetOutcome → Type 0) (f : FixedParts) (s : StateParts) → people f ≤ 4 → OneOf P (may f s) → OneOf P (outcomes_of s)
 within P f s four (inl h) = inl h
 within P f s four (inr h) = inr (go (f.app == 0) h)
   where
-    go : (b : Bool) → mays.OneOf P (cond b (mays.proposed (ballot_of (people f) s.app_bytes)) []) → OneOf P (listed (proposed s.app_bytes))
+    go : (b : Bool) → OneOf P (cond b (mays.proposed (ballot_of (people f) s.app_bytes)) []) → OneOf P (listed (proposed s.app_bytes))
     go true h = proposed-listed P (people f) s.app_bytes four h
     go false h = absurd h
 
-map-one : (P Q : List AssetOutcome → Type 0) (os : List (List AssetOutcome)) → ((o : List AssetOutcome) → P o → Q o) → mays.OneOf P os → mays.OneOf Q os
+map-one : (P Q : List AssetOutcome → Type 0) (os : List (List AssetOutcome)) → ((o : List AssetOutcome) → P o → Q o) → OneOf P os → OneOf Q os
 map-one P Q [] f h = absurd h
 map-one P Q (o ∷ os) f (inl h) = inl (f o h)
 map-one P Q (o ∷ os) f (inr h) = inr (map-one P Q os f h)

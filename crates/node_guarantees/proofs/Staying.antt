@@ -71,8 +71,8 @@ wrote-command n x command is stays =
 
 commanded-view : (r : Rules) (command : Command) (m : Mind) → (commanded r command m).view ≡ m.view
 commanded-view r (Open f outcome) m = refl
-commanded-view r (OpenOn ledger f asset amounts) m = refl
-commanded-view r (OpenVirtual route ledgers guarantors joint channel asset amounts) m = refl
+commanded-view r (OpenOn o) m = refl
+commanded-view r (OpenVirtual v) m = refl
 commanded-view r (Pay channel asset amount) m = refl
 commanded-view r (Close channel) m = refl
 commanded-view r Exit m = refl
@@ -173,8 +173,8 @@ module _ (t : Tables) (r : Rules) where
   paid-stays : (s : Signing) (refusal : Option NodeRefusal) (command : Command) (n : NodeOf) → Stays n (paid_if t r s refusal command n)
   paid-stays s (Some refusal) command n = same-stays n
   paid-stays s None (Open f outcome) n = same-stays n
-  paid-stays s None (OpenOn ledger f asset amounts) n = same-stays n
-  paid-stays s None (OpenVirtual route ledgers guarantors joint channel asset amounts) n = same-stays n
+  paid-stays s None (OpenOn o) n = same-stays n
+  paid-stays s None (OpenVirtual v) n = same-stays n
   paid-stays s None (Pay channel asset amount) n = signed-stays s channel (signs_in t r (Some (Pay channel asset amount)) n.mind channel) n
   paid-stays s None (Close channel) n = same-stays n
   paid-stays s None Exit n = same-stays n

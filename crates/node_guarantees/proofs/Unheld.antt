@@ -152,8 +152,8 @@ message-view r (Err fault) m = refl
 
 did-view : (r : Rules) (deed : Deed) (command : Option Command) (m : Mind) → (did r deed command m).view ≡ m.view
 did-view r (deeds.Commanded step None) (Some (Open g outcome)) m = refl
-did-view r (deeds.Commanded step None) (Some (OpenOn ledger g asset amounts)) m = refl
-did-view r (deeds.Commanded step None) (Some (OpenVirtual route ledgers guarantors joint channel asset amounts)) m = refl
+did-view r (deeds.Commanded step None) (Some (OpenOn o)) m = refl
+did-view r (deeds.Commanded step None) (Some (OpenVirtual v)) m = refl
 did-view r (deeds.Commanded step None) (Some (Pay channel asset amount)) m = refl
 did-view r (deeds.Commanded step None) (Some (Close channel)) m = refl
 did-view r (deeds.Commanded step None) (Some Exit) m = refl

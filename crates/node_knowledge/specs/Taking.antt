@@ -39,6 +39,6 @@ pub record CanShare (f : FixedParts) (amounts : ℕ × ℕ) : Type 0 where
 
 abbrev pub CanTake : Command → Mind → Type 0
 CanTake (Open f outcome) m = CanOpen m (f ∷ [])
-CanTake (OpenOn ledger f asset amounts) m = CanOpen m (f ∷ []) × CanShare f amounts
-CanTake (OpenVirtual route ledgers guarantors joint channel asset amounts) m = CanOpen m (guarantors.0 ∷ guarantors.1 ∷ joint ∷ channel ∷ []) × CanShare channel amounts
+CanTake (OpenOn o) m = CanOpen m (o.fixed ∷ []) × CanShare o.fixed o.amounts
+CanTake (OpenVirtual v) m = CanOpen m (v.guarantors.0 ∷ v.guarantors.1 ∷ v.joint ∷ v.channel ∷ []) × CanShare v.channel v.amounts
 CanTake _ m = Unit {0}

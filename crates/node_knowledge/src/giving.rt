@@ -5,11 +5,10 @@ ghost use Rattle.std.specs.List.{flat_map};
 ghost use Rattle.std.specs.Option.{option_map};
 ghost use Rattle.call_history.specs.Spelling.{message};
 ghost use Rattle.funding_plans.specs.Parts.{joined_of};
-ghost use Rattle.channel_values.specs.Spelling.{sized};
 ghost use Rattle.channel_node.specs.Giving as giving;
 
 use channel_store::Kept;
-use channel_values::{Listed, Name, NoMemory, State};
+use channel_values::{Listed, Name, NoMemory, State, put_sized};
 use funding_plans::Part;
 use std::alloc::Global;
 use support_rules::people_of;
@@ -85,16 +84,6 @@ fn after(people: &[Name], place: usize) -> &[Name]
     } else {
         &[]
     }
-}
-
-/// Bytes behind their length.
-fn put_sized(out: &mut Vec<u8>, bytes: &[u8]) -> Result<(), NoMemory>
-    ensures { OnOk result (out.new.items ≡ out.old.items ++ sized bytes.now) }
-{
-    let len = bytes.len().min(65535) as u16;
-    out.extend_from_slice(&len.to_be_bytes())?;
-    out.extend_from_slice(bytes)?;
-    Ok(())
 }
 
 /// The message with a signed state, whatever the length of the signature.

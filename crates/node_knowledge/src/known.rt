@@ -13,7 +13,6 @@ ghost use Rattle.channel_store.specs.Storing.{kept_with};
 ghost use Rattle.channel_store.specs.declared.kept.Kept.{Kept as AKept};
 ghost use Rattle.history_view.specs.Views.{view_of};
 ghost use Rattle.network.specs.declared.command.Command.TheVariants as commands;
-ghost use Rattle.network.specs.declared.command.Route.TheVariants.{Plain};
 ghost use Rattle.channel_node.specs.Giving.{in_order, sends_of};
 ghost use Rattle.channel_node.specs.Leaving.{challenge_in, is_over};
 ghost use Rattle.channel_node.specs.Minds.{fresh, facts_of, shown_by, kept_seeing, saw, noted, with_opened, commanded};
@@ -27,7 +26,7 @@ use crate::closing::{close, place_with};
 use crate::giving::{in_order, sends_to};
 use crate::leaving::{Challenger, challenge_of, is_over};
 use crate::opening::{join, join_virtual, name_of, part_of_virtual, shared};
-use crate::showing::{is_accepted, shown_by};
+use crate::showing::shown_by;
 use call_history::{Entry, Op, WorldView, fixed_of};
 use channel_store::Store;
 use channel_values::{
@@ -35,7 +34,7 @@ use channel_values::{
 };
 use funding_plans::{Facts, Goal, Part, Plan};
 use history_view::{follow, unseen, view_of};
-use network::Command;
+use network::{Command, LedgerFunding, VirtualFunding};
 use std::alloc::Global;
 use std::marker::Model;
 
@@ -94,7 +93,7 @@ fn shown_in(view: &WorldView, entry: &Entry) -> Result<Option<(Name, Chain)>, No
         ≡ cond (is_accepted entry.now.reply)
         (kept_seeing real view.entry.now entry.now.op (fixed_of entry.now.op) kept) kept) }
 {
-    if !is_accepted(&entry.reply) {
+    if !entry.reply.is_accepted() {
         return Ok(None);
     }
     let Some(fixed) = fixed_of(&entry.op) else {
@@ -274,45 +273,32 @@ impl Known {
         self.add_part(Part::Root(name_of(fixed)), opening, &(0, 0))
     }
 
-    fn open_on(
-        &mut self,
-        ledger: &Name,
-        fixed: &Fixed,
-        asset: u32,
-        amounts: &(u64, u64),
-    ) -> Result<(), NoMemory>
-        requires channels { CanOpen self.old (fixed.now ∷ []) }
-        requires opening { CanShare fixed.now amounts.now }
-        ensures opened { OnOk result (self.new
-            ≡ with_opened real (commands.OpenOn ledger.now fixed.now asset amounts.now) self.old) }
+    fn open_on(&mut self, funding: &LedgerFunding) -> Result<(), NoMemory>
+        requires { CanTake (commands.OpenOn funding.now) self.old }
+        ensures opened { OnOk result (self.new ≡ with_opened real (commands.OpenOn funding.now) self.old) }
         ensures key { self.new.key ≡ self.old.key }
     {
-        let opening = shared(*self.goals.allocator(), fixed, asset, amounts)?;
+        let (fixed, amounts) = (&funding.fixed, &funding.amounts);
+        let opening = shared(*self.goals.allocator(), fixed, funding.asset, amounts)?;
         join(&mut self.store, &self.key, fixed)?;
-        self.add_part(Part::OnLedger(*ledger, name_of(fixed)), opening, amounts)
+        self.add_part(
+            Part::OnLedger(funding.ledger, name_of(fixed)),
+            opening,
+            amounts,
+        )
     }
 
     /// By each route the same is known.
-    fn open_virtual(
-        &mut self,
-        ledgers: &(Name, Name),
-        guarantors: &(Fixed, Fixed),
-        joint: &Fixed,
-        channel: &Fixed,
-        asset: u32,
-        amounts: &(u64, u64),
-    ) -> Result<(), NoMemory>
-        requires channels { CanOpen self.old (guarantors.now.0 ∷ guarantors.now.1 ∷ joint.now ∷ channel.now ∷ []) }
-        requires opening { CanShare channel.now amounts.now }
-        ensures opened { OnOk result (self.new
-            ≡ with_opened real (commands.OpenVirtual Plain ledgers.now guarantors.now joint.now channel.now asset amounts.now) self.old) }
+    fn open_virtual(&mut self, funding: &VirtualFunding) -> Result<(), NoMemory>
+        requires { CanTake (commands.OpenVirtual funding.now) self.old }
+        ensures opened { OnOk result (self.new ≡ with_opened real (commands.OpenVirtual funding.now) self.old) }
         ensures key { self.new.key ≡ self.old.key }
     {
-        let opening = shared(*self.goals.allocator(), channel, asset, amounts)?;
-        let part = part_of_virtual(
-            &self.key, ledgers, guarantors, joint, channel, asset, amounts,
-        );
-        join_virtual(&mut self.store, &self.key, guarantors, joint, channel)?;
+        let amounts = &funding.amounts;
+        let alloc = *self.goals.allocator();
+        let opening = shared(alloc, &funding.channel, funding.asset, amounts)?;
+        let part = part_of_virtual(&self.key, funding);
+        join_virtual(&mut self.store, &self.key, funding)?;
         self.add_part(part, opening, amounts)
     }
 
@@ -331,21 +317,8 @@ impl Known {
     {
         match command {
             Command::Open { fixed, outcome } => self.open(fixed, outcome),
-            Command::OpenOn {
-                ledger,
-                fixed,
-                asset,
-                amounts,
-            } => self.open_on(ledger, fixed, *asset, amounts),
-            Command::OpenVirtual {
-                ledgers,
-                guarantors,
-                joint,
-                channel,
-                asset,
-                amounts,
-                ..
-            } => self.open_virtual(ledgers, guarantors, joint, channel, *asset, amounts),
+            Command::OpenOn(funding) => self.open_on(funding),
+            Command::OpenVirtual(funding) => self.open_virtual(funding),
             Command::Close { channel } => {
                 self.close(channel);
                 Ok(())

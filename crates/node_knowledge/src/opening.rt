@@ -2,12 +2,11 @@
 
 ghost use Rattle.std.specs.Prelude.{◌≡◌, ◌==◌, ◌&&◌, ◌<◌, ◌^◌, ◌+◌, ◌++◌, ◌∷◌, [], true, None, OnOk, OnErr, IfOk, slice_index_or};
 ghost use Rattle.std.specs.Str.{bytes_eq};
-ghost use Rattle.channel_values.specs.Outcomes.{IsItem, IsOutcome};
+ghost use Rattle.channel_values.specs.Outcomes.{IsItem};
 ghost use Rattle.channel_values.specs.declared.value.Dest.TheVariants.{Person};
 ghost use Rattle.call_history.specs.Naming.{name_of};
 ghost use Rattle.channel_store.specs.Storing.{kept_of};
 ghost use Rattle.network.specs.declared.command.Command.TheVariants.{OpenVirtual};
-ghost use Rattle.network.specs.declared.command.Route.TheVariants.{Plain};
 ghost use Rattle.channel_node.specs.Openings as openings;
 ghost use Rattle.node_knowledge.specs.Owned.{AreOwned};
 ghost use Rattle.node_knowledge.specs.Taking.{joined, CanJoin, CanShare};
@@ -16,10 +15,12 @@ ghost use Rattle.support_rules.specs.Steps.{persons};
 
 use channel_store::Store;
 use channel_values::{
-    AssetOutcome, ByteFault, Dest, Fixed, Item, Key, Listed, Name, NoMemory, Outcome, Shape,
-    channel_name, person_name,
+    AssetOutcome, Dest, Fixed, Item, Key, Listed, Name, NoMemory, Outcome, Shape, channel_name,
+    person_name,
 };
 use funding_plans::{Part, Virtual};
+use history_view::outcome_of;
+use network::VirtualFunding;
 use std::alloc::Global;
 
 fn same_key(a: &Key, b: &Key) -> bool
@@ -81,20 +82,18 @@ pub(crate) fn join(store: &mut Store, key: &Key, fixed: &Fixed) -> Result<(), No
 pub(crate) fn join_virtual(
     store: &mut Store,
     key: &Key,
-    guarantors: &(Fixed, Fixed),
-    joint: &Fixed,
-    channel: &Fixed,
+    funding: &VirtualFunding,
 ) -> Result<(), NoMemory>
-    requires { CanJoin key.now (guarantors.now.0 ∷ guarantors.now.1 ∷ joint.now ∷ channel.now ∷ []) store.old }
+    requires { CanJoin key.now (openings.opened_by (OpenVirtual funding.now)) store.old }
     ensures joined { OnOk result (store.new ≡ store.old
-        ++ joined key.now (guarantors.now.0 ∷ guarantors.now.1 ∷ joint.now ∷ channel.now ∷ [])) }
+        ++ joined key.now (openings.opened_by (OpenVirtual funding.now))) }
     ensures owned { AreOwned key.now store.old → AreOwned key.now store.new }
 {
-    let (first, second) = guarantors;
+    let (first, second) = &funding.guarantors;
     join(store, key, first)?;
     join(store, key, second)?;
-    join(store, key, joint)?;
-    join(store, key, channel)
+    join(store, key, &funding.joint)?;
+    join(store, key, &funding.channel)
 }
 
 fn person_at(fixed: &Fixed, place: usize) -> Name
@@ -103,18 +102,6 @@ fn person_at(fixed: &Fixed, place: usize) -> Name
 {
     let keys = fixed.keys();
     person_name(&keys[place])
-}
-
-/// The outcome of these assets, which are one's.
-fn outcome_of(alloc: Global, assets: Vec<AssetOutcome>) -> Result<Outcome, NoMemory>
-    requires { IsOutcome assets.items }
-    ensures { IfOk result (λ outcome. outcome ≡ assets.items) }
-{
-    match Outcome::make(alloc, assets) {
-        Ok(outcome) => Ok(outcome),
-        Err(ByteFault::NoMemory) => Err(NoMemory),
-        Err(_) => unreachable!(),
-    }
 }
 
 /// An amount for one of the channel's first two people.
@@ -158,48 +145,32 @@ fn is_side_b(key: &Key, channel: &Fixed) -> bool
     takes_part(key, channel) && place_among(key, channel) == 1
 }
 
-fn virtual_of(
-    key: &Key,
-    ledgers: &(Name, Name),
-    guarantors: &(Fixed, Fixed),
-    joint: &Fixed,
-    channel: &Fixed,
-    asset: u32,
-    amounts: &(u64, u64),
-) -> Virtual
-    requires { amounts.now.0 + amounts.now.1 < 2 ^ 64 }
-    ensures { result ≡ openings.virtual real key.now ledgers.now guarantors.now joint.now channel.now asset amounts.now }
+fn virtual_of(key: &Key, funding: &VirtualFunding) -> Virtual
+    requires { funding.now.amounts.0 + funding.now.amounts.1 < 2 ^ 64 }
+    ensures { result ≡ openings.virtual real key.now funding.now.ledgers funding.now.guarantors funding.now.joint
+        funding.now.channel funding.now.asset funding.now.amounts }
 {
     Virtual {
-        ledger_a: ledgers.0,
-        ledger_b: ledgers.1,
-        guarantor_a: name_of(&guarantors.0),
-        guarantor_b: name_of(&guarantors.1),
-        joint: name_of(joint),
-        channel: name_of(channel),
-        asset,
-        total: amounts.0 + amounts.1,
-        side_b: is_side_b(key, channel),
+        ledger_a: funding.ledgers.0,
+        ledger_b: funding.ledgers.1,
+        guarantor_a: name_of(&funding.guarantors.0),
+        guarantor_b: name_of(&funding.guarantors.1),
+        joint: name_of(&funding.joint),
+        channel: name_of(&funding.channel),
+        asset: funding.asset,
+        total: funding.amounts.0 + funding.amounts.1,
+        side_b: is_side_b(key, &funding.channel),
     }
 }
 
 /// The part of a virtual channel: an end where the key is one of the payment channel's, else the intermediary's. It is the
 /// same by each route.
-pub(crate) fn part_of_virtual(
-    key: &Key,
-    ledgers: &(Name, Name),
-    guarantors: &(Fixed, Fixed),
-    joint: &Fixed,
-    channel: &Fixed,
-    asset: u32,
-    amounts: &(u64, u64),
-) -> Part
-    requires { amounts.now.0 + amounts.now.1 < 2 ^ 64 }
-    ensures { openings.parts_of real key.now
-        (OpenVirtual Plain ledgers.now guarantors.now joint.now channel.now asset amounts.now) ≡ result ∷ [] }
+pub(crate) fn part_of_virtual(key: &Key, funding: &VirtualFunding) -> Part
+    requires { funding.now.amounts.0 + funding.now.amounts.1 < 2 ^ 64 }
+    ensures { openings.parts_of real key.now (OpenVirtual funding.now) ≡ result ∷ [] }
 {
-    let v = virtual_of(key, ledgers, guarantors, joint, channel, asset, amounts);
-    if takes_part(key, channel) {
+    let v = virtual_of(key, funding);
+    if takes_part(key, &funding.channel) {
         Part::End(v)
     } else {
         Part::Middle(v)

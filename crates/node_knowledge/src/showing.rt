@@ -2,23 +2,13 @@
 
 ghost use Rattle.std.specs.Prelude.{◌≡◌, IfOk};
 ghost use Rattle.std.specs.Option.{option_map};
-ghost use Rattle.call_history.specs.History.{is_accepted};
 ghost use Rattle.call_history.specs.Marked.{nothing, marked_of};
 ghost use Rattle.channel_node.specs.Minds.{shown_by};
 ghost use Rattle.node_knowledge.specs.Shown.{answered_or, HasFew, FewUnder};
 
-use call_history::{Call, Op, Reply, answered};
+use call_history::{Call, Op, answered};
 use channel_values::{Chain, Fixed, Listed, NoMemory, Signed};
 use std::alloc::Global;
-
-pub(crate) fn is_accepted(reply: &Reply) -> bool
-    ensures { result ≡ is_accepted reply.now }
-{
-    match reply {
-        Reply::No(_) => false,
-        _ => true,
-    }
-}
 
 /// A chain of no state.
 fn no_chain(alloc: Global, fixed: &Fixed) -> Result<Chain, NoMemory>

@@ -45,13 +45,6 @@ pub(crate) fn sum_up_to(items: &[Item], to: &Dest) -> u64
     }
 }
 
-pub(crate) fn total(items: &[Item]) -> u64
-    requires { total items.now < 2 ^ 64 }
-    ensures { result ≡ total items.now }
-{
-    items.iter().map(|item| item.amount).sum()
-}
-
 /// The amount of the second destination of a guarantee's list.
 pub(crate) fn second_amount(items: &[Item], list: &[Dest]) -> u64
     ensures { result ≡ second_amt items.now list.now }

@@ -10,13 +10,13 @@ ghost use Rattle.share_laws.specs.Funded as funded;
 ghost use Rattle.plan_share.specs.Pages.{books_of, reaches, left_of, funded_among};
 ghost use Rattle.plan_share.specs.Whole.{AreFunded, funded_in, passes_each, passes_both};
 
-use crate::amounts::{sum_up_to, total};
+use crate::amounts::sum_up_to;
 use crate::endings::{Ending, read_endings};
 use crate::page::Page;
 use crate::reach::reach_in;
 use crate::worth::with_taken;
 use call_history::{Known, WorldView};
-use channel_values::{AssetOutcome, Dest, Name, NoMemory};
+use channel_values::{AssetOutcome, Dest, Name, NoMemory, total};
 use funding_plans::{Part, Plan, Virtual, has};
 use std::alloc::Global;
 

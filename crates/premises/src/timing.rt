@@ -5,7 +5,7 @@ ghost use Rattle.std.specs.List.{list_any};
 ghost use Rattle.std.specs.Option.{option_map};
 ghost use Rattle.call_history.specs.Same as same;
 ghost use Rattle.call_history.specs.Rows.{fixed_of};
-ghost use Rattle.call_history.specs.History.{is_accepted, is_named, turning};
+ghost use Rattle.call_history.specs.History.{is_named, turning};
 ghost use Rattle.call_history.specs.declared.call.Op.TheVariants as ops;
 ghost use Rattle.support_rules.specs.Real.{real};
 ghost use Rattle.premises.specs.Own.{is_string};
@@ -13,7 +13,7 @@ ghost use Rattle.premises.specs.Timing as timing;
 ghost use Rattle.premises.specs.Looks.{noted_channel, channel_noted, next_look, end_is_answered, op_is_answered, entry_is_answered, are_answered};
 
 use call_bytes::{is_op, read_message};
-use call_history::{Call, Deed, Entry, Event, Op, Reply, fixed_of, time_after, time_set};
+use call_history::{Call, Deed, Entry, Event, Op, fixed_of, time_after, time_set};
 use channel_values::{ByteFault, Fixed, Listed, Name, NoMemory, channel_name};
 use std::alloc::Global;
 
@@ -28,16 +28,10 @@ fn is_named(fixed: Option<&Fixed>, channel: &Name) -> bool
     }
 }
 
-fn is_accepted(reply: &Reply) -> bool
-    ensures { result ≡ is_accepted reply.now }
-{
-    !matches!(reply, Reply::No(_))
-}
-
 fn turns(entry: &Entry, channel: &Name) -> bool
     ensures { result ≡ turning real channel.now entry.now }
 {
-    is_accepted(&entry.reply) && is_named(fixed_of(&entry.op), channel)
+    entry.reply.is_accepted() && is_named(fixed_of(&entry.op), channel)
 }
 
 fn fixed_of_call(call: &Call) -> Option<&Fixed>
@@ -235,7 +229,7 @@ fn entry_is_answered(
 {
     match &entry.op {
         Op::Call(Call::Challenge { chain, .. }) => {
-            !is_accepted(&entry.reply)
+            !entry.reply.is_accepted()
                 || challenge_is_answered(journal, noted, newer, seen, now, &chain.fixed)
         }
         _ => true,

@@ -2,24 +2,25 @@
 
 ghost use Rattle.std.specs.Prelude.{◌≡◌, IfOk, Ok};
 ghost use Rattle.channel_values.specs.Reading.{Gives};
+ghost use Rattle.record_reader.specs.Taking.{Takes};
 ghost use Rattle.run_record.specs.Spelling as spelling;
 ghost use Rattle.run_record.specs.Limits.{IsRecord, KeepsRecord};
 ghost use Rattle.run_record.specs.Reading.{record_at, record_of};
 ghost use Rattle.run_record.specs.declared.run_record.Record.{Record as AnyRecord};
 
-use crate::endings::take_endings;
-use crate::entries::{take_entries, take_sums};
-use channel_values::{ByteFault, ended};
-use run_record::Record;
+use crate::endings::Endings;
+use crate::entries::{Entries, Sums};
+use channel_values::{ByteFault, ended, take_long_list, take_short_list};
+use run_record::{MOST_ENDS, Record};
 use std::alloc::Global;
 
-#[tactic(auto, unfolding(run_record::specs::Reading::record_at))]
+#[tactic(auto, unfolding(run_record::specs::Reading::record_at, run_record::specs::Reading::few_at, run_record::specs::Reading::list_at))]
 fn take_record(alloc: Global, whole: usize, bytes: &[u8]) -> Result<(Record, &[u8]), ByteFault>
-    ensures { Gives (λ x. (x.0, x.1.now)) result (record_at whole bytes.now) }
+    ensures { Takes result (record_at whole bytes.now) }
 {
-    let (history, rest) = take_entries(alloc, whole, bytes)?;
-    let (sums, rest) = take_sums(alloc, whole, rest)?;
-    let (ends, rest) = take_endings(alloc, whole, rest)?;
+    let (history, rest) = take_long_list::<Entries>(alloc, whole, bytes)?;
+    let (sums, rest) = take_long_list::<Sums>(alloc, whole, rest)?;
+    let (ends, rest) = take_short_list::<Endings>(alloc, whole, MOST_ENDS, rest)?;
     let record = Record {
         history,
         sums,

@@ -1,7 +1,7 @@
 //! Replies from their canonical bytes. None takes memory.
 
 ghost use Rattle.std.specs.Prelude.{◌≡◌};
-ghost use Rattle.channel_values.specs.Reading.{Tells};
+ghost use Rattle.record_reader.specs.Taking.{TakesValue};
 ghost use Rattle.call_bytes.specs.Reading as reads;
 
 use crate::numbers::{accepted_of, named_of, numbered_of, plain_of, step_of, support_of};
@@ -16,7 +16,7 @@ pub(crate) fn or_bad<T: Copy>(
     found: Option<T>,
     rest: &[u8],
 ) -> Result<(T, &[u8]), ByteFault>
-    ensures { Tells (λ x. (x.0, x.1.now)) result (reads.or_bad place found rest.now) }
+    ensures { TakesValue result (reads.or_bad place found rest.now) }
 {
     match found {
         None => Err(ByteFault::BadTag(place)),
@@ -26,7 +26,7 @@ pub(crate) fn or_bad<T: Copy>(
 
 #[tactic(auto, unfolding(call_bytes::specs::Reading::step_at))]
 fn take_step(whole: usize, bytes: &[u8]) -> Result<(StepFault, &[u8]), ByteFault>
-    ensures { Tells (λ x. (x.0, x.1.now)) result (reads.step_at whole bytes.now) }
+    ensures { TakesValue result (reads.step_at whole bytes.now) }
 {
     let place = place_of(whole, bytes);
     let (number, rest) = take_byte(whole, bytes)?;
@@ -36,7 +36,7 @@ fn take_step(whole: usize, bytes: &[u8]) -> Result<(StepFault, &[u8]), ByteFault
 /// A fault of a chain. One that has no place has 0 there.
 #[tactic(auto, unfolding(call_bytes::specs::Reading::support_at))]
 fn take_support(whole: usize, bytes: &[u8]) -> Result<(SupportFault, &[u8]), ByteFault>
-    ensures { Tells (λ x. (x.0, x.1.now)) result (reads.support_at whole bytes.now) }
+    ensures { TakesValue result (reads.support_at whole bytes.now) }
 {
     let (tag, rest) = take_byte(whole, bytes)?;
     if tag == 0 || tag > 4 {
@@ -54,7 +54,7 @@ fn take_support(whole: usize, bytes: &[u8]) -> Result<(SupportFault, &[u8]), Byt
 
 #[tactic(auto, unfolding(call_bytes::specs::Reading::unsupported_at))]
 fn take_unsupported(whole: usize, bytes: &[u8]) -> Result<(Refusal, &[u8]), ByteFault>
-    ensures { Tells (λ x. (x.0, x.1.now)) result (reads.unsupported_at whole bytes.now) }
+    ensures { TakesValue result (reads.unsupported_at whole bytes.now) }
 {
     let (fault, rest) = take_support(whole, bytes)?;
     Ok((Refusal::NotSupported(fault), rest))
@@ -62,7 +62,7 @@ fn take_unsupported(whole: usize, bytes: &[u8]) -> Result<(Refusal, &[u8]), Byte
 
 #[tactic(auto, unfolding(call_bytes::specs::Reading::bad_step_at))]
 fn take_bad_step(whole: usize, bytes: &[u8]) -> Result<(Refusal, &[u8]), ByteFault>
-    ensures { Tells (λ x. (x.0, x.1.now)) result (reads.bad_step_at whole bytes.now) }
+    ensures { TakesValue result (reads.bad_step_at whole bytes.now) }
 {
     let (fault, rest) = take_step(whole, bytes)?;
     Ok((Refusal::BadStep(fault), rest))
@@ -75,7 +75,7 @@ fn take_numbered(
     tag: u8,
     bytes: &[u8],
 ) -> Result<(Refusal, &[u8]), ByteFault>
-    ensures { Tells (λ x. (x.0, x.1.now)) result (reads.numbered_at whole place tag bytes.now) }
+    ensures { TakesValue result (reads.numbered_at whole place tag bytes.now) }
 {
     let (n, rest) = take_u64(whole, bytes)?;
     or_bad(place, numbered_of(tag, n), rest)
@@ -88,7 +88,7 @@ fn take_named(
     tag: u8,
     bytes: &[u8],
 ) -> Result<(Refusal, &[u8]), ByteFault>
-    ensures { Tells (λ x. (x.0, x.1.now)) result (reads.named_at whole place tag bytes.now) }
+    ensures { TakesValue result (reads.named_at whole place tag bytes.now) }
 {
     let (name, rest) = take_name(whole, bytes)?;
     or_bad(place, named_of(tag, name), rest)
@@ -101,7 +101,7 @@ fn take_kept(
     tag: u8,
     bytes: &[u8],
 ) -> Result<(Refusal, &[u8]), ByteFault>
-    ensures { Tells (λ x. (x.0, x.1.now)) result (reads.kept_at whole place tag bytes.now) }
+    ensures { TakesValue result (reads.kept_at whole place tag bytes.now) }
 {
     if tag == 2 {
         return take_unsupported(whole, bytes);
@@ -118,7 +118,7 @@ fn take_kept(
 
 #[tactic(auto, unfolding(call_bytes::specs::Reading::refusal_at))]
 fn take_refusal(whole: usize, bytes: &[u8]) -> Result<(Refusal, &[u8]), ByteFault>
-    ensures { Tells (λ x. (x.0, x.1.now)) result (reads.refusal_at whole bytes.now) }
+    ensures { TakesValue result (reads.refusal_at whole bytes.now) }
 {
     let place = place_of(whole, bytes);
     let (tag, rest) = take_byte(whole, bytes)?;
@@ -127,7 +127,7 @@ fn take_refusal(whole: usize, bytes: &[u8]) -> Result<(Refusal, &[u8]), ByteFaul
 
 #[tactic(auto, unfolding(call_bytes::specs::Reading::refused_at))]
 fn take_refused(whole: usize, bytes: &[u8]) -> Result<(Reply, &[u8]), ByteFault>
-    ensures { Tells (λ x. (x.0, x.1.now)) result (reads.refused_at whole bytes.now) }
+    ensures { TakesValue result (reads.refused_at whole bytes.now) }
 {
     let (why, rest) = take_refusal(whole, bytes)?;
     Ok((Reply::No(why), rest))
@@ -140,7 +140,7 @@ fn take_accepted(
     tag: u8,
     bytes: &[u8],
 ) -> Result<(Reply, &[u8]), ByteFault>
-    ensures { Tells (λ x. (x.0, x.1.now)) result (reads.accepted_at whole place tag bytes.now) }
+    ensures { TakesValue result (reads.accepted_at whole place tag bytes.now) }
 {
     let (n, rest) = take_u64(whole, bytes)?;
     or_bad(place, accepted_of(tag, n), rest)
@@ -148,7 +148,7 @@ fn take_accepted(
 
 /// What a reply says, behind a tag that stands at a place.
 fn take_told(whole: usize, place: usize, tag: u8, bytes: &[u8]) -> Result<(Reply, &[u8]), ByteFault>
-    ensures { Tells (λ x. (x.0, x.1.now)) result (reads.told_at whole place tag bytes.now) }
+    ensures { TakesValue result (reads.told_at whole place tag bytes.now) }
 {
     match tag {
         7 => take_refused(whole, bytes),
@@ -160,7 +160,7 @@ fn take_told(whole: usize, place: usize, tag: u8, bytes: &[u8]) -> Result<(Reply
 /// A reply, and the bytes after it.
 #[tactic(auto, unfolding(call_bytes::specs::Reading::reply_at))]
 pub(crate) fn take_reply(whole: usize, bytes: &[u8]) -> Result<(Reply, &[u8]), ByteFault>
-    ensures { Tells (λ x. (x.0, x.1.now)) result (reads.reply_at whole bytes.now) }
+    ensures { TakesValue result (reads.reply_at whole bytes.now) }
 {
     let place = place_of(whole, bytes);
     let (tag, rest) = take_byte(whole, bytes)?;

@@ -1,33 +1,25 @@
 //! The canonical bytes of the parts of a record. Where there is no memory, some of them may stay.
 
-ghost use Rattle.std.specs.Prelude.{◌≡◌, ◌≤◌, ◌<◌, ◌^◌, ◌++◌, ◌∷◌, [], length, OnOk};
+ghost use Rattle.std.specs.Prelude.{◌≡◌, ◌≤◌, ◌<◌, ◌^◌, ◌++◌, ◌∷◌, length, OnOk};
 ghost use Rattle.std.specs.Int.{w32, w64, to_be_bytes};
 ghost use Rattle.std.specs.List.{flat_map, All, AllByRecursion};
 ghost use Rattle.channel_values.specs.Outcomes.{IsName};
-ghost use Rattle.channel_values.specs.Spelling.{count, flag};
+ghost use Rattle.channel_values.specs.Spelling.{flag};
 ghost use Rattle.call_bytes.specs.Spelling.{long};
 ghost use Rattle.run_record.specs.Spelling as spelling;
 ghost use Rattle.run_record.specs.Limits as limits;
 
 use crate::numbers::sum_number;
 use crate::run_record::Sum;
-use call_bytes::{put_name, put_named, put_numbered, put_reply, put_u64, write_call};
+use call_bytes::{put_named, put_numbered, put_reply, put_u64, write_call};
 use call_history::{Entry, HeldChain, Known, Op};
-use channel_values::{Name, NoMemory, write_chain};
+use channel_values::{Name, NoMemory, put_flag, put_name, write_chain};
 use funding_plans::{Part, Virtual};
 
 fn put_u32(out: &mut Vec<u8>, n: u32) -> Result<(), NoMemory>
     ensures { OnOk result (out.new.items ≡ out.old.items ++ to_be_bytes w32 n) }
 {
     out.extend_from_slice(&n.to_be_bytes())?;
-    Ok(())
-}
-
-/// A count of one byte.
-pub(crate) fn put_few(out: &mut Vec<u8>, length: usize) -> Result<(), NoMemory>
-    ensures { OnOk result (out.new.items ≡ out.old.items ++ count length ∷ []) }
-{
-    out.push(length.min(255) as u8)?;
     Ok(())
 }
 
@@ -125,13 +117,6 @@ pub(crate) fn put_sums(out: &mut Vec<u8>, sums: &[Sum]) -> Result<(), NoMemory>
 }
 
 // ---- endings
-
-fn put_flag(out: &mut Vec<u8>, holds: bool) -> Result<(), NoMemory>
-    ensures { OnOk result (out.new.items ≡ out.old.items ++ flag holds) }
-{
-    out.push(if holds { 1 } else { 0 })?;
-    Ok(())
-}
 
 #[tactic(auto, unfolding(crate::specs::Spelling::pair))]
 fn put_pair(out: &mut Vec<u8>, first: &Name, second: &Name) -> Result<(), NoMemory>

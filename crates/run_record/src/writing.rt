@@ -7,19 +7,18 @@ ghost use Rattle.run_record.specs.Limits as limits;
 ghost use Rattle.run_record.specs.Limits.{IsRecord, KeepsRecord};
 
 use crate::putting::{
-    put_all_known, put_chains, put_entries, put_few, put_many, put_parts, put_shares, put_sums,
+    put_all_known, put_chains, put_entries, put_many, put_parts, put_shares, put_sums,
 };
 use crate::run_record::{Ending, Record, Sum};
-use call_bytes::put_name;
 use call_history::{Entry, HeldChain, Known};
-use channel_values::NoMemory;
+use channel_values::{NoMemory, put_count, put_name};
 use funding_plans::Part;
 
 fn put_few_parts(out: &mut Vec<u8>, parts: &[Part]) -> Result<(), NoMemory>
     ensures put { OnOk result (out.new.items ≡ out.old.items ++ spelling.few spelling.part parts.now) }
     ensures fits { OnOk result (AllByRecursion limits.IsPart parts.now) }
 {
-    put_few(out, parts.len())?;
+    put_count(out, parts.len())?;
     put_parts(out, parts)
 }
 
@@ -27,7 +26,7 @@ fn put_few_known(out: &mut Vec<u8>, known: &[Known]) -> Result<(), NoMemory>
     ensures put { OnOk result (out.new.items ≡ out.old.items ++ spelling.few spelling.known_state known.now) }
     ensures fits { OnOk result (AllByRecursion limits.IsKnown known.now) }
 {
-    put_few(out, known.len())?;
+    put_count(out, known.len())?;
     put_all_known(out, known)
 }
 
@@ -36,7 +35,7 @@ fn put_few_chains(out: &mut Vec<u8>, chains: &[HeldChain]) -> Result<(), NoMemor
     ensures put { OnOk result (out.new.items ≡ out.old.items ++ spelling.few spelling.held_chain chains.now) }
     ensures fits { OnOk result (AllByRecursion limits.IsHeldChain chains.now) }
 {
-    put_few(out, chains.len())?;
+    put_count(out, chains.len())?;
     put_chains(out, chains)
 }
 
@@ -97,7 +96,7 @@ fn put_few_endings(out: &mut Vec<u8>, ends: &[Ending]) -> Result<(), NoMemory>
     ensures put { OnOk result (out.new.items ≡ out.old.items ++ spelling.few spelling.ending ends.now) }
     ensures fits { OnOk result (AllByRecursion limits.IsEnding ends.now) }
 {
-    put_few(out, ends.len())?;
+    put_count(out, ends.len())?;
     put_endings(out, ends)
 }
 

@@ -2,8 +2,6 @@
 #![tactic(auto)]
 
 #[cfg(test)]
-mod loads;
-#[cfg(test)]
 mod names;
 #[cfg(test)]
 mod runs;

@@ -16,12 +16,13 @@ use Rattle.call_history.specs.declared.call.Op.{Op}
 use Rattle.call_history.specs.declared.call.Op.TheVariants as ops
 use Rattle.network.specs.declared.command.Command.{Command}
 use Rattle.step_meanings.specs.declared.effect.Effect.TheVariants.{Enter, Tell, Post, Lose, Catch, Rounds}
-use Rattle.step_meanings.specs.Meanings.{Meaning, learning, doing, meant, meaning}
+use Rattle.step_meanings.specs.Meanings.{Meaning, learning, doing, with_person, joins_if, meant, meaning}
 use Rattle.step_meanings.specs.Names.{sign_challenge}
 use Rattle.step_meanings.specs.People.{◌>>=◌, SignedBy, has_name, person_by, signature_of, used_once, replaced, sign}
 use Rattle.step_meanings.specs.declared.chains.NamedState.{NamedState}
 use Rattle.step_meanings.specs.declared.names.Names.{Names}
 use Rattle.step_meanings.specs.declared.people.Person.{Person}
+use Rattle.script_steps.specs.declared.step.PersonStep.{PersonStep}
 use Rattle.script_steps.specs.declared.step.Step.{Step}
 use Rattle.script_steps.specs.declared.step.Step.TheVariants as steps
 use Rattle.channel_values.specs.Parts.{FixedParts}
@@ -67,7 +68,7 @@ five_or_ten h e = by (h == 5) refl (h == 10) refl e
     by false t true u e = inr (eqb-true h 10 u)
     by false t false u e = absurd (cc)
 
-is_fresh : (seed : List ℕ) (h : ℕ) → IsTrue (h == 5 || h == 10) → IsFresh (fresh seed h)
+pub is_fresh : (seed : List ℕ) (h : ℕ) → IsTrue (h == 5 || h == 10) → IsFresh (fresh seed h)
 is_fresh seed h able = record { id = id_long seed; height = five_or_ten h able; unused = refl }
 
 -- ---- growth
@@ -118,27 +119,33 @@ catches n name number key channel turn = record { few = omega (arith); light = o
 plays : (n : Names) (count : ℕ) → Grows n 0 (count * most_in_round) (doing n (Rounds count))
 plays n count = record { few = omega (arith); light = omega (arith); fits = tt }
 
+person_grows : (n : Names) (k : PersonStep) → Fits (steps.Person k) → Grows n 1 1 (meaning n (steps.Person k))
+person_grows n k fit = by k.node
+  where
+    by : (node : Bool) → Grows n 1 1 (doing (with_person n k.name k.seed k.h k.node) (joins_if node (length n.people + 1) (fresh k.seed k.h) k.watchers))
+    by true = record { few = one_more n.people _; light = omega (arith); fits = is_fresh k.seed k.h fit.0 }
+    by false = record { few = one_more n.people _; light = omega (arith); fits = tt }
+
 meant_grows : (n : Names) (step : Step) → Fits step → GrowsIf n (persons step) (weight step) (meant n step)
-meant_grows n (steps.Deposit channel asset expected amount) fit = search (rules, after, enters)
+meant_grows n (steps.Deposit k) fit = search (rules, after, enters)
 meant_grows n (steps.Time to) fit = enters n n (ops.Time to) refl
-meant_grows n (steps.Person name seed h true watchers) fit = record { few = one_more n.people _; light = omega (arith); fits = is_fresh seed h fit.0 }
-meant_grows n (steps.Person name seed h false watchers) fit = record { few = one_more n.people _; light = omega (arith); fits = tt }
-meant_grows n (steps.Channel name people nonce app duration) fit = search (rules, after, nothing)
-meant_grows n (steps.Sign name channel by turn is_final items votes proposal) fit = search (rules, after, after_signed, sign_keeps, nothing)
-meant_grows n (steps.Catch name from channel turn) fit = search (rules, after, catches)
+meant_grows n (steps.Person k) fit = person_grows n k fit
+meant_grows n (steps.Channel k) fit = search (rules, after, nothing)
+meant_grows n (steps.Sign k) fit = search (rules, after, after_signed, sign_keeps, nothing)
+meant_grows n (steps.Catch k) fit = search (rules, after, catches)
 meant_grows n (steps.Send to state) fit = search (rules, after, posts)
 meant_grows n (steps.Drop to) fit = search (rules, after, loses)
-meant_grows n (steps.Challenge channel chain by) fit = search (rules, after, after_signed, challenge_keeps, enters)
-meant_grows n (steps.Respond channel from next) fit = search (rules, after, enters)
+meant_grows n (steps.Challenge k) fit = search (rules, after, after_signed, challenge_keeps, enters)
+meant_grows n (steps.Respond k) fit = search (rules, after, enters)
 meant_grows n (steps.Refute channel next) fit = search (rules, after, enters)
 meant_grows n (steps.Checkpoint channel chain) fit = search (rules, after, enters)
 meant_grows n (steps.Conclude channel chain) fit = search (rules, after, enters)
-meant_grows n (steps.Transfer channel state asset index) fit = search (rules, after, enters)
-meant_grows n (steps.Claim guarantor promise target ending asset position) fit = search (rules, after, enters)
-meant_grows n (steps.Open who channel opening) fit = search (rules, after, tells)
-meant_grows n (steps.OpenOn who ledger channel asset amounts) fit = search (rules, after, tells)
-meant_grows n (steps.OpenVirtual who route ledgers guarantors joint channel asset amounts) fit = search (rules, after, tells)
-meant_grows n (steps.Pay who channel asset amount) fit = search (rules, after, tells)
+meant_grows n (steps.Transfer k) fit = search (rules, after, enters)
+meant_grows n (steps.Claim k) fit = search (rules, after, enters)
+meant_grows n (steps.Open k) fit = search (rules, after, tells)
+meant_grows n (steps.OpenOn k) fit = search (rules, after, tells)
+meant_grows n (steps.OpenVirtual k) fit = search (rules, after, tells)
+meant_grows n (steps.Pay k) fit = search (rules, after, tells)
 meant_grows n (steps.Close who channel) fit = search (rules, after, tells)
 meant_grows n (steps.Exit who) fit = tells n _ _
 meant_grows n (steps.Rounds count) fit = plays n count

@@ -21,7 +21,7 @@ fn signer_for(step: &Step, signers: &mut VecDeque<Signer>) -> Option<Signer>
         → (result ≡ signer_of step.now) × (signers.new.items ≡ later) }
 {
     match step {
-        Step::Person { .. } => signers.pop_front(),
+        Step::Person(_) => signers.pop_front(),
         _ => None,
     }
 }

@@ -1,18 +1,20 @@
 -- What a step means in a race fits it, and declares at most one person.
-use Rattle.std.proofs.Common.{◌≡◌, ℕ, zero, suc, true, false, length, refl, ◌∙◌, ap, arith, rules}
-use Rattle.std.specs.Prelude.{Option, Some, None, unwrap_or}
+use Rattle.std.proofs.Common.{◌≡◌, ◌≤◌, ◌+◌, ℕ, zero, suc, true, false, length, refl, ◌∙◌, ap, arith, rules}
+use Rattle.std.specs.Prelude.{Bool, Option, Some, None, unwrap_or}
 use Rattle.network.specs.Ways.{Ways}
 use Rattle.script_race.specs.Races.{RaceOf, RunsRounds, FitsRace, Does}
-use Rattle.step_meanings.specs.Meanings.{Meaning, learning, meant, meaning}
+use Rattle.step_meanings.specs.Meanings.{Meaning, learning, joins_if, meant, meaning}
 use Rattle.step_meanings.specs.declared.effect.Effect.{Effect}
 use Rattle.step_meanings.specs.declared.effect.Effect.TheVariants.{Nothing, Enter, Join, Tell, Post, Lose, Catch, Rounds}
 use Rattle.step_meanings.specs.declared.names.Names.{Names}
 use Rattle.step_meanings.specs.People.{◌>>=◌}
 use Rattle.script_play.proofs.Kept.{done_people}
-use Rattle.script_play.proofs.Meant.{meaning_grows}
+use Rattle.script_play.proofs.Meant.{is_fresh}
 use Rattle.script_play.specs.Play.{done}
 use Rattle.script_steps.specs.Bounds.{Fits}
 use Rattle.script_steps.specs.Conditions.{runs_in_race}
+use Rattle.script_steps.specs.Digests.{fresh}
+use Rattle.script_steps.specs.declared.step.PersonStep.{PersonStep}
 use Rattle.script_steps.specs.declared.step.Step.{Step}
 use Rattle.script_steps.specs.declared.step.Step.TheVariants as steps
 
@@ -28,27 +30,33 @@ whole : (n : Names) (o : Option Meaning) → FitsIf o → FitsRace (unwrap_or o 
 whole n None g = tt
 whole n (Some m) g = g
 
+person_fits : (n : Names) (k : PersonStep) → Fits (steps.Person k) → FitsRace (meaning n (steps.Person k)).effect
+person_fits n k fit = by k.node fit.2
+  where
+    by : (node : Bool) → (node ≡ true → 1 ≤ k.watchers) → FitsRace (joins_if node (length n.people + 1) (fresh k.seed k.h) k.watchers)
+    by true some = (is_fresh k.seed k.h fit.0, omega (arith, some refl), omega (arith, fit.1))
+    by false some = tt
+
 meant_fits : (n : Names) (step : Step) → Fits step → runs_in_race step ≡ true → FitsIf (meant n step)
-meant_fits n (steps.Deposit channel asset expected amount) fit may = search (rules, after)
+meant_fits n (steps.Deposit k) fit may = search (rules, after)
 meant_fits n (steps.Time to) fit may = absurd (cc)
-meant_fits n (steps.Person name seed h true watchers) fit may = ((meaning_grows n (steps.Person name seed h true watchers) fit).fits, omega (arith, fit.2 refl), omega (arith, fit.1))
-meant_fits n (steps.Person name seed h false watchers) fit may = tt
-meant_fits n (steps.Channel name people nonce app duration) fit may = search (rules, after)
-meant_fits n (steps.Sign name channel by turn is_final items votes proposal) fit may = search (rules, after)
-meant_fits n (steps.Catch name from channel turn) fit may = search (rules, after)
+meant_fits n (steps.Person k) fit may = person_fits n k fit
+meant_fits n (steps.Channel k) fit may = search (rules, after)
+meant_fits n (steps.Sign k) fit may = search (rules, after)
+meant_fits n (steps.Catch k) fit may = search (rules, after)
 meant_fits n (steps.Send to state) fit may = search (rules, after)
 meant_fits n (steps.Drop to) fit may = search (rules, after)
-meant_fits n (steps.Challenge channel chain by) fit may = search (rules, after)
-meant_fits n (steps.Respond channel from next) fit may = search (rules, after)
+meant_fits n (steps.Challenge k) fit may = search (rules, after)
+meant_fits n (steps.Respond k) fit may = search (rules, after)
 meant_fits n (steps.Refute channel next) fit may = search (rules, after)
 meant_fits n (steps.Checkpoint channel chain) fit may = search (rules, after)
 meant_fits n (steps.Conclude channel chain) fit may = search (rules, after)
-meant_fits n (steps.Transfer channel state asset index) fit may = search (rules, after)
-meant_fits n (steps.Claim guarantor promise target ending asset position) fit may = search (rules, after)
-meant_fits n (steps.Open who channel opening) fit may = search (rules, after)
-meant_fits n (steps.OpenOn who ledger channel asset amounts) fit may = search (rules, after)
-meant_fits n (steps.OpenVirtual who route ledgers guarantors joint channel asset amounts) fit may = search (rules, after)
-meant_fits n (steps.Pay who channel asset amount) fit may = search (rules, after)
+meant_fits n (steps.Transfer k) fit may = search (rules, after)
+meant_fits n (steps.Claim k) fit may = search (rules, after)
+meant_fits n (steps.Open k) fit may = search (rules, after)
+meant_fits n (steps.OpenOn k) fit may = search (rules, after)
+meant_fits n (steps.OpenVirtual k) fit may = search (rules, after)
+meant_fits n (steps.Pay k) fit may = search (rules, after)
 meant_fits n (steps.Close who channel) fit may = search (rules, after)
 meant_fits n (steps.Exit who) fit may = tt
 meant_fits n (steps.Rounds count) fit may = tt

@@ -123,38 +123,38 @@ module _ (n : Names) (last : AllLast n.channels) where
   not_one duration e is = let yes = eq-eqb duration 1 is in absurd (cc)
 
   step_good : (s : Step) → Fits s → runs_in_race s ≡ true → IsGood (meant n s)
-  step_good (steps.Deposit channel asset expected amount) fits race = bind_good (digest_or_digits (fixed_by n.channels channel) channel) _ (λ to e. stays)
+  step_good (steps.Deposit k) fits race = bind_good (digest_or_digits (fixed_by n.channels k.channel) k.channel) _ (λ to e. stays)
   step_good (steps.Time to) fits race = absurd cc
-  step_good (steps.Person name seed h node watchers) fits race = (last, joins node _ _ watchers)
-  step_good (steps.Channel name people nonce app duration) fits race =
-      bind_good (valid_fixed (fixed_with (keys_by n.people people) nonce app duration)) _
-      (λ f e. (one_more name f (λ is. not_one duration race (sym (same_duration (fixed_with (keys_by n.people people) nonce app duration) f fits e) ∙ is)), tt))
-  step_good (steps.Sign name channel by turn is_final items votes proposal) fits race =
-      bind_good (valid_state (state_with turn is_final items (data_of (record { votes = votes; proposal = outcome proposal })))) _ (λ made e. signs name channel by made)
-  step_good (steps.Catch name from channel turn) fits race = bind_good (person_by n.people from) _ (λ p e. bind_good (fixed_by n.channels channel) _ (λ f d. stays))
+  step_good (steps.Person k) fits race = (last, joins k.node _ _ k.watchers)
+  step_good (steps.Channel k) fits race =
+      bind_good (valid_fixed (fixed_with (keys_by n.people k.people) k.nonce k.app k.duration)) _
+      (λ f e. (one_more k.name f (λ is. not_one k.duration race (sym (same_duration (fixed_with (keys_by n.people k.people) k.nonce k.app k.duration) f fits e) ∙ is)), tt))
+  step_good (steps.Sign k) fits race =
+      bind_good (valid_state (state_with k.turn k.is_final k.outcome (data_of (record { votes = k.votes; proposal = outcome k.proposal })))) _ (λ made e. signs k.name k.channel k.by made)
+  step_good (steps.Catch k) fits race = bind_good (person_by n.people k.from) _ (λ p e. bind_good (fixed_by n.channels k.channel) _ (λ f d. stays))
   step_good (steps.Send to state) fits race = bind_good (person_by n.people to) _ (λ p e. bind_good (message_by n.states state) _ (λ bytes d. stays))
   step_good (steps.Drop to) fits race = bind_good (person_by n.people to) _ (λ p e. stays)
-  step_good (steps.Challenge channel chain by) fits race =
-      bind_good (fixed_by n.channels channel) _ (λ f e. bind_good (key_by n.people by) _
-      (λ key d. bind_good (sign_challenge n.people by f (listed n.states chain) (position_of f.keys key)) _ (λ signed c. stays)))
-  step_good (steps.Respond channel from next) fits race =
-      bind_good (fixed_by n.channels channel) _ (λ f e. bind_good (state_by n.states from) _ (λ before d. bind_good (state_by n.states next) _ (λ answer c. stays)))
+  step_good (steps.Challenge k) fits race =
+      bind_good (fixed_by n.channels k.channel) _ (λ f e. bind_good (key_by n.people k.by) _
+      (λ key d. bind_good (sign_challenge n.people k.by f (listed n.states k.chain) (position_of f.keys key)) _ (λ signed c. stays)))
+  step_good (steps.Respond k) fits race =
+      bind_good (fixed_by n.channels k.channel) _ (λ f e. bind_good (state_by n.states k.from) _ (λ before d. bind_good (state_by n.states k.state) _ (λ answer c. stays)))
   step_good (steps.Refute channel next) fits race = bind_good (fixed_by n.channels channel) _ (λ f e. bind_good (state_by n.states next) _ (λ answer d. stays))
   step_good (steps.Checkpoint channel chain) fits race = bind_good (fixed_by n.channels channel) _ (λ f e. stays)
   step_good (steps.Conclude channel chain) fits race = bind_good (fixed_by n.channels channel) _ (λ f e. stays)
-  step_good (steps.Transfer channel state asset index) fits race = bind_good (fixed_by n.channels channel) _ (λ f e. bind_good (state_by n.states state) _ (λ ending d. stays))
-  step_good (steps.Claim guarantor promise target ending asset position) fits race =
-      bind_good (fixed_by n.channels guarantor) _ (λ payer e. bind_good (state_by n.states promise) _ (λ promised d.
-      bind_good (fixed_by n.channels target) _ (λ f c. bind_good (state_by n.states ending) _ (λ ended b. stays))))
-  step_good (steps.Open who channel opening) fits race = bind_good (fixed_by n.channels channel) _ (λ f e. (last, λ g i. one f g (named_lasts channel f e) i))
-  step_good (steps.OpenOn who ledger channel asset amounts) fits race =
-      bind_good (fixed_by n.channels ledger) _ (λ on d. bind_good (fixed_by n.channels channel) _ (λ f e. (last, λ g i. one f g (named_lasts channel f e) i)))
-  step_good (steps.OpenVirtual who route ledgers guarantors joint channel asset amounts) fits race =
-      bind_good (names_by n.channels ledgers) _ (λ on a. bind_good (both_by n.channels guarantors) _ (λ by b.
-      bind_good (fixed_by n.channels joint) _ (λ j c. bind_good (fixed_by n.channels channel) _ (λ f d.
-      let two = both_last guarantors by b in
-      (last, λ g i. four by.0 by.1 j f g two.0 two.1 (named_lasts joint j c) (named_lasts channel f d) i)))))
-  step_good (steps.Pay who channel asset amount) fits race = bind_good (fixed_by n.channels channel) _ (λ f e. (last, λ g i. absurd i))
+  step_good (steps.Transfer k) fits race = bind_good (fixed_by n.channels k.channel) _ (λ f e. bind_good (state_by n.states k.state) _ (λ ending d. stays))
+  step_good (steps.Claim k) fits race =
+      bind_good (fixed_by n.channels k.guarantor) _ (λ payer e. bind_good (state_by n.states k.state) _ (λ promised d.
+      bind_good (fixed_by n.channels k.target) _ (λ f c. bind_good (state_by n.states k.target_state) _ (λ ended b. stays))))
+  step_good (steps.Open k) fits race = bind_good (fixed_by n.channels k.channel) _ (λ f e. (last, λ g i. one f g (named_lasts k.channel f e) i))
+  step_good (steps.OpenOn k) fits race =
+      bind_good (fixed_by n.channels k.ledger) _ (λ on d. bind_good (fixed_by n.channels k.channel) _ (λ f e. (last, λ g i. one f g (named_lasts k.channel f e) i)))
+  step_good (steps.OpenVirtual k) fits race =
+      bind_good (names_by n.channels k.ledgers) _ (λ on a. bind_good (both_by n.channels k.guarantors) _ (λ by b.
+      bind_good (fixed_by n.channels k.joint) _ (λ j c. bind_good (fixed_by n.channels k.channel) _ (λ f d.
+      let two = both_last k.guarantors by b in
+      (last, λ g i. four by.0 by.1 j f g two.0 two.1 (named_lasts k.joint j c) (named_lasts k.channel f d) i)))))
+  step_good (steps.Pay k) fits race = bind_good (fixed_by n.channels k.channel) _ (λ f e. (last, λ g i. absurd i))
   step_good (steps.Close who channel) fits race = bind_good (fixed_by n.channels channel) _ (λ f e. (last, λ g i. absurd i))
   step_good (steps.Exit who) fits race = (last, λ g i. absurd i)
   step_good (steps.Rounds count) fits race = stays

@@ -1,11 +1,10 @@
 -- A driver of a race: what its parts stand for, and what is true of it between two calls.
-use Rattle.std.specs.Prelude.{◌≡◌, Bool, false, List, map}
+use Rattle.std.specs.Prelude.{◌≡◌, Bool, false, List}
 use Rattle.call_history.specs.History.{newest_first, now_of}
 use Rattle.call_history.specs.declared.call.Op.{Op}
 use Rattle.call_history.specs.declared.entry.Entry.{Entry}
 use Rattle.shared_object.specs.Caller.{Caller, IsCaller, whole}
-use Rattle.network_rounds.specs.Views.{player_of}
-use Rattle.network_rounds.specs.declared.cast.Cast.{Cast}
+use Rattle.network_rounds.specs.Views.{players}
 use Rattle.network.specs.Ways.{Ways}
 use Rattle.network.specs.Members.{MemberOf}
 use Rattle.network.specs.Worlds.{WorldOf}
@@ -44,11 +43,11 @@ pub record KeepRaces {P : Type 0} (ways : Ways P) (stands : List Entry → P →
 
 module _ {P D : Type 0} {V : D → Type 0} where
   -- what the parts of a race stand for, by whether an actor tells what it has answered, and what it tells
-  abbrev pub race_of : (tells : Cast D V → Bool) (told : Cast D V → List Act) → Race P D V → RaceOf P
+  abbrev pub race_of : (tells : (d : D) × V d → Bool) (told : (d : D) × V d → List Act) → Race P D V → RaceOf P
   race_of tells told r =
       record {
         scene = record { names = r.names; world = world_of r.seat.seen r.crew.nodes.items; post = r.crew.post.items; rounds = r.rounds };
-        cast = map (player_of tells told) r.crew.cast.items;
+        cast = players tells told r.crew.cast.items;
       }
 
   -- The driver has the whole of its book, and knows the time.
@@ -58,7 +57,7 @@ module _ {P D : Type 0} {V : D → Type 0} where
     pub sound : IsCaller r.seat
     pub now : r.now ≡ now_of (newest_first r.seat.seen)
 
-  module _ (tells : Cast D V → Bool) (told : Cast D V → List Act) where
+  module _ (tells : (d : D) × V d → Bool) (told : (d : D) × V d → List Act) where
     -- its crew races
     abbrev pub Racing : Ways P → (stands : List Entry → P → Type 0) → (lost : P → Bool) → Race P D V → Type 0
     Racing ways stands lost r = IsRacing ways stands lost (stage_of (race_of tells told r))

@@ -1,8 +1,8 @@
 //! The report of a race.
 
-ghost use Rattle.std.specs.Prelude.{◌≡◌, ◌≤◌, [], true, All, IfOk, length, map};
+ghost use Rattle.std.specs.Prelude.{◌≡◌, ◌≤◌, [], true, All, IfOk, length};
 ghost use Rattle.call_history.specs.History.{Legal, newest_first};
-ghost use Rattle.network_rounds.specs.Views.{player_of};
+ghost use Rattle.network_rounds.specs.Views.{players};
 ghost use Rattle.network_rounds.specs.Journals.{WritesJournals};
 ghost use Rattle.script_steps.specs.Bounds.{Fits, persons_of, signers_of};
 ghost use Rattle.script_steps.specs.Conditions.{runs_in_race};
@@ -40,8 +40,7 @@ pub fn report_race<R: Threads + Wait + Sync, P: ReportedNode + Send>(
     requires timely { RacersAreInTime P.ways P.stands }
     // The report is that of a race, and it keeps its promises to each person with a node.
     ensures raced { IfOk result (λ report.
-        IsOfRace P.ways (map (player_of (λ c. tells (c.actor.vtable, c.actor.value)) (λ c.
-        told (c.actor.vtable, c.actor.value))) cast.items) report steps.now) }
+        IsOfRace P.ways (players tells told cast.items) report steps.now) }
 
     // Each reply of the history is the sequential adjudicator's at its place.
     ensures legal { IfOk result (λ report. Legal real (newest_first report.history)) }

@@ -1,13 +1,13 @@
 //! What a race has come to, and what is done in it.
 
-ghost use Rattle.std.specs.Prelude.{◌≡◌, ◌≤◌, ◌+◌, ◌++◌, ◌∷◌, [], true, not, length, map, fold, filter, OnOk, IfOk};
+ghost use Rattle.std.specs.Prelude.{◌≡◌, ◌≤◌, ◌+◌, ◌++◌, ◌∷◌, [], true, not, length, fold, filter, OnOk, IfOk};
 ghost use Rattle.std.specs.Str.{bytes_eq};
 ghost use Rattle.call_history.specs.History.{newest_first};
 ghost use Rattle.channel_safety.specs.Journals.{In};
 ghost use Rattle.network.specs.Histories.{IsFresh};
 ghost use Rattle.network.specs.Members.{MemberOf};
 ghost use Rattle.network.specs.Worlds.{happened, joined, journal};
-ghost use Rattle.network_rounds.specs.Views.{player_of};
+ghost use Rattle.network_rounds.specs.Views.{players};
 ghost use Rattle.script_steps.specs.Conditions.{signer_of, runs_in_race};
 ghost use Rattle.script_steps.specs.Bounds.{Fits, persons};
 ghost use Rattle.step_meanings.specs.Meanings.{meaning};
@@ -64,10 +64,7 @@ impl<P: Party + Send> Race<P> {
     /// Nothing is declared, and nothing happened.
     pub fn make(alloc: Global, cast: Vec<Cast>) -> Result<Race<P>, RoundFault>
         ensures seated { IfOk result (λ r. IsSeated r) }
-        ensures starts { IfOk result (λ r.
-            race_of (λ c. tells (c.actor.vtable, c.actor.value)) (λ c. told (c.actor.vtable, c.actor.value)) r
-            ≡ starting (map (player_of (λ c. tells (c.actor.vtable, c.actor.value)) (λ c.
-            told (c.actor.vtable, c.actor.value))) cast.items)) }
+        ensures starts { IfOk result (λ r. race_of tells told r ≡ starting (players tells told cast.items)) }
     {
         let Ok((book, seat)) = Book::make(alloc, Adjudicator::make(alloc)) else {
             return Err(RoundFault::NoMemory);
@@ -89,12 +86,9 @@ impl<P: Party + Send> Race<P> {
     /// A round, and then the time of now + 1.
     fn round<R: Threads + Wait + Sync>(&mut self, rt: &R) -> Result<(), RoundFault>
         requires seated { IsSeated self.old }
-        requires racing { Racing (λ c. tells (c.actor.vtable, c.actor.value)) (λ c.
-            told (c.actor.vtable, c.actor.value)) P.ways P.stands P.lost self.old }
+        requires racing { Racing tells told P.ways P.stands P.lost self.old }
         requires keep { KeepRaces P.ways P.stands P.lost }
-        ensures ran { OnOk result (RunsRound P.ways (race_of (λ c. tells (c.actor.vtable, c.actor.value)) (λ c.
-            told (c.actor.vtable, c.actor.value)) self.old) (race_of (λ c.
-            tells (c.actor.vtable, c.actor.value)) (λ c. told (c.actor.vtable, c.actor.value)) self.new)) }
+        ensures ran { OnOk result (RunsRound P.ways (race_of tells told self.old) (race_of tells told self.new)) }
         ensures seated { OnOk result (IsSeated self.new) }
     {
         let alloc = self.names.alloc();
@@ -119,13 +113,10 @@ impl<P: Party + Send> Race<P> {
         count: u64,
     ) -> Result<(), RoundFault>
         requires seated { IsSeated self.old }
-        requires racing { Racing (λ c. tells (c.actor.vtable, c.actor.value)) (λ c.
-            told (c.actor.vtable, c.actor.value)) P.ways P.stands P.lost self.old }
+        requires racing { Racing tells told P.ways P.stands P.lost self.old }
         requires keep { KeepRaces P.ways P.stands P.lost }
-        ensures ran { OnOk result (RunsRounds P.ways count (race_of (λ c.
-            tells (c.actor.vtable, c.actor.value)) (λ c. told (c.actor.vtable, c.actor.value)) self.old)
-            (race_of (λ c. tells (c.actor.vtable, c.actor.value)) (λ c.
-            told (c.actor.vtable, c.actor.value)) self.new)) }
+        ensures ran { OnOk result
+            (RunsRounds P.ways count (race_of tells told self.old) (race_of tells told self.new)) }
         ensures seated { OnOk result (IsSeated self.new) }
     {
         for round in 0..count {
@@ -145,9 +136,8 @@ impl<P: Party + Send> Race<P> {
         requires seated { IsSeated self.old }
         requires followed { (m : MemberOf P) → In m self.old.crew.nodes.items → P.ways.seen m.node
             ≤ length self.old.seat.seen }
-        ensures turns { OnOk result (Turns (λ c. tells (c.actor.vtable, c.actor.value)) (λ c.
-            told (c.actor.vtable, c.actor.value)) (λ s.
-            plays.told P.ways step order.now s number.now) self.old self.new) }
+        ensures turns { OnOk result
+            (Turns tells told (λ s. plays.told P.ways step order.now s number.now) self.old self.new) }
         ensures seated { OnOk result (IsSeated self.new) }
     {
         let number = *number;
@@ -179,12 +169,10 @@ impl<P: Party + Send> Race<P> {
         order: &Command,
     ) -> Result<(), RoundFault>
         requires seated { IsSeated self.old }
-        requires racing { Racing (λ c. tells (c.actor.vtable, c.actor.value)) (λ c.
-            told (c.actor.vtable, c.actor.value)) P.ways P.stands P.lost self.old }
+        requires racing { Racing tells told P.ways P.stands P.lost self.old }
         requires keep { KeepRaces P.ways P.stands P.lost }
-        ensures turns { OnOk result (Turns (λ c. tells (c.actor.vtable, c.actor.value)) (λ c.
-            told (c.actor.vtable, c.actor.value)) (λ s.
-            fold (plays.told P.ways step order.now) s numbers.now) self.old self.new) }
+        ensures turns { OnOk result
+            (Turns tells told (λ s. fold (plays.told P.ways step order.now) s numbers.now) self.old self.new) }
         ensures seated { OnOk result (IsSeated self.new) }
     {
         for number in numbers {
@@ -203,11 +191,9 @@ impl<P: Party + Send> Race<P> {
         turn: u64,
     ) -> Result<(), RoundFault>
         requires seated { IsSeated self.old }
-        ensures turns { OnOk result (Turns (λ c. tells (c.actor.vtable, c.actor.value)) (λ c.
-            told (c.actor.vtable, c.actor.value)) (λ s.
-            record s {
-              names = naming s.names name key channel
-                  (caught channel turn (journal P.ways s.world number));
+        ensures turns { OnOk result (Turns tells told
+            (λ s. record s {
+              names = naming s.names name key channel (caught channel turn (journal P.ways s.world number));
             }) self.old self.new) }
         ensures seated { OnOk result (IsSeated self.new) }
     {
@@ -219,9 +205,8 @@ impl<P: Party + Send> Race<P> {
     fn join(&mut self, number: u32, signer: Signer, watchers: u32) -> Result<(), RoundFault>
         requires fresh { IsFresh signer }
         requires seated { IsSeated self.old }
-        ensures turns { OnOk result (Turns (λ c. tells (c.actor.vtable, c.actor.value)) (λ c.
-            told (c.actor.vtable, c.actor.value)) (λ s.
-            record s { world = joined P.ways number signer watchers s.world }) self.old self.new) }
+        ensures turns { OnOk result (Turns tells told
+            (λ s. record s { world = joined P.ways number signer watchers s.world }) self.old self.new) }
         ensures seated { OnOk result (IsSeated self.new) }
     {
         let member = Member::make(self.names.alloc(), number, signer, watchers)?;
@@ -232,9 +217,8 @@ impl<P: Party + Send> Race<P> {
     fn enter<R: Threads + Wait + Sync>(&mut self, rt: &R, op: Op) -> Result<(), RoundFault>
         requires fits { FitsRace (effects.Enter op) }
         requires seated { IsSeated self.old }
-        ensures turns { OnOk result (Turns (λ c. tells (c.actor.vtable, c.actor.value)) (λ c.
-            told (c.actor.vtable, c.actor.value)) (λ s.
-            record s { world = happened P.ways (entering op) s.world }) self.old self.new) }
+        ensures turns { OnOk result
+            (Turns tells told (λ s. record s { world = happened P.ways (entering op) s.world }) self.old self.new) }
         ensures seated { OnOk result (IsSeated self.new) }
     {
         enter(rt, self.names.alloc(), &self.book, &mut self.seat, op)?;
@@ -248,14 +232,11 @@ impl<P: Party + Send> Race<P> {
         effect: Effect,
     ) -> Result<(), RoundFault>
         requires seated { IsSeated self.old }
-        requires racing { Racing (λ c. tells (c.actor.vtable, c.actor.value)) (λ c.
-            told (c.actor.vtable, c.actor.value)) P.ways P.stands P.lost self.old }
+        requires racing { Racing tells told P.ways P.stands P.lost self.old }
         requires keep { KeepRaces P.ways P.stands P.lost }
         requires fits { FitsRace effect }
-        ensures does { OnOk result (Does P.ways step effect (race_of (λ c.
-            tells (c.actor.vtable, c.actor.value)) (λ c. told (c.actor.vtable, c.actor.value)) self.old)
-            (race_of (λ c. tells (c.actor.vtable, c.actor.value)) (λ c.
-            told (c.actor.vtable, c.actor.value)) self.new)) }
+        ensures does { OnOk result
+            (Does P.ways step effect (race_of tells told self.old) (race_of tells told self.new)) }
         ensures seated { OnOk result (IsSeated self.new) }
     {
         match effect {
@@ -274,9 +255,8 @@ impl<P: Party + Send> Race<P> {
 
     fn send(&mut self, to: Name, bytes: Listed<u8>) -> Result<(), RoundFault>
         requires seated { IsSeated self.old }
-        ensures turns { OnOk result (Turns (λ c. tells (c.actor.vtable, c.actor.value)) (λ c.
-            told (c.actor.vtable, c.actor.value)) (λ s.
-            record s { post = s.post ++ (to, bytes) ∷ [] }) self.old self.new) }
+        ensures turns { OnOk result
+            (Turns tells told (λ s. record s { post = s.post ++ (to, bytes) ∷ [] }) self.old self.new) }
         ensures seated { OnOk result (IsSeated self.new) }
     {
         self.crew.post.push((to, bytes))?;
@@ -286,9 +266,8 @@ impl<P: Party + Send> Race<P> {
     /// The messages on their way to a person are lost.
     fn lose(&mut self, to: &Name) -> Result<(), RoundFault>
         requires seated { IsSeated self.old }
-        ensures turns { OnOk result (Turns (λ c. tells (c.actor.vtable, c.actor.value)) (λ c.
-            told (c.actor.vtable, c.actor.value)) (λ s.
-            record s { post = filter (λ letter. not (bytes_eq letter.0 to.now)) s.post }) self.old self.new) }
+        ensures turns { OnOk result (Turns tells told
+            (λ s. record s { post = filter (λ letter. not (bytes_eq letter.0 to.now)) s.post }) self.old self.new) }
         ensures seated { OnOk result (IsSeated self.new) }
     {
         self.crew.post = without(self.names.alloc(), self.crew.post.as_slice(), to)?;
@@ -298,11 +277,9 @@ impl<P: Party + Send> Race<P> {
     /// Each node sees what the driver has seen.
     pub(crate) fn see_all<R: Wait>(&mut self, rt: &R) -> Result<(), RoundFault>
         requires seated { IsSeated self.old }
-        requires racing { Racing (λ c. tells (c.actor.vtable, c.actor.value)) (λ c.
-            told (c.actor.vtable, c.actor.value)) P.ways P.stands P.lost self.old }
+        requires racing { Racing tells told P.ways P.stands P.lost self.old }
         requires keep { KeepRaces P.ways P.stands P.lost }
-        ensures turns { OnOk result (Turns (λ c. tells (c.actor.vtable, c.actor.value)) (λ c.
-            told (c.actor.vtable, c.actor.value)) (λ s. at_end P.ways s) self.old self.new) }
+        ensures turns { OnOk result (Turns tells told (at_end P.ways) self.old self.new) }
         ensures seated { OnOk result (IsSeated self.new) }
     {
         let alloc = self.names.alloc();
@@ -331,13 +308,10 @@ impl<P: Party + Send> Race<P> {
         requires may_race { runs_in_race step.now ≡ true }
         requires few { length self.old.names.people + persons step.now ≤ 16 }
         requires seated { IsSeated self.old }
-        requires racing { Racing (λ c. tells (c.actor.vtable, c.actor.value)) (λ c.
-            told (c.actor.vtable, c.actor.value)) P.ways P.stands P.lost self.old }
+        requires racing { Racing tells told P.ways P.stands P.lost self.old }
         requires keep { KeepRaces P.ways P.stands P.lost }
-        ensures does { OnOk result (DoesAs P.ways number (meaning self.old.names step.now) (race_of (λ c.
-            tells (c.actor.vtable, c.actor.value)) (λ c. told (c.actor.vtable, c.actor.value)) self.old)
-            (race_of (λ c. tells (c.actor.vtable, c.actor.value)) (λ c.
-            told (c.actor.vtable, c.actor.value)) self.new)) }
+        ensures does { OnOk result (DoesAs P.ways number (meaning self.old.names step.now)
+            (race_of tells told self.old) (race_of tells told self.new)) }
         ensures seated { OnOk result (IsSeated self.new) }
         ensures people { OnOk result (length self.new.names.people ≤ length self.old.names.people + persons step.now) }
     {
@@ -348,8 +322,7 @@ impl<P: Party + Send> Race<P> {
 
     /// The nodes with their watchers.
     pub fn members(&self) -> &[Member<P>]
-        ensures { result.now ≡ (race_of (λ c. tells (c.actor.vtable, c.actor.value)) (λ c.
-            told (c.actor.vtable, c.actor.value)) self.entry.now).scene.world.members }
+        ensures { result.now ≡ (race_of tells told self.entry.now).scene.world.members }
     {
         self.crew.nodes.as_slice()
     }
@@ -358,16 +331,10 @@ impl<P: Party + Send> Race<P> {
     /// nodes with their watchers.
     pub fn into_parts(self) -> (Names, Listed<u32>, Vec<Entry>, Vec<Member<P>>)
         requires seated { IsSeated self }
-        ensures names { result.0 ≡ (race_of (λ c. tells (c.actor.vtable, c.actor.value)) (λ c.
-            told (c.actor.vtable, c.actor.value)) self).scene.names }
-        ensures rounds { result.1 ≡ (race_of (λ c. tells (c.actor.vtable, c.actor.value)) (λ c.
-            told (c.actor.vtable, c.actor.value)) self).scene.rounds }
-        ensures history { newest_first result.2.items
-            ≡ (race_of (λ c. tells (c.actor.vtable, c.actor.value)) (λ c.
-            told (c.actor.vtable, c.actor.value)) self).scene.world.history }
-        ensures members { result.3.items
-            ≡ (race_of (λ c. tells (c.actor.vtable, c.actor.value)) (λ c.
-            told (c.actor.vtable, c.actor.value)) self).scene.world.members }
+        ensures names { result.0 ≡ (race_of tells told self).scene.names }
+        ensures rounds { result.1 ≡ (race_of tells told self).scene.rounds }
+        ensures history { newest_first result.2.items ≡ (race_of tells told self).scene.world.history }
+        ensures members { result.3.items ≡ (race_of tells told self).scene.world.members }
     {
         let Race {
             names,

@@ -1,8 +1,8 @@
 //! Plays the steps of a script in a race.
 
-ghost use Rattle.std.specs.Prelude.{◌≡◌, ◌≤◌, [], List, length, map, IfOk, All, true};
+ghost use Rattle.std.specs.Prelude.{◌≡◌, ◌≤◌, [], List, length, IfOk, All, true};
 ghost use Rattle.std.specs.List.{cons_option};
-ghost use Rattle.network_rounds.specs.Views.{player_of};
+ghost use Rattle.network_rounds.specs.Views.{players};
 ghost use Rattle.lms_signatures.specs.Signing.{Signing};
 ghost use Rattle.script_steps.specs.Bounds.{Fits, persons_of, signers_of};
 ghost use Rattle.script_steps.specs.Conditions.{signer_of, runs_in_race};
@@ -25,7 +25,7 @@ fn signer_for(step: &Step, signers: &mut VecDeque<Signer>) -> Option<Signer>
         → (result ≡ signer_of step.now) × (signers.new.items ≡ later) }
 {
     match step {
-        Step::Person { .. } => signers.pop_front(),
+        Step::Person(_) => signers.pop_front(),
         _ => None,
     }
 }
@@ -47,13 +47,9 @@ pub fn race<R: Threads + Wait + Sync, P: Party + Send>(
     requires keep { KeepRaces P.ways P.stands P.lost }
     requires unseen { All (λ c. c.notes.entries.items ≡ []) cast.items }
     ensures raced { IfOk result (λ r.
-        IsRaceOf P.ways steps.now (map (player_of (λ c. tells (c.actor.vtable, c.actor.value)) (λ c.
-        told (c.actor.vtable, c.actor.value))) cast.items) (race_of (λ c.
-        tells (c.actor.vtable, c.actor.value)) (λ c. told (c.actor.vtable, c.actor.value)) r)) }
+        IsRaceOf P.ways steps.now (players tells told cast.items) (race_of tells told r)) }
     ensures seated { IfOk result (λ r. IsSeated r) }
-    ensures racing { IfOk result (λ r.
-        Racing (λ c. tells (c.actor.vtable, c.actor.value)) (λ c.
-        told (c.actor.vtable, c.actor.value)) P.ways P.stands P.lost r) }
+    ensures racing { IfOk result (λ r. Racing tells told P.ways P.stands P.lost r) }
 {
     let mut race = Race::make(alloc, cast)?;
     let mut signers = VecDeque::from(signers);

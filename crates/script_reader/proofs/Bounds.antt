@@ -34,33 +34,33 @@ pair_fits : (a b : ℕ) → nat_lt a (2 ^ 32) && nat_lt b (2 ^ 8) ≡ true → (
 pair_fits a b e = let p = both (nat_lt a (2 ^ 32)) (nat_lt b (2 ^ 8)) e in (ltb-true a (2 ^ 32) p.0, ltb-true b (2 ^ 8) p.1)
 
 step_fits : (c : Context) (s : Step) → fits c s ≡ true → Fits s
-step_fits c (steps.Deposit channel asset expected amount) e = ltb-true asset (2 ^ 32) e
+step_fits c (steps.Deposit k) e = ltb-true k.asset (2 ^ 32) e
 step_fits c (steps.Time to) e = tt
-step_fits c (steps.Person name seed h node watchers) e = able_fits h node watchers ((both (is_able h node watchers) (nat_lt (length c.people) 16) e).0)
-step_fits c (steps.Channel name people nonce app duration) e =
-    let p = both (within (length people) 2 4 && (not (app == 1) || length people == 2) && within duration 1 4294967295) (nat_lt (length c.channels) 64) e in
-    let q = both (within (length people) 2 4 && (not (app == 1) || length people == 2)) (within duration 1 4294967295) p.0 in
-    let d = leb-true duration 4294967295 ((both (nat_le 1 duration) (nat_le duration 4294967295) q.1).1) in
+step_fits c (steps.Person k) e = able_fits k.h k.node k.watchers ((both (is_able k.h k.node k.watchers) (nat_lt (length c.people) 16) e).0)
+step_fits c (steps.Channel k) e =
+    let p = both (within (length k.people) 2 4 && (not (k.app == 1) || length k.people == 2) && within k.duration 1 4294967295) (nat_lt (length c.channels) 64) e in
+    let q = both (within (length k.people) 2 4 && (not (k.app == 1) || length k.people == 2)) (within k.duration 1 4294967295) p.0 in
+    let d = leb-true k.duration 4294967295 ((both (nat_le 1 k.duration) (nat_le k.duration 4294967295) q.1).1) in
     omega (arith, d)
-step_fits c (steps.Sign name channel by turn is_final outcome votes proposal) e =
-    let p = both (nat_lt turn (2 ^ 48) && nat_le votes 3 && (not (votes == 0) || length proposal == 0)) (has_index c by) e in
-    let q = both (nat_lt turn (2 ^ 48) && nat_le votes 3) (not (votes == 0) || length proposal == 0) p.0 in
-    leb-true votes 3 ((both (nat_lt turn (2 ^ 48)) (nat_le votes 3) q.0).1)
-step_fits c (steps.Catch name from channel turn) e = tt
+step_fits c (steps.Sign k) e =
+    let p = both (nat_lt k.turn (2 ^ 48) && nat_le k.votes 3 && (not (k.votes == 0) || length k.proposal == 0)) (has_index c k.by) e in
+    let q = both (nat_lt k.turn (2 ^ 48) && nat_le k.votes 3) (not (k.votes == 0) || length k.proposal == 0) p.0 in
+    leb-true k.votes 3 ((both (nat_lt k.turn (2 ^ 48)) (nat_le k.votes 3) q.0).1)
+step_fits c (steps.Catch k) e = tt
 step_fits c (steps.Send to state) e = tt
 step_fits c (steps.Drop to) e = tt
-step_fits c (steps.Challenge channel chain by) e = leb-true (length chain) 4 ((both (nat_le (length chain) 4) (has_index c by) e).0)
-step_fits c (steps.Respond channel from state) e = tt
+step_fits c (steps.Challenge k) e = leb-true (length k.chain) 4 ((both (nat_le (length k.chain) 4) (has_index c k.by) e).0)
+step_fits c (steps.Respond k) e = tt
 step_fits c (steps.Refute channel state) e = tt
 step_fits c (steps.Checkpoint channel chain) e = leb-true (length chain) 4 e
 step_fits c (steps.Conclude channel chain) e = leb-true (length chain) 4 e
-step_fits c (steps.Transfer channel state asset index) e = pair_fits asset index e
-step_fits c (steps.Claim guarantor state target target_state asset position) e = pair_fits asset position e
-step_fits c (steps.Open who channel outcome) e = tt
-step_fits c (steps.OpenOn who ledger channel asset amounts) e = ltb-true asset (2 ^ 32) e
-step_fits c (steps.OpenVirtual who route ledgers guarantors joint channel asset amounts) e =
-    ltb-true asset (2 ^ 32) ((both (length ledgers == 2 && length guarantors == 2) (nat_lt asset (2 ^ 32)) e).1)
-step_fits c (steps.Pay who channel asset amount) e = ltb-true asset (2 ^ 32) e
+step_fits c (steps.Transfer k) e = pair_fits k.asset k.index e
+step_fits c (steps.Claim k) e = pair_fits k.asset k.position e
+step_fits c (steps.Open k) e = tt
+step_fits c (steps.OpenOn k) e = ltb-true k.asset (2 ^ 32) e
+step_fits c (steps.OpenVirtual k) e =
+    ltb-true k.asset (2 ^ 32) ((both (length k.ledgers == 2 && length k.guarantors == 2) (nat_lt k.asset (2 ^ 32)) e).1)
+step_fits c (steps.Pay k) e = ltb-true k.asset (2 ^ 32) e
 step_fits c (steps.Close who channel) e = tt
 step_fits c (steps.Exit who) e = tt
 step_fits c (steps.Rounds count) e = tt
@@ -77,25 +77,25 @@ in_race false b is e = absurd (cc)
 
 -- a step declares nothing that makes a race of what is none
 same_race : (c : Context) (s : Step) → (after c s).race ≡ c.race
-same_race c (steps.Deposit channel asset expected amount) = refl
+same_race c (steps.Deposit k) = refl
 same_race c (steps.Time to) = refl
-same_race c (steps.Person name seed h node watchers) = refl
-same_race c (steps.Channel name people nonce app duration) = refl
-same_race c (steps.Sign name channel by turn is_final outcome votes proposal) = refl
-same_race c (steps.Catch name from channel turn) = refl
+same_race c (steps.Person k) = refl
+same_race c (steps.Channel k) = refl
+same_race c (steps.Sign k) = refl
+same_race c (steps.Catch k) = refl
 same_race c (steps.Send to state) = refl
 same_race c (steps.Drop to) = refl
-same_race c (steps.Challenge channel chain by) = refl
-same_race c (steps.Respond channel from state) = refl
+same_race c (steps.Challenge k) = refl
+same_race c (steps.Respond k) = refl
 same_race c (steps.Refute channel state) = refl
 same_race c (steps.Checkpoint channel chain) = refl
 same_race c (steps.Conclude channel chain) = refl
-same_race c (steps.Transfer channel state asset index) = refl
-same_race c (steps.Claim guarantor state target target_state asset position) = refl
-same_race c (steps.Open who channel outcome) = refl
-same_race c (steps.OpenOn who ledger channel asset amounts) = refl
-same_race c (steps.OpenVirtual who route ledgers guarantors joint channel asset amounts) = refl
-same_race c (steps.Pay who channel asset amount) = refl
+same_race c (steps.Transfer k) = refl
+same_race c (steps.Claim k) = refl
+same_race c (steps.Open k) = refl
+same_race c (steps.OpenOn k) = refl
+same_race c (steps.OpenVirtual k) = refl
+same_race c (steps.Pay k) = refl
 same_race c (steps.Close who channel) = refl
 same_race c (steps.Exit who) = refl
 same_race c (steps.Rounds count) = refl
@@ -109,51 +109,51 @@ all_may_race c (s ∷ ss) race h =
 -- ---- people
 
 more_people : (c : Context) (s : Step) → length (after c s).people ≡ length c.people + persons s
-more_people c (steps.Deposit channel asset expected amount) = omega arith
+more_people c (steps.Deposit k) = omega arith
 more_people c (steps.Time to) = omega arith
-more_people c (steps.Person name seed h node watchers) = length-append c.people (record { name = name; seed = seed; h = h; node = node; key = key_of seed h; digest = person_name seed h } ∷ [])
-more_people c (steps.Channel name people nonce app duration) = omega arith
-more_people c (steps.Sign name channel by turn is_final outcome votes proposal) = omega arith
-more_people c (steps.Catch name from channel turn) = omega arith
+more_people c (steps.Person k) = length-append c.people (record { name = k.name; seed = k.seed; h = k.h; node = k.node; key = key_of k.seed k.h; digest = person_name k.seed k.h } ∷ [])
+more_people c (steps.Channel k) = omega arith
+more_people c (steps.Sign k) = omega arith
+more_people c (steps.Catch k) = omega arith
 more_people c (steps.Send to state) = omega arith
 more_people c (steps.Drop to) = omega arith
-more_people c (steps.Challenge channel chain by) = omega arith
-more_people c (steps.Respond channel from state) = omega arith
+more_people c (steps.Challenge k) = omega arith
+more_people c (steps.Respond k) = omega arith
 more_people c (steps.Refute channel state) = omega arith
 more_people c (steps.Checkpoint channel chain) = omega arith
 more_people c (steps.Conclude channel chain) = omega arith
-more_people c (steps.Transfer channel state asset index) = omega arith
-more_people c (steps.Claim guarantor state target target_state asset position) = omega arith
-more_people c (steps.Open who channel outcome) = omega arith
-more_people c (steps.OpenOn who ledger channel asset amounts) = omega arith
-more_people c (steps.OpenVirtual who route ledgers guarantors joint channel asset amounts) = omega arith
-more_people c (steps.Pay who channel asset amount) = omega arith
+more_people c (steps.Transfer k) = omega arith
+more_people c (steps.Claim k) = omega arith
+more_people c (steps.Open k) = omega arith
+more_people c (steps.OpenOn k) = omega arith
+more_people c (steps.OpenVirtual k) = omega arith
+more_people c (steps.Pay k) = omega arith
 more_people c (steps.Close who channel) = omega arith
 more_people c (steps.Exit who) = omega arith
 more_people c (steps.Rounds count) = omega arith
 
 room_for_people : (c : Context) (s : Step) → fits c s ≡ true → length c.people ≤ 16 → length (after c s).people ≤ 16
-room_for_people c (steps.Deposit channel asset expected amount) e l = l
+room_for_people c (steps.Deposit k) e l = l
 room_for_people c (steps.Time to) e l = l
-room_for_people c (steps.Person name seed h node watchers) e l =
-    let few = ltb-true (length c.people) 16 ((both (is_able h node watchers) (nat_lt (length c.people) 16) e).1) in
-    omega (arith, few, more_people c (steps.Person name seed h node watchers))
-room_for_people c (steps.Channel name people nonce app duration) e l = l
-room_for_people c (steps.Sign name channel by turn is_final outcome votes proposal) e l = l
-room_for_people c (steps.Catch name from channel turn) e l = l
+room_for_people c (steps.Person k) e l =
+    let few = ltb-true (length c.people) 16 ((both (is_able k.h k.node k.watchers) (nat_lt (length c.people) 16) e).1) in
+    omega (arith, few, more_people c (steps.Person k))
+room_for_people c (steps.Channel k) e l = l
+room_for_people c (steps.Sign k) e l = l
+room_for_people c (steps.Catch k) e l = l
 room_for_people c (steps.Send to state) e l = l
 room_for_people c (steps.Drop to) e l = l
-room_for_people c (steps.Challenge channel chain by) e l = l
-room_for_people c (steps.Respond channel from state) e l = l
+room_for_people c (steps.Challenge k) e l = l
+room_for_people c (steps.Respond k) e l = l
 room_for_people c (steps.Refute channel state) e l = l
 room_for_people c (steps.Checkpoint channel chain) e l = l
 room_for_people c (steps.Conclude channel chain) e l = l
-room_for_people c (steps.Transfer channel state asset index) e l = l
-room_for_people c (steps.Claim guarantor state target target_state asset position) e l = l
-room_for_people c (steps.Open who channel outcome) e l = l
-room_for_people c (steps.OpenOn who ledger channel asset amounts) e l = l
-room_for_people c (steps.OpenVirtual who route ledgers guarantors joint channel asset amounts) e l = l
-room_for_people c (steps.Pay who channel asset amount) e l = l
+room_for_people c (steps.Transfer k) e l = l
+room_for_people c (steps.Claim k) e l = l
+room_for_people c (steps.Open k) e l = l
+room_for_people c (steps.OpenOn k) e l = l
+room_for_people c (steps.OpenVirtual k) e l = l
+room_for_people c (steps.Pay k) e l = l
 room_for_people c (steps.Close who channel) e l = l
 room_for_people c (steps.Exit who) e l = l
 room_for_people c (steps.Rounds count) e l = l
@@ -170,49 +170,49 @@ few_people race ss h = let t = people_behind (start race) ss h (omega arith) in 
 -- ---- rounds
 
 more_rounds : (c : Context) (s : Step) → (after c s).rounds ≡ c.rounds + rounds s
-more_rounds c (steps.Deposit channel asset expected amount) = omega arith
+more_rounds c (steps.Deposit k) = omega arith
 more_rounds c (steps.Time to) = omega arith
-more_rounds c (steps.Person name seed h node watchers) = omega arith
-more_rounds c (steps.Channel name people nonce app duration) = omega arith
-more_rounds c (steps.Sign name channel by turn is_final outcome votes proposal) = omega arith
-more_rounds c (steps.Catch name from channel turn) = omega arith
+more_rounds c (steps.Person k) = omega arith
+more_rounds c (steps.Channel k) = omega arith
+more_rounds c (steps.Sign k) = omega arith
+more_rounds c (steps.Catch k) = omega arith
 more_rounds c (steps.Send to state) = omega arith
 more_rounds c (steps.Drop to) = omega arith
-more_rounds c (steps.Challenge channel chain by) = omega arith
-more_rounds c (steps.Respond channel from state) = omega arith
+more_rounds c (steps.Challenge k) = omega arith
+more_rounds c (steps.Respond k) = omega arith
 more_rounds c (steps.Refute channel state) = omega arith
 more_rounds c (steps.Checkpoint channel chain) = omega arith
 more_rounds c (steps.Conclude channel chain) = omega arith
-more_rounds c (steps.Transfer channel state asset index) = omega arith
-more_rounds c (steps.Claim guarantor state target target_state asset position) = omega arith
-more_rounds c (steps.Open who channel outcome) = omega arith
-more_rounds c (steps.OpenOn who ledger channel asset amounts) = omega arith
-more_rounds c (steps.OpenVirtual who route ledgers guarantors joint channel asset amounts) = omega arith
-more_rounds c (steps.Pay who channel asset amount) = omega arith
+more_rounds c (steps.Transfer k) = omega arith
+more_rounds c (steps.Claim k) = omega arith
+more_rounds c (steps.Open k) = omega arith
+more_rounds c (steps.OpenOn k) = omega arith
+more_rounds c (steps.OpenVirtual k) = omega arith
+more_rounds c (steps.Pay k) = omega arith
 more_rounds c (steps.Close who channel) = omega arith
 more_rounds c (steps.Exit who) = omega arith
 more_rounds c (steps.Rounds count) = refl
 
 room_for_rounds : (c : Context) (s : Step) → fits c s ≡ true → c.rounds ≤ 4096 → (after c s).rounds ≤ 4096
-room_for_rounds c (steps.Deposit channel asset expected amount) e l = l
+room_for_rounds c (steps.Deposit k) e l = l
 room_for_rounds c (steps.Time to) e l = l
-room_for_rounds c (steps.Person name seed h node watchers) e l = l
-room_for_rounds c (steps.Channel name people nonce app duration) e l = l
-room_for_rounds c (steps.Sign name channel by turn is_final outcome votes proposal) e l = l
-room_for_rounds c (steps.Catch name from channel turn) e l = l
+room_for_rounds c (steps.Person k) e l = l
+room_for_rounds c (steps.Channel k) e l = l
+room_for_rounds c (steps.Sign k) e l = l
+room_for_rounds c (steps.Catch k) e l = l
 room_for_rounds c (steps.Send to state) e l = l
 room_for_rounds c (steps.Drop to) e l = l
-room_for_rounds c (steps.Challenge channel chain by) e l = l
-room_for_rounds c (steps.Respond channel from state) e l = l
+room_for_rounds c (steps.Challenge k) e l = l
+room_for_rounds c (steps.Respond k) e l = l
 room_for_rounds c (steps.Refute channel state) e l = l
 room_for_rounds c (steps.Checkpoint channel chain) e l = l
 room_for_rounds c (steps.Conclude channel chain) e l = l
-room_for_rounds c (steps.Transfer channel state asset index) e l = l
-room_for_rounds c (steps.Claim guarantor state target target_state asset position) e l = l
-room_for_rounds c (steps.Open who channel outcome) e l = l
-room_for_rounds c (steps.OpenOn who ledger channel asset amounts) e l = l
-room_for_rounds c (steps.OpenVirtual who route ledgers guarantors joint channel asset amounts) e l = l
-room_for_rounds c (steps.Pay who channel asset amount) e l = l
+room_for_rounds c (steps.Transfer k) e l = l
+room_for_rounds c (steps.Claim k) e l = l
+room_for_rounds c (steps.Open k) e l = l
+room_for_rounds c (steps.OpenOn k) e l = l
+room_for_rounds c (steps.OpenVirtual k) e l = l
+room_for_rounds c (steps.Pay k) e l = l
 room_for_rounds c (steps.Close who channel) e l = l
 room_for_rounds c (steps.Exit who) e l = l
 room_for_rounds c (steps.Rounds count) e l = leb-true (c.rounds + count) 4096 ((both (within count 1 64) (nat_le (c.rounds + count) 4096) e).1)

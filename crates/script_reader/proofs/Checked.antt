@@ -2,13 +2,12 @@
 use Rattle.std.proofs.Common.{◌≡◌, ℕ, ◌+◌, List, [], ◌∷◌, ◌++◌, length, refl, sym, subst, ◌∙◌, ap, Result, Ok, Err, append_assoc, append-nil, true, false}
 use Rattle.std.specs.Prelude.{Bool, ◌&&◌}
 use Rattle.serde_json.specs.Data.{Data, Items, no_items, item}
-use Rattle.network.specs.declared.command.Route.TheVariants.{Plain}
 use Rattle.script_steps.specs.Rules.{◌>>=◌, holds}
 use Rattle.script_steps.specs.Conditions.{after, sign_uses, open_uses, open_on_uses, open_virtual_uses, are_known, is_named, fits, has_fixed, is_new_person, is_new_channel, distinct_channel, distinct}
 use Rattle.script_steps.specs.Context.{is_new}
 use Rattle.script_reader.specs.Listed.{listed}
 use Rattle.script_reader.specs.Reading.{written_of, named_of, led, knows_names, limited, may_race, step_of, Keeps}
-use Rattle.script_reader.specs.Resolved.{knows_outcome, resolved, outcome_in, pair_in}
+use Rattle.script_reader.specs.Resolved.{knows_outcome, resolved, outcome_in, pair_in, sign_step, open_step, open_on_step, open_virtual_step}
 use Rattle.script_reader.specs.Script as script
 use Rattle.script_reader.specs.Script.{at_step, steps_from, script_of, AreChecked}
 use Rattle.script_steps.specs.declared.context.Context.{Context}
@@ -47,28 +46,28 @@ and_true false e = absurd (cc)
 resolved_named : (c : Context) (w : Written) (s : Step) → knows_names c w ≡ true → resolved c w ≡ Ok s → is_named c s ≡ true
 resolved_named c (written.Plain t) s e r = let same : t ≡ s = cc in subst (λ (x : Step). is_named c x ≡ true) same e
 resolved_named c (written.Sign k) s e r =
-    let a = bind_ok (outcome_in c k.outcome) (λ o. outcome_in c k.proposal >>= λ p. Ok (steps.Sign k.name k.channel k.by k.turn k.is_final o k.votes p)) s r in
-    let b = bind_ok (outcome_in c k.proposal) (λ p. Ok (steps.Sign k.name k.channel k.by k.turn k.is_final a.0 k.votes p)) s a.2 in
-    let same : steps.Sign k.name k.channel k.by k.turn k.is_final a.0 k.votes b.0 ≡ s = cc in
+    let a = bind_ok (outcome_in c k.outcome) (λ o. outcome_in c k.proposal >>= λ p. Ok (sign_step k o p)) s r in
+    let b = bind_ok (outcome_in c k.proposal) (λ p. Ok (sign_step k a.0 p)) s a.2 in
+    let same : sign_step k a.0 b.0 ≡ s = cc in
     let known = is_new c k.name && are_known c (sign_uses k.channel k.by) in
     let names = first_holds known (knows_outcome c k.outcome) (first_holds (known && knows_outcome c k.outcome) (knows_outcome c k.proposal) e) in
-    let all : is_named c (steps.Sign k.name k.channel k.by k.turn k.is_final a.0 k.votes b.0) ≡ true = and_true known names in
+    let all : is_named c (sign_step k a.0 b.0) ≡ true = and_true known names in
     subst (λ (x : Step). is_named c x ≡ true) same all
 resolved_named c (written.Open k) s e r =
-    let a = bind_ok (outcome_in c k.outcome) (λ o. Ok (steps.Open k.who k.channel o)) s r in
-    let same : steps.Open k.who k.channel a.0 ≡ s = cc in
+    let a = bind_ok (outcome_in c k.outcome) (λ o. Ok (open_step k o)) s r in
+    let same : open_step k a.0 ≡ s = cc in
     let known = are_known c (open_uses k.who k.channel) in
-    let all : is_named c (steps.Open k.who k.channel a.0) ≡ true = and_true known (first_holds known (knows_outcome c k.outcome) e) in
+    let all : is_named c (open_step k a.0) ≡ true = and_true known (first_holds known (knows_outcome c k.outcome) e) in
     subst (λ (x : Step). is_named c x ≡ true) same all
 resolved_named c (written.OpenOn k) s e r =
-    let a = bind_ok (pair_in k.amounts) (λ p. Ok (steps.OpenOn k.who k.ledger k.channel k.asset p)) s r in
-    let same : steps.OpenOn k.who k.ledger k.channel k.asset a.0 ≡ s = cc in
-    let all : is_named c (steps.OpenOn k.who k.ledger k.channel k.asset a.0) ≡ true = and_true (are_known c (open_on_uses k.who k.ledger k.channel)) e in
+    let a = bind_ok (pair_in k.amounts) (λ p. Ok (open_on_step k p)) s r in
+    let same : open_on_step k a.0 ≡ s = cc in
+    let all : is_named c (open_on_step k a.0) ≡ true = and_true (are_known c (open_on_uses k.who k.ledger k.channel)) e in
     subst (λ (x : Step). is_named c x ≡ true) same all
 resolved_named c (written.OpenVirtual k) s e r =
-    let a = bind_ok (pair_in k.amounts) (λ p. Ok (steps.OpenVirtual k.who Plain k.ledgers k.guarantors k.joint k.channel k.asset p)) s r in
-    let same : steps.OpenVirtual k.who Plain k.ledgers k.guarantors k.joint k.channel k.asset a.0 ≡ s = cc in
-    let all : is_named c (steps.OpenVirtual k.who Plain k.ledgers k.guarantors k.joint k.channel k.asset a.0) ≡ true = and_true (are_known c (open_virtual_uses k.who k.ledgers k.guarantors k.joint k.channel)) e in
+    let a = bind_ok (pair_in k.amounts) (λ p. Ok (open_virtual_step k p)) s r in
+    let same : open_virtual_step k a.0 ≡ s = cc in
+    let all : is_named c (open_virtual_step k a.0) ≡ true = and_true (are_known c (open_virtual_uses k.who k.ledgers k.guarantors k.joint k.channel)) e in
     subst (λ (x : Step). is_named c x ≡ true) same all
 
 -- where a digest is its own, nothing more is told
@@ -78,25 +77,25 @@ channel_none c people nonce app duration x e =
     e ∙ ap (λ n. Ok n) (held_value rules.Name (is_new_channel c people nonce app duration) x p.2)
 
 distinct_none : (c : Context) (s : Step) (x : ℕ) → distinct c s ≡ Ok x → distinct c s ≡ Ok 0
-distinct_none c (steps.Deposit channel asset expected amount) x e = refl
+distinct_none c (steps.Deposit k) x e = refl
 distinct_none c (steps.Time to) x e = refl
-distinct_none c (steps.Person name seed h node watchers) x e = e ∙ ap (λ n. Ok n) (held_value rules.Name (is_new_person c seed h) x e)
-distinct_none c (steps.Channel name people nonce app duration) x e = channel_none c people nonce app duration x e
-distinct_none c (steps.Sign name channel by turn is_final outcome votes proposal) x e = refl
-distinct_none c (steps.Catch name from channel turn) x e = refl
+distinct_none c (steps.Person k) x e = e ∙ ap (λ n. Ok n) (held_value rules.Name (is_new_person c k.seed k.h) x e)
+distinct_none c (steps.Channel k) x e = channel_none c k.people k.nonce k.app k.duration x e
+distinct_none c (steps.Sign k) x e = refl
+distinct_none c (steps.Catch k) x e = refl
 distinct_none c (steps.Send to state) x e = refl
 distinct_none c (steps.Drop to) x e = refl
-distinct_none c (steps.Challenge channel chain by) x e = refl
-distinct_none c (steps.Respond channel from state) x e = refl
+distinct_none c (steps.Challenge k) x e = refl
+distinct_none c (steps.Respond k) x e = refl
 distinct_none c (steps.Refute channel state) x e = refl
 distinct_none c (steps.Checkpoint channel chain) x e = refl
 distinct_none c (steps.Conclude channel chain) x e = refl
-distinct_none c (steps.Transfer channel state asset index) x e = refl
-distinct_none c (steps.Claim guarantor state target target_state asset position) x e = refl
-distinct_none c (steps.Open who channel outcome) x e = refl
-distinct_none c (steps.OpenOn who ledger channel asset amounts) x e = refl
-distinct_none c (steps.OpenVirtual who route ledgers guarantors joint channel asset amounts) x e = refl
-distinct_none c (steps.Pay who channel asset amount) x e = refl
+distinct_none c (steps.Transfer k) x e = refl
+distinct_none c (steps.Claim k) x e = refl
+distinct_none c (steps.Open k) x e = refl
+distinct_none c (steps.OpenOn k) x e = refl
+distinct_none c (steps.OpenVirtual k) x e = refl
+distinct_none c (steps.Pay k) x e = refl
 distinct_none c (steps.Close who channel) x e = refl
 distinct_none c (steps.Exit who) x e = refl
 distinct_none c (steps.Rounds count) x e = refl

@@ -4,4 +4,5 @@ pub mod Bounds
 pub mod Checked
 pub mod Each
 pub mod OneReading
+pub mod Kept
 pub mod Steps

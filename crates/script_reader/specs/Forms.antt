@@ -32,7 +32,7 @@ deposit_of d = do
   asset ← number_at (codes "asset") d
   expected ← number_at (codes "expected") d
   amount ← number_at (codes "amount") d
-  Ok (Deposit channel asset expected amount)
+  Ok (Deposit (record { channel = channel; asset = asset; expected = expected; amount = amount }))
 
 abbrev pub time_of : Data → Result Step Rule
 time_of d = do
@@ -48,7 +48,7 @@ person_of d = do
   h ← number_at (codes "h") d
   node ← flag_at (codes "node") d
   watchers ← number_at (codes "watchers") d
-  Ok (Person name seed h node watchers)
+  Ok (Person (record { name = name; seed = seed; h = h; node = node; watchers = watchers }))
 
 abbrev pub channel_of : Data → Result Step Rule
 channel_of d = do
@@ -58,7 +58,7 @@ channel_of d = do
   nonce ← number_at (codes "nonce") d
   app ← app_at (codes "app") d
   duration ← number_at (codes "duration") d
-  Ok (Channel name people nonce app duration)
+  Ok (Channel (record { name = name; people = people; nonce = nonce; app = app; duration = duration }))
 
 abbrev pub sign_of : Data → Result Written Rule
 sign_of d = do
@@ -79,7 +79,7 @@ challenge_of d = do
   channel ← name_at (codes "channel") d
   chain ← names_at (codes "chain") d
   by ← name_at (codes "by") d
-  Ok (Challenge channel chain by)
+  Ok (Challenge (record { channel = channel; chain = chain; by = by }))
 
 abbrev pub respond_of : Data → Result Step Rule
 respond_of d = do
@@ -87,7 +87,7 @@ respond_of d = do
   channel ← name_at (codes "channel") d
   from ← name_at (codes "from") d
   state ← name_at (codes "state") d
-  Ok (Respond channel from state)
+  Ok (Respond (record { channel = channel; from = from; state = state }))
 
 abbrev pub refute_of : Data → Result Step Rule
 refute_of d = do
@@ -117,7 +117,7 @@ transfer_of d = do
   state ← name_at (codes "state") d
   asset ← number_at (codes "asset") d
   index ← number_at (codes "index") d
-  Ok (Transfer channel state asset index)
+  Ok (Transfer (record { channel = channel; state = state; asset = asset; index = index }))
 
 abbrev pub claim_of : Data → Result Step Rule
 claim_of d = do
@@ -128,7 +128,7 @@ claim_of d = do
   target_state ← name_at (codes "target_state") d
   asset ← number_at (codes "asset") d
   position ← number_at (codes "position") d
-  Ok (Claim guarantor state target target_state asset position)
+  Ok (Claim (record { guarantor = guarantor; state = state; target = target; target_state = target_state; asset = asset; position = position }))
 
 abbrev pub catch_of : Data → Result Step Rule
 catch_of d = do
@@ -137,7 +137,7 @@ catch_of d = do
   from ← name_at (codes "from") d
   channel ← name_at (codes "channel") d
   turn ← number_at (codes "turn") d
-  Ok (Catch name from channel turn)
+  Ok (Catch (record { name = name; from = from; channel = channel; turn = turn }))
 
 abbrev pub send_of : Data → Result Step Rule
 send_of d = do
@@ -159,7 +159,7 @@ pay_of d = do
   channel ← name_at (codes "channel") d
   asset ← number_at (codes "asset") d
   amount ← number_at (codes "amount") d
-  Ok (Pay who channel asset amount)
+  Ok (Pay (record { who = who; channel = channel; asset = asset; amount = amount }))
 
 abbrev pub close_of : Data → Result Step Rule
 close_of d = do

@@ -89,26 +89,59 @@ abbrev pub pair_in : List ℕ → Result (ℕ × ℕ) Rule
 pair_in (a ∷ b ∷ []) = Ok (a, b)
 pair_in amounts = Err rules.Limit
 
+-- the steps of written keys, with their outcomes or amounts
+abbrev pub sign_step : SignKeys → (outcome proposal : List AssetOutcome) → Step
+sign_step k outcome proposal =
+    steps.Sign (record {
+      name = k.name;
+      channel = k.channel;
+      by = k.by;
+      turn = k.turn;
+      is_final = k.is_final;
+      outcome = outcome;
+      votes = k.votes;
+      proposal = proposal;
+    })
+
+abbrev pub open_step : OpenKeys → List AssetOutcome → Step
+open_step k outcome = steps.Open (record { who = k.who; channel = k.channel; outcome = outcome })
+
+abbrev pub open_on_step : OpenOnKeys → ℕ × ℕ → Step
+open_on_step k amounts = steps.OpenOn (record { who = k.who; ledger = k.ledger; channel = k.channel; asset = k.asset; amounts = amounts })
+
+abbrev pub open_virtual_step : OpenVirtualKeys → ℕ × ℕ → Step
+open_virtual_step k amounts =
+    steps.OpenVirtual (record {
+      who = k.who;
+      route = Plain;
+      ledgers = k.ledgers;
+      guarantors = k.guarantors;
+      joint = k.joint;
+      channel = k.channel;
+      asset = k.asset;
+      amounts = amounts;
+    })
+
 abbrev pub signed : Context → SignKeys → Result Step Rule
 signed c k = do
   outcome ← outcome_in c k.outcome
   proposal ← outcome_in c k.proposal
-  Ok (steps.Sign k.name k.channel k.by k.turn k.is_final outcome k.votes proposal)
+  Ok (sign_step k outcome proposal)
 
 abbrev pub opened : Context → OpenKeys → Result Step Rule
 opened c k = do
   outcome ← outcome_in c k.outcome
-  Ok (steps.Open k.who k.channel outcome)
+  Ok (open_step k outcome)
 
 abbrev pub opened_on : OpenOnKeys → Result Step Rule
 opened_on k = do
   amounts ← pair_in k.amounts
-  Ok (steps.OpenOn k.who k.ledger k.channel k.asset amounts)
+  Ok (open_on_step k amounts)
 
 abbrev pub opened_virtual : OpenVirtualKeys → Result Step Rule
 opened_virtual k = do
   amounts ← pair_in k.amounts
-  Ok (steps.OpenVirtual k.who Plain k.ledgers k.guarantors k.joint k.channel k.asset amounts)
+  Ok (open_virtual_step k amounts)
 
 -- the step with the outcomes that its names give, and with its two amounts
 abbrev pub resolved : Context → Written → Result Step Rule

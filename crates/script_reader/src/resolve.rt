@@ -11,7 +11,9 @@ use crate::written::{
 };
 use channel_values::{AssetOutcome, ByteFault, Dest, Item, Label, Listed, Outcome, Shape};
 use network::Route;
-use script_steps::{Context, Kind, Rule, Step, StepFault};
+use script_steps::{
+    Context, Kind, OpenOnStep, OpenStep, OpenVirtualStep, Rule, SignStep, Step, StepFault,
+};
 use std::alloc::Global;
 
 fn knows_holdings(context: &Context, holdings: &[Holding]) -> bool
@@ -165,7 +167,7 @@ fn signed(alloc: Global, context: &Context, keys: SignKeys) -> Result<Step, Step
 {
     let outcome = outcome_in(alloc, context, keys.outcome.as_slice())?;
     let proposal = outcome_in(alloc, context, keys.proposal.as_slice())?;
-    Ok(Step::Sign {
+    Ok(Step::Sign(SignStep {
         name: keys.name,
         channel: keys.channel,
         by: keys.by,
@@ -174,38 +176,38 @@ fn signed(alloc: Global, context: &Context, keys: SignKeys) -> Result<Step, Step
         outcome,
         votes: keys.votes,
         proposal,
-    })
+    }))
 }
 
 fn opened(alloc: Global, context: &Context, keys: OpenKeys) -> Result<Step, StepFault>
     ensures { Gives (λ s. s) result (opened context.now keys) }
 {
     let outcome = outcome_in(alloc, context, keys.outcome.as_slice())?;
-    Ok(Step::Open {
+    Ok(Step::Open(OpenStep {
         who: keys.who,
         channel: keys.channel,
         outcome,
-    })
+    }))
 }
 
 fn opened_on(keys: OpenOnKeys) -> Result<Step, StepFault>
     ensures { Gives (λ s. s) result (opened_on keys) }
 {
     let amounts = pair_in(keys.amounts.as_slice())?;
-    Ok(Step::OpenOn {
+    Ok(Step::OpenOn(OpenOnStep {
         who: keys.who,
         ledger: keys.ledger,
         channel: keys.channel,
         asset: keys.asset,
         amounts,
-    })
+    }))
 }
 
 fn opened_virtual(keys: OpenVirtualKeys) -> Result<Step, StepFault>
     ensures { Gives (λ s. s) result (opened_virtual keys) }
 {
     let amounts = pair_in(keys.amounts.as_slice())?;
-    Ok(Step::OpenVirtual {
+    Ok(Step::OpenVirtual(OpenVirtualStep {
         who: keys.who,
         route: Route::Plain,
         ledgers: keys.ledgers,
@@ -214,7 +216,7 @@ fn opened_virtual(keys: OpenVirtualKeys) -> Result<Step, StepFault>
         channel: keys.channel,
         asset: keys.asset,
         amounts,
-    })
+    }))
 }
 
 /// The step with the outcomes that its names give, and with its two amounts.

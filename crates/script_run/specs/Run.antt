@@ -3,6 +3,7 @@ use Rattle.std.specs.Prelude.{◌≡◌, ◌≤◌, ◌<◌, ℕ, List, [], ◌�
 use Rattle.std.specs.Fmt.{decimal}
 use Rattle.std.specs.Io.KnownBytes.{Keeps, Consumes, IsAtEnd}
 use Rattle.byte_streams.specs.OutsideSource.{Rose}
+use Rattle.byte_streams.specs.declared.source.Source as source
 use Rattle.script_reader.specs.Script.{IsScript, Breaks}
 use Rattle.script_reader.specs.step.Rule.{Rule}
 use Rattle.script_reader.specs.step.Rule.TheVariants as rules
@@ -31,8 +32,8 @@ pub record Given : Type 0 where
   pub faults_after : ℕ
 
 -- what a run was handed, by what its source tells
-abbrev pub given : {S : Type 0} → (S → Option (List ℕ)) → (S → ℕ) → List (List ℕ) → S → S → Given
-given remaining faults words old new = record { words = words; before = remaining old; after = remaining new; faults_before = faults old; faults_after = faults new }
+abbrev pub given : {S : Type 0} → source.Ghosts S → List (List ℕ) → S → S → Given
+given s words old new = record { words = words; before = s.remaining old; after = s.remaining new; faults_before = s.faults old; faults_after = s.faults new }
 
 -- the number of a status
 abbrev pub code_of : Status → ℕ

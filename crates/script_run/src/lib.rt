@@ -10,6 +10,7 @@ mod run;
 mod status;
 
 pub use laws::calm_runs_end_alike;
+pub use network_node::Node;
 pub use recording::run_record;
 pub use records::Records;
 pub use report_laws::{plays_have_sound_records, races_have_sound_records, records_have_sums};

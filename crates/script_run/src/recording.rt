@@ -1,14 +1,13 @@
 //! From words and a source to what was played, and the bytes of its record that were put.
 
-ghost use Rattle.std.specs.Prelude.{◌≡◌, ◌≢◌, ◌≤◌, ◌⊎◌, ℕ, List, [], Some, None, All, IfOk, length, map};
+ghost use Rattle.std.specs.Prelude.{◌≡◌, ◌≢◌, ◌≤◌, ◌⊎◌, ℕ, List, [], Some, None, All, IfOk, length};
 ghost use Rattle.std.specs.Io.KnownBytes.{Keeps, Appends};
-ghost use Rattle.std.specs.Option.{option_map};
+ghost use Rattle.std.specs.Option.{option_copied};
 ghost use Rattle.byte_streams.specs.OutsideSink.{AppendsPart};
 ghost use Rattle.byte_streams.specs.OutsideSource.{Rose};
-ghost use Rattle.call_history.specs.History.{Legal, newest_first};
-ghost use Rattle.support_rules.specs.Real.{real};
-ghost use Rattle.network_rounds.specs.Views.{player_of};
+ghost use Rattle.network_rounds.specs.Views.{players};
 ghost use Rattle.node_guarantees.specs.Ways.{ways};
+ghost use Rattle.script_run.specs.Laws.{IsLegalIn};
 ghost use Rattle.script_run.specs.Recording.{is_play, asked_of, RunEnds, EndsAs, IsRecordable};
 ghost use Rattle.script_run.specs.declared.status.Status.{Status};
 ghost use Rattle.network_rounds.specs.Players.{Player};
@@ -47,7 +46,7 @@ fn is_play(words: &[Label]) -> bool
 
 /// What is to be recorded: the word after `record`.
 fn asked_of(words: &[Label]) -> Option<&[Label]>
-    ensures { option_map (λ rest. rest.now) result ≡ asked_of words.now }
+    ensures { option_copied result ≡ asked_of words.now }
 {
     match words {
         [word, rest @ ..] if word.as_str() == "record" && is_play(rest) => Some(rest),
@@ -58,7 +57,7 @@ fn asked_of(words: &[Label]) -> Option<&[Label]>
 /// What a run comes to that was played.
 #[tactic(auto, using(crate::proofs::RecordEnds::recorded_end))]
 fn recorded(alloc: Global, report: Report) -> Result<Ended, NoMemory>
-    requires { Legal real (newest_first report.history) }
+    requires { IsLegalIn report }
     ensures { (cast : List Player) (g : Given) → RunEnds ways cast g RanAs.Done (Some report)
         → IfOk result (λ ended. EndsAs ways cast g ended.status ended.bytes.items) }
 {
@@ -101,10 +100,8 @@ fn work<R: Threads + Wait + Sync, S: Source>(
     cast: Vec<Cast>,
 ) -> Result<Ended, NoMemory>
     requires unseen { All (λ c. c.notes.entries.items ≡ []) cast.items }
-    ensures { IfOk result (λ ended.
-        EndsAs ways (map (player_of (λ c. tells (c.actor.vtable, c.actor.value)) (λ c.
-        told (c.actor.vtable, c.actor.value))) cast.items)
-        (given S.remaining S.faults words.now source.old source.new) ended.status ended.bytes.items) }
+    ensures { IfOk result (λ ended. EndsAs ways (players tells told cast.items)
+        (given S.Source words.now source.old source.new) ended.status ended.bytes.items) }
 {
     let Some(asked) = asked_of(words) else {
         return lined(alloc, Ran::Usage);
@@ -134,17 +131,13 @@ pub fn run_record<R: Threads + Wait + Sync, S: Source, K: Sink>(
     // the spelling of its record, whose history is legal and conserved; and it is sound where of each person with a node nothing is
     // told to be forged and no strings collide.
     ensures ended { result ≢ Status.Ran RanAs.NoMemory → result ≢ Status.Ran RanAs.WriteFault → (bytes : List ℕ)
-        × EndsAs ways (map (player_of (λ c. tells (c.actor.vtable, c.actor.value)) (λ c.
-        told (c.actor.vtable, c.actor.value))) cast.items)
-        (given S.remaining S.faults words.now source.old source.new) result bytes
+        × EndsAs ways (players tells told cast.items) (given S.Source words.now source.old source.new) result bytes
         × Appends (K.held sink.old) (K.held sink.new) bytes }
 
     // At a fault of the sink a part was put of what another end owes.
     ensures write_fault { result ≡ Status.Ran RanAs.WriteFault → Rose (K.faults sink.old) (K.faults sink.new)
         × ((other : Status) × (bytes : List ℕ)
-        × EndsAs ways (map (player_of (λ c. tells (c.actor.vtable, c.actor.value)) (λ c.
-        told (c.actor.vtable, c.actor.value))) cast.items)
-        (given S.remaining S.faults words.now source.old source.new) other bytes
+        × EndsAs ways (players tells told cast.items) (given S.Source words.now source.old source.new) other bytes
         × AppendsPart (K.held sink.old) (K.held sink.new) bytes) }
 
     // Out of memory nothing was put.
@@ -152,7 +145,7 @@ pub fn run_record<R: Threads + Wait + Sync, S: Source, K: Sink>(
 
     // A sound script is played and its record put, unless it is past the format's limits or memory runs out, where neither source
     // nor sink fails.
-    ensures complete { IsRecordable (given S.remaining S.faults words.now source.old source.new)
+    ensures complete { IsRecordable (given S.Source words.now source.old source.new)
         → ¬ (Rose (K.faults sink.old) (K.faults sink.new))
         → (result ≡ Status.Ran RanAs.Done) ⊎ (result ≡ Status.PastLimits) ⊎ (result ≡ Status.Ran RanAs.NoMemory) }
 {

@@ -1,11 +1,11 @@
 //! The top call: from words and a source to a status and the text that was put.
 
-ghost use Rattle.std.specs.Prelude.{◌≡◌, ◌≢◌, ◌≤◌, ◌⊎◌, ℕ, List, [], Some, None, length, map, All, IfOk, IfSome, IsNone, string_bytes};
+ghost use Rattle.std.specs.Prelude.{◌≡◌, ◌≢◌, ◌≤◌, ◌⊎◌, ℕ, List, [], Some, None, length, All, IfOk, IfSome, IsNone, string_bytes};
 ghost use Rattle.std.specs.Io.KnownBytes.{Keeps, Consumes, Appends, IsAtEnd};
 ghost use Rattle.call_history.specs.Flows.{AreConserved};
 ghost use Rattle.call_history.specs.History.{Legal, newest_first, flows_of};
 ghost use Rattle.support_rules.specs.Real.{real};
-ghost use Rattle.network_rounds.specs.Views.{player_of};
+ghost use Rattle.network_rounds.specs.Views.{players};
 ghost use Rattle.network_rounds.specs.Journals.{WritesJournals};
 ghost use Rattle.network_rounds.specs.Players.{Player};
 ghost use Rattle.script_race.specs.Raced.{RacersAreInTime};
@@ -16,6 +16,7 @@ ghost use Rattle.command_words.specs.declared.asking.Asked.{Asked};
 ghost use Rattle.script_run.specs.declared.run.Status.{Status};
 ghost use Rattle.load.specs.Paying.{Pays};
 ghost use Rattle.node_guarantees.specs.Ways.{ways};
+ghost use Rattle.script_run.specs.Laws.{IsLegalIn};
 ghost use Rattle.script_run.specs.Run.{Given, IsRunnable, IsUnread, given, code_of, wanted, EndsAs, IsToldOf, rule_text, owed};
 
 use crate::records::Records;
@@ -86,7 +87,7 @@ fn run_script<P: ReportedNode>(alloc: Global, bytes: &[u8]) -> Result<Ended, NoM
     ensures ends { (cast : List Player) (given : Given) → wanted given.words ≡ Some Asked.Run
         → Consumes given.before given.after bytes.now → IsAtEnd given.after → length bytes.now ≤ 4194304
         → IfOk result (λ ended. EndsAs P.ways cast given ended.status ended.report) }
-    ensures legal { IfOk result (λ ended. IfSome ended.report (λ report. Legal real (newest_first report.history))) }
+    ensures legal { IfOk result (λ ended. IfSome ended.report IsLegalIn) }
 {
     match read_script_with_signers(alloc, bytes, false) {
         Err(ScriptFault::NoMemory) => Err(NoMemory),
@@ -115,9 +116,8 @@ fn race_script<R: Threads + Wait + Sync, P: ReportedNode + Send>(
     requires timely { RacersAreInTime P.ways P.stands }
     ensures ends { (given : Given) → wanted given.words ≡ Some Asked.Race
         → Consumes given.before given.after bytes.now → IsAtEnd given.after → length bytes.now ≤ 4194304
-        → IfOk result (λ ended. EndsAs P.ways (map (player_of (λ c. tells (c.actor.vtable, c.actor.value)) (λ c.
-        told (c.actor.vtable, c.actor.value))) cast.items) given ended.status ended.report) }
-    ensures legal { IfOk result (λ ended. IfSome ended.report (λ report. Legal real (newest_first report.history))) }
+        → IfOk result (λ ended. EndsAs P.ways (players tells told cast.items) given ended.status ended.report) }
+    ensures legal { IfOk result (λ ended. IfSome ended.report IsLegalIn) }
 {
     match read_script_with_signers(alloc, bytes, true) {
         Err(ScriptFault::NoMemory) => Err(NoMemory),
@@ -139,9 +139,9 @@ fn race_script<R: Threads + Wait + Sync, P: ReportedNode + Send>(
 #[tactic(auto, using(crate::proofs::Ends::fails_in_run, crate::proofs::Ends::long_in_run))]
 fn run_source<P: ReportedNode, S: Source>(alloc: Global, source: &mut S) -> Result<Ended, NoMemory>
     ensures ends { (words : List (List ℕ)) (cast : List Player) → wanted words ≡ Some Asked.Run
-        → IfOk result (λ ended. EndsAs P.ways cast
-        (given S.remaining S.faults words source.old source.new) ended.status ended.report) }
-    ensures legal { IfOk result (λ ended. IfSome ended.report (λ report. Legal real (newest_first report.history))) }
+        → IfOk result (λ ended.
+        EndsAs P.ways cast (given S.Source words source.old source.new) ended.status ended.report) }
+    ensures legal { IfOk result (λ ended. IfSome ended.report IsLegalIn) }
 {
     match read_all(alloc, source) {
         Ok(bytes) => run_script::<P>(alloc, &bytes),
@@ -163,10 +163,9 @@ fn race_source<R: Threads + Wait + Sync, P: ReportedNode + Send, S: Source>(
     requires writes { WritesJournals P.ways P.lost }
     requires timely { RacersAreInTime P.ways P.stands }
     ensures ends { (words : List (List ℕ)) → wanted words ≡ Some Asked.Race
-        → IfOk result (λ ended. EndsAs P.ways (map (player_of (λ c. tells (c.actor.vtable, c.actor.value)) (λ c.
-        told (c.actor.vtable, c.actor.value))) cast.items)
-        (given S.remaining S.faults words source.old source.new) ended.status ended.report) }
-    ensures legal { IfOk result (λ ended. IfSome ended.report (λ report. Legal real (newest_first report.history))) }
+        → IfOk result (λ ended. EndsAs P.ways (players tells told cast.items)
+        (given S.Source words source.old source.new) ended.status ended.report) }
+    ensures legal { IfOk result (λ ended. IfSome ended.report IsLegalIn) }
 {
     match read_all(alloc, source) {
         Ok(bytes) => race_script::<R, P>(rt, alloc, &bytes, cast),
@@ -184,7 +183,7 @@ fn run_load<P: ReportedNode>(alloc: Global, seed: u64, count: u32) -> Result<End
     ensures ends { (cast : List Player) (given : Given) → asked given.words ≡ Some (Asked.Load seed count)
         → IsUnread given
         → IfOk result (λ ended. EndsAs P.ways cast given ended.status ended.report) }
-    ensures legal { IfOk result (λ ended. IfSome ended.report (λ report. Legal real (newest_first report.history))) }
+    ensures legal { IfOk result (λ ended. IfSome ended.report IsLegalIn) }
 {
     match load_script(alloc, seed, count) {
         Err(LoadFault::NoMemory) => Err(NoMemory),
@@ -212,11 +211,9 @@ fn work<R: Threads + Wait + Sync, P: ReportedNode + Send, S: Source>(
     requires unseen { All (λ c. c.notes.entries.items ≡ []) cast.items }
     requires writes { WritesJournals P.ways P.lost }
     requires timely { RacersAreInTime P.ways P.stands }
-    ensures ends { IfOk result (λ ended.
-        EndsAs P.ways (map (player_of (λ c. tells (c.actor.vtable, c.actor.value)) (λ c.
-        told (c.actor.vtable, c.actor.value))) cast.items)
-        (given S.remaining S.faults words.now source.old source.new) ended.status ended.report) }
-    ensures legal { IfOk result (λ ended. IfSome ended.report (λ report. Legal real (newest_first report.history))) }
+    ensures ends { IfOk result (λ ended. EndsAs P.ways (players tells told cast.items)
+        (given S.Source words.now source.old source.new) ended.status ended.report) }
+    ensures legal { IfOk result (λ ended. IfSome ended.report IsLegalIn) }
 {
     match asked(alloc, words)? {
         None => Ok(without_report(Status::Usage)),
@@ -248,11 +245,9 @@ pub fn end_of_words<R: Threads + Wait + Sync, S: Source>(
     cast: Vec<Cast>,
 ) -> Result<Ended, NoMemory>
     requires unseen { All (λ c. c.notes.entries.items ≡ []) cast.items }
-    ensures ends { IfOk result (λ ended.
-        EndsAs ways (map (player_of (λ c. tells (c.actor.vtable, c.actor.value)) (λ c.
-        told (c.actor.vtable, c.actor.value))) cast.items)
-        (given S.remaining S.faults words.now source.old source.new) ended.status ended.report) }
-    ensures legal { IfOk result (λ ended. IfSome ended.report (λ report. Legal real (newest_first report.history))) }
+    ensures ends { IfOk result (λ ended. EndsAs ways (players tells told cast.items)
+        (given S.Source words.now source.old source.new) ended.status ended.report) }
+    ensures legal { IfOk result (λ ended. IfSome ended.report IsLegalIn) }
 {
     work::<R, Node, S>(rt, alloc, words, source, cast)
 }
@@ -275,7 +270,7 @@ pub fn line_of(alloc: Global, status: Status) -> Result<String, AllocError>
 
 /// The bytes that an end owes.
 fn owed(alloc: Global, ended: &Ended) -> Result<Vec<u8>, NoMemory>
-    requires { IfSome ended.now.report (λ report. Legal real (newest_first report.history)) }
+    requires { IfSome ended.now.report IsLegalIn }
     ensures { IfOk result (λ text. text.items ≡ owed ended.now.status ended.now.report) }
 {
     match (ended.status, &ended.report) {
@@ -303,16 +298,14 @@ pub fn run_words<R: Threads + Wait + Sync, S: Source, K: Sink>(
 
     // Every status but want of memory and a fault of the sink has its cause, and its text was put whole.
     ensures ended { result.status ≢ Status.NoMemory → result.status ≢ Status.WriteFault
-        → EndsAs ways (map (player_of (λ c. tells (c.actor.vtable, c.actor.value)) (λ c.
-        told (c.actor.vtable, c.actor.value))) cast.items)
-        (given S.remaining S.faults words.now source.old source.new) result.status result.report
+        → EndsAs ways (players tells told cast.items)
+        (given S.Source words.now source.old source.new) result.status result.report
         × Appends (K.held sink.old) (K.held sink.new) (owed result.status result.report) }
 
     // At a fault of the sink a part was put of what another end owes, and the report is that end's.
     ensures write_fault { result.status ≡ Status.WriteFault → Rose (K.faults sink.old) (K.faults sink.new)
-        × ((other : Status) × EndsAs ways (map (player_of (λ c. tells (c.actor.vtable, c.actor.value)) (λ c.
-        told (c.actor.vtable, c.actor.value))) cast.items)
-        (given S.remaining S.faults words.now source.old source.new) other result.report
+        × ((other : Status) × EndsAs ways (players tells told cast.items)
+        (given S.Source words.now source.old source.new) other result.report
         × AppendsPart (K.held sink.old) (K.held sink.new) (owed other result.report)) }
 
     // For want of memory nothing was put.
@@ -334,9 +327,7 @@ pub fn run_words<R: Threads + Wait + Sync, S: Source, K: Sink>(
     // in time); it can leave with its share; and once its channels are final and the calls of its exit stand after that, what
     // was printed of its exit is paid to it, whatever others enter between.
     ensures told { IfSome result.report
-        (IsToldOf ways (map (player_of (λ c. tells (c.actor.vtable, c.actor.value)) (λ c.
-        told (c.actor.vtable, c.actor.value))) cast.items)
-        (given S.remaining S.faults words.now source.old source.new)) }
+        (IsToldOf ways (players tells told cast.items) (given S.Source words.now source.old source.new)) }
 
     // A load pays what it says: its history is two deposits, a conclusion and two transfers; both people were paid what they
     // have after its payments, and no channel holds anything; no command was refused, and the shares that are told are what
@@ -344,7 +335,7 @@ pub fn run_words<R: Threads + Wait + Sync, S: Source, K: Sink>(
     ensures pays { IfSome result.report (λ report. IfSome report.load (λ load. Pays load report)) }
 
     // A sound script runs to its end, and so does a load, unless memory runs out.
-    ensures complete { IsRunnable (given S.remaining S.faults words.now source.old source.new)
+    ensures complete { IsRunnable (given S.Source words.now source.old source.new)
         → ¬ (Rose (K.faults sink.old) (K.faults sink.new))
         → (result.status ≡ Status.Done) ⊎ (result.status ≡ Status.NoMemory) }
 {

@@ -8,22 +8,22 @@ use Rattle.script_steps.specs.declared.step.Step.TheVariants as steps
 
 -- each value is within its limit
 abbrev pub Fits : Step → Type 0
-Fits (steps.Deposit channel asset expected amount) = asset < 2 ^ 32
-Fits (steps.Person name seed h node watchers) = IsTrue (h == 5 || h == 10) × (watchers ≤ 4) × (node ≡ true → 1 ≤ watchers)
-Fits (steps.Channel name people nonce app duration) = duration < 2 ^ 32
-Fits (steps.Sign name channel by turn is_final outcome votes proposal) = votes ≤ 3
-Fits (steps.Challenge channel chain by) = length chain ≤ 4
+Fits (steps.Deposit k) = k.asset < 2 ^ 32
+Fits (steps.Person k) = IsTrue (k.h == 5 || k.h == 10) × (k.watchers ≤ 4) × (k.node ≡ true → 1 ≤ k.watchers)
+Fits (steps.Channel k) = k.duration < 2 ^ 32
+Fits (steps.Sign k) = k.votes ≤ 3
+Fits (steps.Challenge k) = length k.chain ≤ 4
 Fits (steps.Checkpoint channel chain) = length chain ≤ 4
 Fits (steps.Conclude channel chain) = length chain ≤ 4
-Fits (steps.Transfer channel state asset index) = (asset < 2 ^ 32) × (index < 2 ^ 8)
-Fits (steps.Claim guarantor state target target_state asset position) = (asset < 2 ^ 32) × (position < 2 ^ 8)
-Fits (steps.OpenOn who ledger channel asset amounts) = asset < 2 ^ 32
-Fits (steps.OpenVirtual who route ledgers guarantors joint channel asset amounts) = asset < 2 ^ 32
-Fits (steps.Pay who channel asset amount) = asset < 2 ^ 32
+Fits (steps.Transfer k) = (k.asset < 2 ^ 32) × (k.index < 2 ^ 8)
+Fits (steps.Claim k) = (k.asset < 2 ^ 32) × (k.position < 2 ^ 8)
+Fits (steps.OpenOn k) = k.asset < 2 ^ 32
+Fits (steps.OpenVirtual k) = k.asset < 2 ^ 32
+Fits (steps.Pay k) = k.asset < 2 ^ 32
 Fits step = Unit {0}
 
 abbrev pub persons : Step → ℕ
-persons (steps.Person name seed h node watchers) = 1
+persons (steps.Person k) = 1
 persons step = 0
 
 -- how many people are declared

@@ -18,10 +18,10 @@ use Rattle.script_steps.specs.declared.step.Step.TheVariants as steps
 
 -- the name that a step declares
 abbrev pub declares : Step → Option (List ℕ)
-declares (steps.Person name seed h node watchers) = Some name
-declares (steps.Channel name people nonce app duration) = Some name
-declares (steps.Sign name channel by turn is_final outcome votes proposal) = Some name
-declares (steps.Catch name from channel turn) = Some name
+declares (steps.Person k) = Some k.name
+declares (steps.Channel k) = Some k.name
+declares (steps.Sign k) = Some k.name
+declares (steps.Catch k) = Some k.name
 declares s = None
 
 -- one name, as the kind that it must be
@@ -43,29 +43,29 @@ open_virtual_uses who ledgers guarantors joint channel = (kinds.Node, who) ∷ (
 
 -- the names that a step for nodes uses, each key's with the kind that they must be
 abbrev pub uses_of_nodes : Step → List (Kind × List (List ℕ))
-uses_of_nodes (steps.Catch name from channel turn) = one_name kinds.Node from ∷ one_name kinds.Channel channel ∷ []
+uses_of_nodes (steps.Catch k) = one_name kinds.Node k.from ∷ one_name kinds.Channel k.channel ∷ []
 uses_of_nodes (steps.Send to state) = one_name kinds.Node to ∷ one_name kinds.State state ∷ []
 uses_of_nodes (steps.Drop to) = one_name kinds.Node to ∷ []
-uses_of_nodes (steps.Open who channel outcome) = open_uses who channel
-uses_of_nodes (steps.OpenOn who ledger channel asset amounts) = open_on_uses who ledger channel
-uses_of_nodes (steps.OpenVirtual who route ledgers guarantors joint channel asset amounts) = open_virtual_uses who ledgers guarantors joint channel
-uses_of_nodes (steps.Pay who channel asset amount) = one_name kinds.Node who ∷ one_name kinds.Channel channel ∷ []
+uses_of_nodes (steps.Open k) = open_uses k.who k.channel
+uses_of_nodes (steps.OpenOn k) = open_on_uses k.who k.ledger k.channel
+uses_of_nodes (steps.OpenVirtual k) = open_virtual_uses k.who k.ledgers k.guarantors k.joint k.channel
+uses_of_nodes (steps.Pay k) = one_name kinds.Node k.who ∷ one_name kinds.Channel k.channel ∷ []
 uses_of_nodes (steps.Close who channel) = open_uses who channel
 uses_of_nodes (steps.Exit who) = (kinds.Node, who) ∷ []
 uses_of_nodes s = []
 
 -- the names that a step uses; those of its outcomes come on top
 abbrev pub uses : Step → List (Kind × List (List ℕ))
-uses (steps.Deposit channel asset expected amount) = one_name kinds.Place channel ∷ []
-uses (steps.Channel name people nonce app duration) = (kinds.Person, people) ∷ []
-uses (steps.Sign name channel by turn is_final outcome votes proposal) = sign_uses channel by
-uses (steps.Challenge channel chain by) = one_name kinds.Channel channel ∷ (kinds.State, chain) ∷ one_name kinds.Hand by ∷ []
-uses (steps.Respond channel from state) = one_name kinds.Channel channel ∷ one_name kinds.State from ∷ one_name kinds.State state ∷ []
+uses (steps.Deposit k) = one_name kinds.Place k.channel ∷ []
+uses (steps.Channel k) = (kinds.Person, k.people) ∷ []
+uses (steps.Sign k) = sign_uses k.channel k.by
+uses (steps.Challenge k) = one_name kinds.Channel k.channel ∷ (kinds.State, k.chain) ∷ one_name kinds.Hand k.by ∷ []
+uses (steps.Respond k) = one_name kinds.Channel k.channel ∷ one_name kinds.State k.from ∷ one_name kinds.State k.state ∷ []
 uses (steps.Refute channel state) = one_name kinds.Channel channel ∷ one_name kinds.State state ∷ []
 uses (steps.Checkpoint channel chain) = one_name kinds.Channel channel ∷ (kinds.State, chain) ∷ []
 uses (steps.Conclude channel chain) = one_name kinds.Channel channel ∷ (kinds.State, chain) ∷ []
-uses (steps.Transfer channel state asset index) = one_name kinds.Channel channel ∷ one_name kinds.State state ∷ []
-uses (steps.Claim guarantor state target target_state asset position) = one_name kinds.Channel guarantor ∷ one_name kinds.State state ∷ one_name kinds.Channel target ∷ one_name kinds.State target_state ∷ []
+uses (steps.Transfer k) = one_name kinds.Channel k.channel ∷ one_name kinds.State k.state ∷ []
+uses (steps.Claim k) = one_name kinds.Channel k.guarantor ∷ one_name kinds.State k.state ∷ one_name kinds.Channel k.target ∷ one_name kinds.State k.target_state ∷ []
 uses s = uses_of_nodes s
 
 -- what is declared has no name of an earlier step
@@ -80,8 +80,8 @@ are_known c (u ∷ us) = list_all (knows c u.0) u.1 && are_known c us
 
 -- a person has a seed of its own, and the people of a channel don't repeat
 abbrev pub is_single : Context → Step → Bool
-is_single c (steps.Person name seed h node watchers) = not (has_seed c seed)
-is_single c (steps.Channel name people nonce app duration) = not (repeats people)
+is_single c (steps.Person k) = not (has_seed c k.seed)
+is_single c (steps.Channel k) = not (repeats k.people)
 is_single c s = true
 
 -- what is declared is new, and each name was declared as what its key needs
@@ -98,24 +98,24 @@ is_able h node watchers = (h == 5 || h == 10) && (if node then within watchers 1
 
 -- each value of a step for nodes is within its limit
 abbrev pub fits_nodes : Context → Step → Bool
-fits_nodes c (steps.Catch name from channel turn) = nat_lt turn (2 ^ 48)
-fits_nodes c (steps.OpenOn who ledger channel asset amounts) = nat_lt asset (2 ^ 32)
-fits_nodes c (steps.OpenVirtual who route ledgers guarantors joint channel asset amounts) = length ledgers == 2 && length guarantors == 2 && nat_lt asset (2 ^ 32)
-fits_nodes c (steps.Pay who channel asset amount) = nat_lt asset (2 ^ 32)
+fits_nodes c (steps.Catch k) = nat_lt k.turn (2 ^ 48)
+fits_nodes c (steps.OpenOn k) = nat_lt k.asset (2 ^ 32)
+fits_nodes c (steps.OpenVirtual k) = length k.ledgers == 2 && length k.guarantors == 2 && nat_lt k.asset (2 ^ 32)
+fits_nodes c (steps.Pay k) = nat_lt k.asset (2 ^ 32)
 fits_nodes c (steps.Rounds count) = within count 1 64 && nat_le (c.rounds + count) 4096
 fits_nodes c s = true
 
 -- each value is within its limit
 abbrev pub fits : Context → Step → Bool
-fits c (steps.Deposit channel asset expected amount) = nat_lt asset (2 ^ 32)
-fits c (steps.Person name seed h node watchers) = is_able h node watchers && nat_lt (length c.people) 16
-fits c (steps.Channel name people nonce app duration) = within (length people) 2 4 && (not (app == 1) || length people == 2) && within duration 1 4294967295 && nat_lt (length c.channels) 64
-fits c (steps.Sign name channel by turn is_final outcome votes proposal) = nat_lt turn (2 ^ 48) && nat_le votes 3 && (not (votes == 0) || length proposal == 0) && has_index c by
-fits c (steps.Challenge channel chain by) = nat_le (length chain) 4 && has_index c by
+fits c (steps.Deposit k) = nat_lt k.asset (2 ^ 32)
+fits c (steps.Person k) = is_able k.h k.node k.watchers && nat_lt (length c.people) 16
+fits c (steps.Channel k) = within (length k.people) 2 4 && (not (k.app == 1) || length k.people == 2) && within k.duration 1 4294967295 && nat_lt (length c.channels) 64
+fits c (steps.Sign k) = nat_lt k.turn (2 ^ 48) && nat_le k.votes 3 && (not (k.votes == 0) || length k.proposal == 0) && has_index c k.by
+fits c (steps.Challenge k) = nat_le (length k.chain) 4 && has_index c k.by
 fits c (steps.Checkpoint channel chain) = nat_le (length chain) 4
 fits c (steps.Conclude channel chain) = nat_le (length chain) 4
-fits c (steps.Transfer channel state asset index) = nat_lt asset (2 ^ 32) && nat_lt index (2 ^ 8)
-fits c (steps.Claim guarantor state target target_state asset position) = nat_lt asset (2 ^ 32) && nat_lt position (2 ^ 8)
+fits c (steps.Transfer k) = nat_lt k.asset (2 ^ 32) && nat_lt k.index (2 ^ 8)
+fits c (steps.Claim k) = nat_lt k.asset (2 ^ 32) && nat_lt k.position (2 ^ 8)
 fits c s = fits_nodes c s
 
 abbrev pub key_in : Option Person → List (List ℕ)
@@ -145,14 +145,14 @@ distinct_channel c people nonce app duration = do
 
 -- what is declared has a digest of its own
 abbrev pub distinct : Context → Step → Result ℕ Rule
-distinct c (steps.Person name seed h node watchers) = holds rules.Name (is_new_person c seed h)
-distinct c (steps.Channel name people nonce app duration) = distinct_channel c people nonce app duration
+distinct c (steps.Person k) = holds rules.Name (is_new_person c k.seed k.h)
+distinct c (steps.Channel k) = distinct_channel c k.people k.nonce k.app k.duration
 distinct c s = Ok 0
 
 -- a race sets its own times, and a duration of 1 leaves it no time to answer in
 abbrev pub runs_in_race : Step → Bool
 runs_in_race (steps.Time to) = false
-runs_in_race (steps.Channel name people nonce app duration) = not (duration == 1)
+runs_in_race (steps.Channel k) = not (k.duration == 1)
 runs_in_race s = true
 
 abbrev pub with_person : Context → List ℕ → List ℕ → ℕ → Bool → Context
@@ -163,15 +163,15 @@ with_channel c name people nonce app duration = record c { channels = c.channels
 
 -- what is declared and used up once the step is there
 abbrev pub after : Context → Step → Context
-after c (steps.Person name seed h node watchers) = with_person c name seed h node
-after c (steps.Channel name people nonce app duration) = with_channel c name people nonce app duration
-after c (steps.Sign name channel by turn is_final outcome votes proposal) = record c { states = c.states ++ name ∷ []; signers = c.signers ++ by ∷ [] }
-after c (steps.Catch name from channel turn) = record c { states = c.states ++ name ∷ [] }
-after c (steps.Challenge channel chain by) = record c { signers = c.signers ++ by ∷ [] }
+after c (steps.Person k) = with_person c k.name k.seed k.h k.node
+after c (steps.Channel k) = with_channel c k.name k.people k.nonce k.app k.duration
+after c (steps.Sign k) = record c { states = c.states ++ k.name ∷ []; signers = c.signers ++ k.by ∷ [] }
+after c (steps.Catch k) = record c { states = c.states ++ k.name ∷ [] }
+after c (steps.Challenge k) = record c { signers = c.signers ++ k.by ∷ [] }
 after c (steps.Rounds count) = record c { rounds = c.rounds + count }
 after c s = c
 
 -- the signer of a person, unused
 abbrev pub signer_of : Step → Option Signing
-signer_of (steps.Person name seed h node watchers) = Some (fresh seed h)
+signer_of (steps.Person k) = Some (fresh k.seed k.h)
 signer_of s = None

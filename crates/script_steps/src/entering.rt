@@ -4,13 +4,13 @@ ghost use Rattle.std.specs.Prelude.{◌≡◌, ◌<◌, ◌==◌, ◌||◌, ◌^
 ghost use Rattle.std.specs.List.{list_any};
 ghost use Rattle.std.specs.Str.{bytes_eq};
 ghost use Rattle.script_steps.specs.Digests.{fresh};
-ghost use Rattle.script_steps.specs.Rules.{Gives, holds};
-ghost use Rattle.script_steps.specs.Conditions.{fits, keys_in, is_new_person, with_person, distinct_channel, with_channel, distinct, signer_of, after};
-ghost use Rattle.script_steps.specs.declared.step.Rule.TheVariants as rules;
+ghost use Rattle.script_steps.specs.Rules.{Gives};
+ghost use Rattle.script_steps.specs.Conditions.{fits, keys_in, distinct, signer_of, after};
+ghost use Rattle.script_steps.specs.declared.step.Step.TheVariants as steps;
 
 use crate::context::{Channel, Context, Person};
 use crate::digests::{fixed_of, signer_of};
-use crate::step::{Rule, Step, StepFault};
+use crate::step::{ChannelStep, PersonStep, Rule, Step, StepFault};
 use channel_values::{Key, Label, Name, NoMemory, channel_name, person_name};
 use lms_signatures::Signer;
 use std::alloc::Global;
@@ -45,28 +45,25 @@ fn has_channel(channels: &[Channel], digest: &Name) -> bool
 fn enter_person(
     alloc: Global,
     context: &mut Context,
-    name: &Label,
-    seed: &[u8; 32],
-    h: u64,
-    node: bool,
+    keys: &PersonStep,
 ) -> Result<Signer, StepFault>
-    requires { IsTrue (h == 5 || h == 10) }
-    ensures apart { Gives (λ _. 0) result (holds rules.Name (is_new_person context.old seed.now h)) }
-    ensures noted { OnOk result (context.new ≡ with_person context.old name.now seed.now h node) }
-    ensures signer { IfOk result (λ s. s ≡ fresh seed.now h) }
+    requires { IsTrue (keys.now.h == 5 || keys.now.h == 10) }
+    ensures apart { Gives (λ _. 0) result (distinct context.old (steps.Person keys.now)) }
+    ensures noted { OnOk result (context.new ≡ after context.old (steps.Person keys.now)) }
+    ensures signer { IfOk result (λ s. s ≡ fresh keys.now.seed keys.now.h) }
 {
-    let signer = signer_of(alloc, seed, h)?;
+    let signer = signer_of(alloc, &keys.seed, keys.h)?;
     let key = signer.public();
     let digest = person_name(&key);
     if has_person(context.people.as_slice(), &digest) {
         return Err(StepFault::Broken(Rule::Name));
     }
-    let name = name.copy()?;
+    let name = keys.name.copy()?;
     context.people.push(Person {
         name,
-        seed: *seed,
-        h,
-        node,
+        seed: keys.seed,
+        h: keys.h,
+        node: keys.node,
         key,
         digest,
     })?;
@@ -74,26 +71,18 @@ fn enter_person(
 }
 
 /// Takes note of a channel, unless an earlier one has its digest.
-fn enter_channel(
-    alloc: Global,
-    context: &mut Context,
-    name: &Label,
-    people: &[Label],
-    nonce: u64,
-    app: u8,
-    duration: u64,
-) -> Result<(), StepFault>
-    requires { duration < 2 ^ 32 }
-    ensures apart { Gives (λ _. 0) result (distinct_channel context.old people.now nonce app duration) }
-    ensures noted { OnOk result (context.new ≡ with_channel context.old name.now people.now nonce app duration) }
+fn enter_channel(alloc: Global, context: &mut Context, keys: &ChannelStep) -> Result<(), StepFault>
+    requires { keys.now.duration < 2 ^ 32 }
+    ensures apart { Gives (λ _. 0) result (distinct context.old (steps.Channel keys.now)) }
+    ensures noted { OnOk result (context.new ≡ after context.old (steps.Channel keys.now)) }
 {
-    let keys = keys_in(alloc, context, people)?;
-    let fixed = fixed_of(alloc, keys, nonce, app, duration as u32)?;
+    let people = keys_in(alloc, context, keys.people.as_slice())?;
+    let fixed = fixed_of(alloc, people, keys.nonce, keys.app, keys.duration as u32)?;
     let digest = channel_name(fixed.bytes());
     if has_channel(context.channels.as_slice(), &digest) {
         return Err(StepFault::Broken(Rule::Name));
     }
-    let name = name.copy()?;
+    let name = keys.name.copy()?;
     context.channels.push(Channel { name, digest })?;
     Ok(())
 }
@@ -107,29 +96,14 @@ pub fn enter(alloc: Global, context: &mut Context, step: &Step) -> Result<Option
     ensures signer { IfOk result (λ s. s ≡ signer_of step.now) }
 {
     match step {
-        Step::Person {
-            name,
-            seed,
-            h,
-            node,
-            ..
-        } => return Ok(Some(enter_person(alloc, context, name, seed, *h, *node)?)),
-        Step::Channel {
-            name,
-            people,
-            nonce,
-            app,
-            duration,
-        } => {
-            let people = people.as_slice();
-            enter_channel(alloc, context, name, people, *nonce, *app, *duration)?;
+        Step::Person(keys) => return Ok(Some(enter_person(alloc, context, keys)?)),
+        Step::Channel(keys) => enter_channel(alloc, context, keys)?,
+        Step::Sign(keys) => {
+            context.states.push(keys.name.copy()?)?;
+            context.signers.push(keys.by.copy()?)?;
         }
-        Step::Sign { name, by, .. } => {
-            context.states.push(name.copy()?)?;
-            context.signers.push(by.copy()?)?;
-        }
-        Step::Catch { name, .. } => context.states.push(name.copy()?)?,
-        Step::Challenge { by, .. } => context.signers.push(by.copy()?)?,
+        Step::Catch(keys) => context.states.push(keys.name.copy()?)?,
+        Step::Challenge(keys) => context.signers.push(keys.by.copy()?)?,
         Step::Rounds { count } => context.rounds += *count,
         _ => {}
     }

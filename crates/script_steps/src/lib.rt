@@ -16,4 +16,8 @@ pub use digits::is_hex;
 pub use entering::enter;
 pub use limits::{STEP_LIMIT, runs_in_race};
 pub use name_list::NameList;
-pub use step::{Rule, Step, StepFault};
+pub use step::{
+    CatchStep, ChallengeStep, ChannelStep, ClaimStep, DepositStep, OpenOnStep, OpenStep,
+    OpenVirtualStep, PayStep, PersonStep, RespondStep, Rule, SignStep, Step, StepFault,
+    TransferStep,
+};

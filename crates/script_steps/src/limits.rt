@@ -55,17 +55,13 @@ impl Context {
         ensures { result ≡ fits_nodes self.now step.now }
     {
         match step {
-            Step::Catch { turn, .. } => *turn < 1 << 48,
-            Step::OpenOn { asset, .. } | Step::Pay { asset, .. } => *asset < 1 << 32,
-            Step::OpenVirtual {
-                ledgers,
-                guarantors,
-                asset,
-                ..
-            } => {
-                ledgers.as_slice().len() == 2
-                    && guarantors.as_slice().len() == 2
-                    && *asset < 1 << 32
+            Step::Catch(keys) => keys.turn < 1 << 48,
+            Step::OpenOn(keys) => keys.asset < 1 << 32,
+            Step::Pay(keys) => keys.asset < 1 << 32,
+            Step::OpenVirtual(keys) => {
+                keys.ledgers.as_slice().len() == 2
+                    && keys.guarantors.as_slice().len() == 2
+                    && keys.asset < 1 << 32
             }
             Step::Rounds { count } => { within(*count, 1, 64) && self.rounds <= 4096 - *count }
             _ => true,
@@ -77,38 +73,24 @@ impl Context {
         ensures { result ≡ fits self.now step.now }
     {
         match step {
-            Step::Deposit { asset, .. } => *asset < 1 << 32,
-            Step::Person {
-                h,
-                node,
-                watchers,
-                ..
-            } => is_able(*h, *node, *watchers) && self.people.as_slice().len() < 16,
-            Step::Channel {
-                people,
-                app,
-                duration,
-                ..
-            } => self.fits_channel(people.as_slice(), *app, *duration),
-            Step::Sign {
-                by,
-                turn,
-                votes,
-                proposal,
-                ..
-            } => self.fits_state(by, *turn, *votes, proposal.assets()),
-            Step::Challenge { chain, by, .. } => {
-                chain.as_slice().len() <= 4 && self.has_index(by.as_str())
+            Step::Deposit(keys) => keys.asset < 1 << 32,
+            Step::Person(keys) => {
+                is_able(keys.h, keys.node, keys.watchers) && self.people.as_slice().len() < 16
+            }
+            Step::Channel(keys) => {
+                self.fits_channel(keys.people.as_slice(), keys.app, keys.duration)
+            }
+            Step::Sign(keys) => {
+                self.fits_state(&keys.by, keys.turn, keys.votes, keys.proposal.assets())
+            }
+            Step::Challenge(keys) => {
+                keys.chain.as_slice().len() <= 4 && self.has_index(keys.by.as_str())
             }
             Step::Checkpoint { chain, .. } | Step::Conclude { chain, .. } => {
                 chain.as_slice().len() <= 4
             }
-            Step::Transfer { asset, index, .. } => *asset < 1 << 32 && *index < 1 << 8,
-            Step::Claim {
-                asset,
-                position,
-                ..
-            } => *asset < 1 << 32 && *position < 1 << 8,
+            Step::Transfer(keys) => keys.asset < 1 << 32 && keys.index < 1 << 8,
+            Step::Claim(keys) => keys.asset < 1 << 32 && keys.position < 1 << 8,
             _ => self.fits_nodes(step),
         }
     }
@@ -120,7 +102,7 @@ pub fn runs_in_race(step: &Step) -> bool
 {
     match step {
         Step::Time { .. } => false,
-        Step::Channel { duration, .. } => *duration != 1,
+        Step::Channel(keys) => keys.duration != 1,
         _ => true,
     }
 }

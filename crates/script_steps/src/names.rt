@@ -12,10 +12,10 @@ fn declares(step: &Step) -> Option<&Label>
     ensures { option_map (λ l. l.now) result ≡ declares step.now }
 {
     match step {
-        Step::Person { name, .. }
-        | Step::Channel { name, .. }
-        | Step::Sign { name, .. }
-        | Step::Catch { name, .. } => Some(name),
+        Step::Person(keys) => Some(&keys.name),
+        Step::Channel(keys) => Some(&keys.name),
+        Step::Sign(keys) => Some(&keys.name),
+        Step::Catch(keys) => Some(&keys.name),
         _ => None,
     }
 }
@@ -73,35 +73,27 @@ impl Context {
         ensures { result ≡ are_known self.now (uses_of_nodes step.now) }
     {
         match step {
-            Step::Catch { from, channel, .. } => {
-                self.knows(Kind::Node, from) && self.knows(Kind::Channel, channel)
+            Step::Catch(keys) => {
+                self.knows(Kind::Node, &keys.from) && self.knows(Kind::Channel, &keys.channel)
             }
             Step::Send { to, state } => {
                 self.knows(Kind::Node, to) && self.knows(Kind::State, state)
             }
             Step::Drop { to } => self.knows(Kind::Node, to),
-            Step::Open { who, channel, .. } | Step::Close { who, channel } => {
-                self.knows_open(who.as_slice(), channel)
+            Step::Open(keys) => self.knows_open(keys.who.as_slice(), &keys.channel),
+            Step::Close { who, channel } => self.knows_open(who.as_slice(), channel),
+            Step::OpenOn(keys) => {
+                self.knows_open_on(keys.who.as_slice(), &keys.ledger, &keys.channel)
             }
-            Step::OpenOn {
-                who,
-                ledger,
-                channel,
-                ..
-            } => self.knows_open_on(who.as_slice(), ledger, channel),
-            Step::OpenVirtual {
-                who,
-                ledgers,
-                guarantors,
-                joint,
-                channel,
-                ..
-            } => {
-                let (ledgers, guarantors) = (ledgers.as_slice(), guarantors.as_slice());
-                self.knows_open_virtual(who.as_slice(), ledgers, guarantors, joint, channel)
-            }
-            Step::Pay { who, channel, .. } => {
-                self.knows(Kind::Node, who) && self.knows(Kind::Channel, channel)
+            Step::OpenVirtual(keys) => self.knows_open_virtual(
+                keys.who.as_slice(),
+                keys.ledgers.as_slice(),
+                keys.guarantors.as_slice(),
+                &keys.joint,
+                &keys.channel,
+            ),
+            Step::Pay(keys) => {
+                self.knows(Kind::Node, &keys.who) && self.knows(Kind::Channel, &keys.channel)
             }
             Step::Exit { who } => self.knows_all(Kind::Node, who.as_slice()),
             _ => true,
@@ -113,40 +105,33 @@ impl Context {
         ensures { result ≡ are_known self.now (uses step.now) }
     {
         match step {
-            Step::Deposit { channel, .. } => self.knows(Kind::Place, channel),
-            Step::Channel { people, .. } => self.knows_all(Kind::Person, people.as_slice()),
-            Step::Sign { channel, by, .. } => self.knows_sign(channel, by),
-            Step::Challenge { channel, chain, by } => {
-                self.knows(Kind::Channel, channel)
-                    && self.knows_all(Kind::State, chain.as_slice())
-                    && self.knows(Kind::Hand, by)
+            Step::Deposit(keys) => self.knows(Kind::Place, &keys.channel),
+            Step::Channel(keys) => self.knows_all(Kind::Person, keys.people.as_slice()),
+            Step::Sign(keys) => self.knows_sign(&keys.channel, &keys.by),
+            Step::Challenge(keys) => {
+                self.knows(Kind::Channel, &keys.channel)
+                    && self.knows_all(Kind::State, keys.chain.as_slice())
+                    && self.knows(Kind::Hand, &keys.by)
             }
-            Step::Respond {
-                channel,
-                from,
-                state,
-            } => {
-                self.knows(Kind::Channel, channel)
-                    && self.knows(Kind::State, from)
-                    && self.knows(Kind::State, state)
+            Step::Respond(keys) => {
+                self.knows(Kind::Channel, &keys.channel)
+                    && self.knows(Kind::State, &keys.from)
+                    && self.knows(Kind::State, &keys.state)
             }
-            Step::Refute { channel, state } | Step::Transfer { channel, state, .. } => {
+            Step::Refute { channel, state } => {
                 self.knows(Kind::Channel, channel) && self.knows(Kind::State, state)
+            }
+            Step::Transfer(keys) => {
+                self.knows(Kind::Channel, &keys.channel) && self.knows(Kind::State, &keys.state)
             }
             Step::Checkpoint { channel, chain } | Step::Conclude { channel, chain } => {
                 self.knows(Kind::Channel, channel) && self.knows_all(Kind::State, chain.as_slice())
             }
-            Step::Claim {
-                guarantor,
-                state,
-                target,
-                target_state,
-                ..
-            } => {
-                self.knows(Kind::Channel, guarantor)
-                    && self.knows(Kind::State, state)
-                    && self.knows(Kind::Channel, target)
-                    && self.knows(Kind::State, target_state)
+            Step::Claim(keys) => {
+                self.knows(Kind::Channel, &keys.guarantor)
+                    && self.knows(Kind::State, &keys.state)
+                    && self.knows(Kind::Channel, &keys.target)
+                    && self.knows(Kind::State, &keys.target_state)
             }
             _ => self.knows_names_of_nodes(step),
         }
@@ -156,8 +141,8 @@ impl Context {
         ensures { result ≡ is_single self.now step.now }
     {
         match step {
-            Step::Person { seed, .. } => !self.has_seed(seed),
-            Step::Channel { people, .. } => !repeats(people.as_slice()),
+            Step::Person(keys) => !self.has_seed(&keys.seed),
+            Step::Channel(keys) => !repeats(keys.people.as_slice()),
             _ => true,
         }
     }

@@ -47,53 +47,147 @@ impl fmt::Display for Rule {
 
 impl Error for Rule {}
 
+/// The keys of a deposit step. `channel` is the name of a declared channel or 64 digits 0-9 a-f, and `asset` is below
+/// 2^32.
+#[derive(Drop)]
+pub struct DepositStep {
+    pub channel: Label,
+    pub asset: u64,
+    pub expected: u64,
+    pub amount: u64,
+}
+
+/// The keys of a person step. `h` is 5 or 10.
+#[derive(Drop)]
+pub struct PersonStep {
+    pub name: Label,
+    pub seed: [u8; 32],
+    pub h: u64,
+    pub node: bool,
+    pub watchers: u64,
+}
+
+/// The keys of a channel step, of two to four people. `app` is 0 consensus, 1 payment or 2 fixed; `duration` is 1 to
+/// 2^32 - 1.
+#[derive(Drop)]
+pub struct ChannelStep {
+    pub name: Label,
+    pub people: Listed<Label>,
+    pub nonce: u64,
+    pub app: u8,
+    pub duration: u64,
+}
+
+/// The keys of a sign step. `turn` is below 2^48, and `votes` is at most 3. With 0 votes the proposal is empty.
+#[derive(Drop)]
+pub struct SignStep {
+    pub name: Label,
+    pub channel: Label,
+    pub by: Label,
+    pub turn: u64,
+    pub is_final: bool,
+    pub outcome: Outcome,
+    pub votes: u64,
+    pub proposal: Outcome,
+}
+
+/// The keys of a catch step: the state that the node of `from` signed at that turn, which is below 2^48.
+#[derive(Drop)]
+pub struct CatchStep {
+    pub name: Label,
+    pub from: Label,
+    pub channel: Label,
+    pub turn: u64,
+}
+
+/// The keys of a challenge step. A chain names at most four states.
+#[derive(Drop)]
+pub struct ChallengeStep {
+    pub channel: Label,
+    pub chain: Listed<Label>,
+    pub by: Label,
+}
+
+/// The keys of a respond step.
+#[derive(Drop)]
+pub struct RespondStep {
+    pub channel: Label,
+    pub from: Label,
+    pub state: Label,
+}
+
+/// The keys of a transfer step. The outcome is that of the state. `asset` is below 2^32, and `index` below 2^8.
+#[derive(Drop)]
+pub struct TransferStep {
+    pub channel: Label,
+    pub state: Label,
+    pub asset: u64,
+    pub index: u64,
+}
+
+/// The keys of a claim step. The outcomes are those of the states. `asset` is below 2^32, and `position` below 2^8.
+#[derive(Drop)]
+pub struct ClaimStep {
+    pub guarantor: Label,
+    pub state: Label,
+    pub target: Label,
+    pub target_state: Label,
+    pub asset: u64,
+    pub position: u64,
+}
+
+/// The keys of an open step, for people with nodes, as in all commands.
+#[derive(Drop)]
+pub struct OpenStep {
+    pub who: Listed<Label>,
+    pub channel: Label,
+    pub outcome: Outcome,
+}
+
+/// The keys of an open_on step. `asset` is below 2^32.
+#[derive(Drop)]
+pub struct OpenOnStep {
+    pub who: Listed<Label>,
+    pub ledger: Label,
+    pub channel: Label,
+    pub asset: u64,
+    pub amounts: (u64, u64),
+}
+
+/// The keys of an open_virtual step, with two ledgers and two guarantors; `asset` is below 2^32. A script that is read
+/// has the plain route.
+#[derive(Drop)]
+pub struct OpenVirtualStep {
+    pub who: Listed<Label>,
+    pub route: Route,
+    pub ledgers: Listed<Label>,
+    pub guarantors: Listed<Label>,
+    pub joint: Label,
+    pub channel: Label,
+    pub asset: u64,
+    pub amounts: (u64, u64),
+}
+
+/// The keys of a pay step. `asset` is below 2^32.
+#[derive(Drop)]
+pub struct PayStep {
+    pub who: Label,
+    pub channel: Label,
+    pub asset: u64,
+    pub amount: u64,
+}
+
 /// A step, whose fields are the keys of its form in order.
 #[derive(Drop)]
 pub enum Step {
-    /// `channel` is the name of a declared channel or 64 digits 0-9 a-f, and `asset` is below 2^32.
-    Deposit {
-        channel: Label,
-        asset: u64,
-        expected: u64,
-        amount: u64,
-    },
+    Deposit(DepositStep),
     Time {
         to: u64,
     },
-    /// `h` is 5 or 10.
-    Person {
-        name: Label,
-        seed: [u8; 32],
-        h: u64,
-        node: bool,
-        watchers: u64,
-    },
-    /// Two to four people. `app` is 0 consensus, 1 payment or 2 fixed; `duration` is 1 to 2^32 - 1.
-    Channel {
-        name: Label,
-        people: Listed<Label>,
-        nonce: u64,
-        app: u8,
-        duration: u64,
-    },
-    /// `turn` is below 2^48, and `votes` is at most 3. With 0 votes the proposal is empty.
-    Sign {
-        name: Label,
-        channel: Label,
-        by: Label,
-        turn: u64,
-        is_final: bool,
-        outcome: Outcome,
-        votes: u64,
-        proposal: Outcome,
-    },
-    /// The state that the node of `from` signed at that turn, which is below 2^48.
-    Catch {
-        name: Label,
-        from: Label,
-        channel: Label,
-        turn: u64,
-    },
+    Person(PersonStep),
+    Channel(ChannelStep),
+    Sign(SignStep),
+    Catch(CatchStep),
     Send {
         to: Label,
         state: Label,
@@ -101,21 +195,13 @@ pub enum Step {
     Drop {
         to: Label,
     },
-    /// A chain names at most four states.
-    Challenge {
-        channel: Label,
-        chain: Listed<Label>,
-        by: Label,
-    },
-    Respond {
-        channel: Label,
-        from: Label,
-        state: Label,
-    },
+    Challenge(ChallengeStep),
+    Respond(RespondStep),
     Refute {
         channel: Label,
         state: Label,
     },
+    /// A chain names at most four states.
     Checkpoint {
         channel: Label,
         chain: Listed<Label>,
@@ -124,54 +210,12 @@ pub enum Step {
         channel: Label,
         chain: Listed<Label>,
     },
-    /// The outcome is that of the state. `asset` is below 2^32, and `index` below 2^8.
-    Transfer {
-        channel: Label,
-        state: Label,
-        asset: u64,
-        index: u64,
-    },
-    /// The outcomes are those of the states. `asset` is below 2^32, and `position` below 2^8.
-    Claim {
-        guarantor: Label,
-        state: Label,
-        target: Label,
-        target_state: Label,
-        asset: u64,
-        position: u64,
-    },
-    /// People with nodes, as in all commands.
-    Open {
-        who: Listed<Label>,
-        channel: Label,
-        outcome: Outcome,
-    },
-    /// `asset` is below 2^32.
-    OpenOn {
-        who: Listed<Label>,
-        ledger: Label,
-        channel: Label,
-        asset: u64,
-        amounts: (u64, u64),
-    },
-    /// Two ledgers and two guarantors; `asset` is below 2^32. A script that is read has the plain route.
-    OpenVirtual {
-        who: Listed<Label>,
-        route: Route,
-        ledgers: Listed<Label>,
-        guarantors: Listed<Label>,
-        joint: Label,
-        channel: Label,
-        asset: u64,
-        amounts: (u64, u64),
-    },
-    /// `asset` is below 2^32.
-    Pay {
-        who: Label,
-        channel: Label,
-        asset: u64,
-        amount: u64,
-    },
+    Transfer(TransferStep),
+    Claim(ClaimStep),
+    Open(OpenStep),
+    OpenOn(OpenOnStep),
+    OpenVirtual(OpenVirtualStep),
+    Pay(PayStep),
     Close {
         who: Listed<Label>,
         channel: Label,

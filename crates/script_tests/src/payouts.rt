@@ -16,29 +16,20 @@ fn payouts_are_read(rt: HostRuntime) -> Result<(), Fail> {
         return Ok(assert!(rt; false));
     };
     match transfer {
-        Step::Transfer {
-            channel,
-            state,
-            asset,
-            index,
-        } => {
-            assert_eq!(rt; (channel.as_str(), state.as_str()), ("C", "S"));
-            assert_eq!(rt; (*asset, *index), (4294967295, 255));
+        Step::Transfer(keys) => {
+            assert_eq!(rt; (keys.channel.as_str(), keys.state.as_str()), ("C", "S"));
+            assert_eq!(rt; (keys.asset, keys.index), (4294967295, 255));
         }
         _ => assert!(rt; false),
     }
     match claim {
-        Step::Claim {
-            guarantor,
-            state,
-            target,
-            target_state,
-            asset,
-            position,
-        } => {
-            assert_eq!(rt; (guarantor.as_str(), state.as_str()), ("C", "S"));
-            assert_eq!(rt; (target.as_str(), target_state.as_str()), ("C", "T"));
-            assert_eq!(rt; (*asset, *position), (1, 2));
+        Step::Claim(keys) => {
+            assert_eq!(rt; (keys.guarantor.as_str(), keys.state.as_str()), ("C", "S"));
+            assert_eq!(rt;
+                (keys.target.as_str(), keys.target_state.as_str()),
+                ("C", "T")
+            );
+            assert_eq!(rt; (keys.asset, keys.position), (1, 2));
         }
         _ => assert!(rt; false),
     }

@@ -47,21 +47,14 @@ const DEPOSIT: &str =
 fn a_deposit_is_read_in_a_race(rt: HostRuntime) -> Result<(), Fail> {
     let script = read_script(rt.alloc(), DEPOSIT.as_bytes(), true)?;
     match script.steps.as_slice() {
-        [
-            Step::Deposit {
-                channel,
-                asset,
-                expected,
-                amount,
-            },
-        ] => {
+        [Step::Deposit(keys)] => {
             assert_eq!(rt;
-                channel.as_str(),
+                keys.channel.as_str(),
                 "0123456789abcdef0123456789abcdef0123456789abcdef0123456789abcdef"
             );
-            assert_eq!(rt; *asset, 4294967295);
-            assert_eq!(rt; *expected, 0);
-            assert_eq!(rt; *amount, 18446744073709551615);
+            assert_eq!(rt; keys.asset, 4294967295);
+            assert_eq!(rt; keys.expected, 0);
+            assert_eq!(rt; keys.amount, 18446744073709551615);
         }
         _ => assert!(rt; false),
     }
@@ -117,19 +110,14 @@ fn names_in_outcomes_lead_to_digests(rt: HostRuntime) -> Result<(), Fail> {
     let script = read_script(rt.alloc(), EVERY_FORM.as_bytes(), false)?;
     let steps = script.steps.as_slice();
     assert_eq!(rt; steps.len(), 13);
-    let Step::Sign {
-        turn,
-        is_final,
-        outcome,
-        votes,
-        proposal,
-        ..
-    } = &steps[7]
-    else {
+    let Step::Sign(keys) = &steps[7] else {
         return Ok(assert!(rt; false));
     };
-    assert_eq!(rt; (*turn, *is_final, *votes), (281474976710655, true, 3));
-    let [first, second] = outcome.assets() else {
+    assert_eq!(rt;
+        (keys.turn, keys.is_final, keys.votes),
+        (281474976710655, true, 3)
+    );
+    let [first, second] = keys.outcome.assets() else {
         return Ok(assert!(rt; false));
     };
     let Shape::Allocation(items) = &first.shape else {
@@ -149,7 +137,7 @@ fn names_in_outcomes_lead_to_digests(rt: HostRuntime) -> Result<(), Fail> {
     assert_eq!(rt; *target, name_of(D));
     let wanted = [Dest::Channel(name_of(C)), Dest::Person(name_of(A))];
     assert_eq!(rt; list.as_slice(), wanted.as_slice());
-    let [last] = proposal.assets() else {
+    let [last] = keys.proposal.assets() else {
         return Ok(assert!(rt; false));
     };
     let Shape::Allocation(items) = &last.shape else {

@@ -27,7 +27,8 @@ use Rattle.channel_safety.specs.Safety.{IsChannelOf, SettlesWell}
 use Rattle.share_laws.specs.Places.{Order, plan, channels, listed, proposed, outcomes_of, possible_after, is_held, last_made, possible, IsPlace}
 use Rattle.share_laws.specs.Bases.{all_bases, NoWorse}
 use Rattle.funding_plans.specs.Shapes.{items_in, list_in}
-use Rattle.share_laws.specs.Turns.{OneOf, Turns}
+use Rattle.support_rules.specs.May.{OneOf}
+use Rattle.share_laws.specs.Turns.{Turns}
 use Rattle.share_laws.specs.Finality.{StandsFor, StepsKeepPossible, RestsOnNoPayments, FinalsEndWell, HonestSharesAreKept}
 use Rattle.channel_safety.proofs.Taking.{take-part}
 use Rattle.share_laws.proofs.Finals.{not-final, final-is}

@@ -28,7 +28,7 @@ use Rattle.channel_safety.specs.Occurring.{NoCollision, AreValid}
 use Rattle.channel_safety.specs.Safety.{IsChannelOf, SettlesWell}
 use Rattle.share_laws.specs.Books.{counts_in, outcome_in}
 use Rattle.share_laws.specs.Places.{Order, other, channels, counting, outcomes_of, possible_after, is_held, last_made, possible, IsPlace}
-use Rattle.share_laws.specs.Turns.{OneOf}
+use Rattle.support_rules.specs.May.{OneOf}
 use Rattle.share_laws.specs.Sound.{IsPromise}
 use Rattle.share_laws.specs.Finality.{StandsFor, StepsKeepPossible}
 use Rattle.share_laws.specs.Signed.{Promises, IsNoPayment, SignedGuaranteesStand}

@@ -11,7 +11,8 @@ use Rattle.share_laws.specs.Books.{Counting, counts_in}
 use Rattle.share_laws.specs.Places.{possible, counting_of, counting_among}
 use Rattle.channel_values.specs.Outcomes.{AreApart}
 use Rattle.share_laws.specs.Bases.{NoWorse}
-use Rattle.share_laws.specs.Turns.{OneOf, Turns, names}
+use Rattle.support_rules.specs.May.{OneOf}
+use Rattle.share_laws.specs.Turns.{Turns, names}
 use Rattle.share_laws.proofs.Apart.{or-none}
 use Rattle.share_laws.proofs.Choices.{differ-flip}
 use Rattle.share_laws.proofs.Follow.{Follows, ends, starts, stays, settles}

@@ -23,7 +23,8 @@ use Rattle.share_laws.specs.Lines.{SignaturesAreFair}
 use Rattle.share_laws.specs.Sound.{IsSound}
 use Rattle.share_laws.specs.Bases.{all_bases}
 use Rattle.funding_plans.specs.Shapes.{items_in, list_in}
-use Rattle.share_laws.specs.Turns.{OneOf, names}
+use Rattle.support_rules.specs.May.{OneOf}
+use Rattle.share_laws.specs.Turns.{names}
 use Rattle.share_laws.specs.Whole.{EndsWell}
 use Rattle.std.specs.Str.{bytes_eq}
 

@@ -19,7 +19,7 @@ use Rattle.channel_safety.specs.Occurring.{NoCollision, AreValid}
 use Rattle.channel_safety.specs.Hashing.{Hashes}
 use Rattle.share_laws.specs.Places.{channels, last_made, outcomes_of, IsPlace}
 use Rattle.share_laws.specs.Finality.{StandsFor, StepsKeepPossible}
-use Rattle.share_laws.specs.Turns.{OneOf}
+use Rattle.support_rules.specs.May.{OneOf}
 
 -- What is held ends with fewer than n steps of others after the state that the participant signed last, in an outcome
 -- that stands for one that was possible then.

@@ -3,11 +3,8 @@ use Rattle.std.specs.Prelude.{◌≡◌, ℕ, ◌≤◌, List, [], ◌∷◌, le
 use Rattle.channel_values.specs.Parts.{FixedParts}
 use Rattle.channel_values.specs.declared.value.AssetOutcome.{AssetOutcome}
 use Rattle.channel_values.specs.Rules.{Rules}
+use Rattle.support_rules.specs.May.{OneOf}
 use Rattle.share_laws.specs.Bases.{NoWorse}
-
-abbrev pub OneOf : {X : Type 0} → (X → Type 0) → List X → Type 0
-OneOf P [] = ⊥
-OneOf P (x ∷ xs) = P x ⊎ OneOf P xs
 
 -- the channel didn't count; or its outcomes stay; or one that is no worse than one of them is final
 abbrev pub Turns : (asset : ℕ) → List ℕ → List (List ℕ) → List ℕ → (before now : List (List AssetOutcome)) → Type 0

@@ -147,6 +147,6 @@ fits_route f route ledgers guarantors joint channel asset ab =
 
 unfoldable pub fits : FactsOf → Command → Bool
 fits f (Open fixed outcome) = fits_root f fixed outcome
-fits f (OpenOn ledger fixed asset amounts) = fits_on_ledger f ledger fixed asset amounts
-fits f (OpenVirtual route ledgers guarantors joint channel asset amounts) = fits_route f route ledgers guarantors joint channel asset amounts
+fits f (OpenOn o) = fits_on_ledger f o.ledger o.fixed o.asset o.amounts
+fits f (OpenVirtual v) = fits_route f v.route v.ledgers v.guarantors v.joint v.channel v.asset v.amounts
 fits f _ = false

@@ -12,7 +12,7 @@ use crate::routes::fits_route;
 use crate::stake::Stake;
 use channel_values::{AssetOutcome, Dest, Fixed, Item, Name, Outcome, Shape};
 use funding_plans::Facts;
-use network::Command;
+use network::{Command, LedgerFunding};
 use support_rules::people_of;
 
 // ---- a channel that holds its own funds
@@ -97,17 +97,19 @@ fn fits_between(
     }
 }
 
-fn fits_on_ledger(
-    facts: &Facts,
-    ledger: &Name,
-    fixed: &Fixed,
-    asset: u32,
-    amounts: (u64, u64),
-) -> bool
-    ensures { result ≡ told.fits_on_ledger facts.now ledger.now fixed.now asset amounts }
+fn fits_on_ledger(facts: &Facts, funding: &LedgerFunding) -> bool
+    ensures { result ≡ told.fits_on_ledger facts.now funding.now.ledger funding.now.fixed
+        funding.now.asset funding.now.amounts }
 {
-    let people = people_of(fixed);
-    fixed.app() == 1 && fits_between(facts, ledger, asset, amounts, people.as_slice())
+    let people = people_of(&funding.fixed);
+    funding.fixed.app() == 1
+        && fits_between(
+            facts,
+            &funding.ledger,
+            funding.asset,
+            funding.amounts,
+            people.as_slice(),
+        )
 }
 
 // ---- a virtual channel
@@ -155,23 +157,8 @@ pub fn fits(facts: &Facts, command: &Command) -> bool
 {
     match command {
         Command::Open { fixed, outcome } => fits_root(facts, fixed, outcome),
-        Command::OpenOn {
-            ledger,
-            fixed,
-            asset,
-            amounts,
-        } => fits_on_ledger(facts, ledger, fixed, *asset, *amounts),
-        Command::OpenVirtual {
-            route,
-            ledgers,
-            guarantors,
-            joint,
-            channel,
-            asset,
-            amounts,
-        } => fits_route(
-            facts, *route, ledgers, guarantors, joint, channel, *asset, *amounts,
-        ),
+        Command::OpenOn(funding) => fits_on_ledger(facts, funding),
+        Command::OpenVirtual(funding) => fits_route(facts, funding),
         Command::Pay { .. } => false,
         Command::Close { .. } => false,
         Command::Exit => false,

@@ -9,7 +9,7 @@ use crate::ledgers::{affords_in, is_between, lends};
 use crate::stake::Stake;
 use channel_values::{Fixed, Name};
 use funding_plans::{Facts, Part, chain_in, place_in};
-use network::Route;
+use network::{Route, VirtualFunding};
 use support_rules::people_of;
 
 fn app_of(route: Route) -> u8
@@ -135,33 +135,35 @@ fn are_route_channels(
 
 /// Whether the fixed parts, the people and the amounts of such an opening fit, and its ledgers lend what it needs. That its
 /// channels are new, and that the ledgers are in the plan, is asked elsewhere.
-pub(crate) fn fits_route(
-    facts: &Facts,
-    route: Route,
-    ledgers: &(Name, Name),
-    guarantors: &(Fixed, Fixed),
-    joint: &Fixed,
-    channel: &Fixed,
-    asset: u32,
-    amounts: (u64, u64),
-) -> bool
-    ensures { result ≡ told.fits_route facts.now route ledgers.now guarantors.now joint.now channel.now asset amounts }
+pub(crate) fn fits_route(facts: &Facts, funding: &VirtualFunding) -> bool
+    ensures { result ≡ told.fits_route facts.now funding.now.route funding.now.ledgers funding.now.guarantors
+        funding.now.joint funding.now.channel funding.now.asset funding.now.amounts }
 {
-    let people = people_of(joint);
+    let people = people_of(&funding.joint);
     let [first, middle, second] = people.as_slice() else {
         return false;
     };
+    let (route, asset, amounts) = (funding.route, funding.asset, funding.amounts);
     is_among(&facts.me, people.as_slice())
         && can_share(first, second, amounts)
         && is_double_small(amounts)
         && are_route_channels(
             app_of(route),
-            guarantors,
-            joint,
-            channel,
+            &funding.guarantors,
+            &funding.joint,
+            &funding.channel,
             first,
             middle,
             second,
         )
-        && route_lends(facts, route, ledgers, asset, amounts, first, middle, second)
+        && route_lends(
+            facts,
+            route,
+            &funding.ledgers,
+            asset,
+            amounts,
+            first,
+            middle,
+            second,
+        )
 }

@@ -15,7 +15,7 @@ use Rattle.script_steps.specs.Digests.{key_of}
 use Rattle.step_meanings.specs.Chains.{or_none}
 use Rattle.step_meanings.specs.declared.chains.NamedState.{NamedState}
 use Rattle.step_meanings.specs.Commands.{command_in}
-use Rattle.step_meanings.specs.Meanings.{Meaning, learning, doing, telling, joins_if, valid_fixed, names_by, both_by, meant, meaning}
+use Rattle.step_meanings.specs.Meanings.{Meaning, learning, doing, telling, joins_if, valid_fixed, names_by, both_by, ledger_funding, virtual_funding, meant, meaning}
 use Rattle.step_meanings.specs.Names.{sign_challenge, fixed_by, name_of}
 use Rattle.step_meanings.specs.People.{◌>>=◌, SignedBy, has_name, person_by, key_by, keys_by, signature_of, used_once, replaced, sign}
 use Rattle.step_meanings.specs.declared.effect.Effect.{Effect}
@@ -160,12 +160,12 @@ tells n m who who' command same = record { names = same; command = refl }
 
 -- the step commands nothing, and declares no person and no channel
 abbrev IsQuiet : Step → Type 0
-IsQuiet (steps.Person name seed h node watchers) = ⊥
-IsQuiet (steps.Channel name people nonce app duration) = ⊥
-IsQuiet (steps.Open who channel opening) = ⊥
-IsQuiet (steps.OpenOn who ledger channel asset amounts) = ⊥
-IsQuiet (steps.OpenVirtual who route ledgers guarantors joint channel asset amounts) = ⊥
-IsQuiet (steps.Pay who channel asset amount) = ⊥
+IsQuiet (steps.Person k) = ⊥
+IsQuiet (steps.Channel k) = ⊥
+IsQuiet (steps.Open k) = ⊥
+IsQuiet (steps.OpenOn k) = ⊥
+IsQuiet (steps.OpenVirtual k) = ⊥
+IsQuiet (steps.Pay k) = ⊥
 IsQuiet (steps.Close who channel) = ⊥
 IsQuiet (steps.Exit who) = ⊥
 IsQuiet step = Unit {0}
@@ -186,26 +186,26 @@ catches : (n : Names) (name : List ℕ) (number : ℕ) (key channel : List ℕ) 
 catches n name number key channel turn = quiet n n (Catch name number key channel turn) refl refl refl
 
 stays : (n : Names) (step : Step) → IsQuiet step → StaysIf n (meant n step)
-stays n (steps.Deposit channel asset expected amount) is = search (rules, after, enters)
+stays n (steps.Deposit k) is = search (rules, after, enters)
 stays n (steps.Time to) is = enters n n (ops.Time to) refl refl
-stays n (steps.Sign name channel by turn is_final items votes proposal) is = search (rules, after, after-signed, sign-keeps, learns)
-stays n (steps.Catch name from channel turn) is = search (rules, after, catches)
+stays n (steps.Sign k) is = search (rules, after, after-signed, sign-keeps, learns)
+stays n (steps.Catch k) is = search (rules, after, catches)
 stays n (steps.Send to state) is = search (rules, after, posts)
 stays n (steps.Drop to) is = search (rules, after, loses)
-stays n (steps.Challenge channel chain by) is = search (rules, after, after-signed, challenge-keeps, enters)
-stays n (steps.Respond channel from next) is = search (rules, after, enters)
+stays n (steps.Challenge k) is = search (rules, after, after-signed, challenge-keeps, enters)
+stays n (steps.Respond k) is = search (rules, after, enters)
 stays n (steps.Refute channel next) is = search (rules, after, enters)
 stays n (steps.Checkpoint channel chain) is = search (rules, after, enters)
 stays n (steps.Conclude channel chain) is = search (rules, after, enters)
-stays n (steps.Transfer channel state asset index) is = search (rules, after, enters)
-stays n (steps.Claim guarantor promise target ending asset position) is = search (rules, after, enters)
+stays n (steps.Transfer k) is = search (rules, after, enters)
+stays n (steps.Claim k) is = search (rules, after, enters)
 stays n (steps.Rounds count) is = quiet n n (Rounds count) refl refl refl
-stays n (steps.Person name seed h node watchers) is = absurd is
-stays n (steps.Channel name people nonce app duration) is = absurd is
-stays n (steps.Open who channel opening) is = absurd is
-stays n (steps.OpenOn who ledger channel asset amounts) is = absurd is
-stays n (steps.OpenVirtual who route ledgers guarantors joint channel asset amounts) is = absurd is
-stays n (steps.Pay who channel asset amount) is = absurd is
+stays n (steps.Person k) is = absurd is
+stays n (steps.Channel k) is = absurd is
+stays n (steps.Open k) is = absurd is
+stays n (steps.OpenOn k) is = absurd is
+stays n (steps.OpenVirtual k) is = absurd is
+stays n (steps.Pay k) is = absurd is
 stays n (steps.Close who channel) is = absurd is
 stays n (steps.Exit who) is = absurd is
 
@@ -226,49 +226,49 @@ module _ (n m : Names) (same : AreAlike n m) where
   names-alike name = ap (option_map name_of) (fixed-alike name)
 
   pub meaning_alike : (step : Step) → MeanAlike (meaning n step) (meaning m step)
-  meaning_alike (steps.Person name seed h node watchers) = record {
+  meaning_alike (steps.Person k) = record {
     names = record {
-      people = cards-append n.people _ ∙ (ap (λ (cards : List (List ℕ × List ℕ)). cards ++ (name, key_of seed h) ∷ []) same.people ∙ sym (cards-append m.people _));
+      people = cards-append n.people _ ∙ (ap (λ (cards : List (List ℕ × List ℕ)). cards ++ (k.name, key_of k.seed k.h) ∷ []) same.people ∙ sym (cards-append m.people _));
       channels = same.channels;
     };
-    command = joins-none node _ _ watchers ∙ sym (joins-none node _ _ watchers);
+    command = joins-none k.node _ _ k.watchers ∙ sym (joins-none k.node _ _ k.watchers);
   }
-  meaning_alike (steps.Channel name people nonce app duration) =
-      whole-both n m (meant n (steps.Channel name people nonce app duration)) (meant m (steps.Channel name people nonce app duration)) same
-      (after-both (valid_fixed (fixed_with (keys_by n.people people) nonce app duration)) (valid_fixed (fixed_with (keys_by m.people people) nonce app duration)) _ _
-      (ap (λ (keys : List (List ℕ)). valid_fixed (fixed_with keys nonce app duration)) (keys-alike n.people m.people people same.people))
-      (λ f. record { names = record { people = same.people; channels = ap (λ (channels : List NamedChannel). channels ++ record { name = name; fixed = f } ∷ []) same.channels }; command = refl }))
-  meaning_alike (steps.Open who channel opening) =
-      whole-both n m _ _ same (after-both (fixed_by n.channels channel) (fixed_by m.channels channel) _ _ (fixed-alike channel) (λ f. tells n m who who (commands.Open f opening) same))
-  meaning_alike (steps.OpenOn who ledger channel asset amounts) =
+  meaning_alike (steps.Channel k) =
+      whole-both n m (meant n (steps.Channel k)) (meant m (steps.Channel k)) same
+      (after-both (valid_fixed (fixed_with (keys_by n.people k.people) k.nonce k.app k.duration)) (valid_fixed (fixed_with (keys_by m.people k.people) k.nonce k.app k.duration)) _ _
+      (ap (λ (keys : List (List ℕ)). valid_fixed (fixed_with keys k.nonce k.app k.duration)) (keys-alike n.people m.people k.people same.people))
+      (λ f. record { names = record { people = same.people; channels = ap (λ (channels : List NamedChannel). channels ++ record { name = k.name; fixed = f } ∷ []) same.channels }; command = refl }))
+  meaning_alike (steps.Open k) =
+      whole-both n m _ _ same (after-both (fixed_by n.channels k.channel) (fixed_by m.channels k.channel) _ _ (fixed-alike k.channel) (λ f. tells n m k.who k.who (commands.Open f k.outcome) same))
+  meaning_alike (steps.OpenOn k) =
       whole-both n m _ _ same
-      (after-both (fixed_by n.channels ledger) (fixed_by m.channels ledger) _ _ (fixed-alike ledger) (λ on.
-      after-both (fixed_by n.channels channel) (fixed_by m.channels channel) _ _ (fixed-alike channel) (λ f. tells n m who who (commands.OpenOn (name_of on) f asset amounts) same)))
-  meaning_alike (steps.OpenVirtual who route ledgers guarantors joint channel asset amounts) =
+      (after-both (fixed_by n.channels k.ledger) (fixed_by m.channels k.ledger) _ _ (fixed-alike k.ledger) (λ on.
+      after-both (fixed_by n.channels k.channel) (fixed_by m.channels k.channel) _ _ (fixed-alike k.channel) (λ f. tells n m k.who k.who (commands.OpenOn (ledger_funding k on f)) same)))
+  meaning_alike (steps.OpenVirtual k) =
       whole-both n m _ _ same
-      (after-both (names_by n.channels ledgers) (names_by m.channels ledgers) _ _ (ap (λ (channels : List NamedChannel). names_by channels ledgers) same.channels) (λ on.
-      after-both (both_by n.channels guarantors) (both_by m.channels guarantors) _ _ (ap (λ (channels : List NamedChannel). both_by channels guarantors) same.channels) (λ by.
-      after-both (fixed_by n.channels joint) (fixed_by m.channels joint) _ _ (fixed-alike joint) (λ j.
-      after-both (fixed_by n.channels channel) (fixed_by m.channels channel) _ _ (fixed-alike channel) (λ f.
-      tells n m who who (commands.OpenVirtual route on by j f asset amounts) same)))))
-  meaning_alike (steps.Pay who channel asset amount) =
+      (after-both (names_by n.channels k.ledgers) (names_by m.channels k.ledgers) _ _ (ap (λ (channels : List NamedChannel). names_by channels k.ledgers) same.channels) (λ on.
+      after-both (both_by n.channels k.guarantors) (both_by m.channels k.guarantors) _ _ (ap (λ (channels : List NamedChannel). both_by channels k.guarantors) same.channels) (λ by.
+      after-both (fixed_by n.channels k.joint) (fixed_by m.channels k.joint) _ _ (fixed-alike k.joint) (λ j.
+      after-both (fixed_by n.channels k.channel) (fixed_by m.channels k.channel) _ _ (fixed-alike k.channel) (λ f.
+      tells n m k.who k.who (commands.OpenVirtual (virtual_funding k on by j f)) same)))))
+  meaning_alike (steps.Pay k) =
       whole-both n m _ _ same
-      (after-both (fixed_by n.channels channel) (fixed_by m.channels channel) _ _ (fixed-alike channel) (λ f. tells n m (who ∷ []) (who ∷ []) (commands.Pay (name_of f) asset amount) same))
+      (after-both (fixed_by n.channels k.channel) (fixed_by m.channels k.channel) _ _ (fixed-alike k.channel) (λ f. tells n m (k.who ∷ []) (k.who ∷ []) (commands.Pay (name_of f) k.asset k.amount) same))
   meaning_alike (steps.Close who channel) =
       whole-both n m _ _ same
       (after-both (fixed_by n.channels channel) (fixed_by m.channels channel) _ _ (fixed-alike channel) (λ f. tells n m who who (commands.Close (name_of f)) same))
   meaning_alike (steps.Exit who) = tells n m who who commands.Exit same
-  meaning_alike (steps.Deposit channel asset expected amount) = quietly (steps.Deposit channel asset expected amount) tt
+  meaning_alike (steps.Deposit k) = quietly (steps.Deposit k) tt
   meaning_alike (steps.Time to) = quietly (steps.Time to) tt
-  meaning_alike (steps.Sign name channel by turn is_final items votes proposal) = quietly (steps.Sign name channel by turn is_final items votes proposal) tt
-  meaning_alike (steps.Catch name from channel turn) = quietly (steps.Catch name from channel turn) tt
+  meaning_alike (steps.Sign k) = quietly (steps.Sign k) tt
+  meaning_alike (steps.Catch k) = quietly (steps.Catch k) tt
   meaning_alike (steps.Send to state) = quietly (steps.Send to state) tt
   meaning_alike (steps.Drop to) = quietly (steps.Drop to) tt
-  meaning_alike (steps.Challenge channel chain by) = quietly (steps.Challenge channel chain by) tt
-  meaning_alike (steps.Respond channel from next) = quietly (steps.Respond channel from next) tt
+  meaning_alike (steps.Challenge k) = quietly (steps.Challenge k) tt
+  meaning_alike (steps.Respond k) = quietly (steps.Respond k) tt
   meaning_alike (steps.Refute channel next) = quietly (steps.Refute channel next) tt
   meaning_alike (steps.Checkpoint channel chain) = quietly (steps.Checkpoint channel chain) tt
   meaning_alike (steps.Conclude channel chain) = quietly (steps.Conclude channel chain) tt
-  meaning_alike (steps.Transfer channel state asset index) = quietly (steps.Transfer channel state asset index) tt
-  meaning_alike (steps.Claim guarantor promise target ending asset position) = quietly (steps.Claim guarantor promise target ending asset position) tt
+  meaning_alike (steps.Transfer k) = quietly (steps.Transfer k) tt
+  meaning_alike (steps.Claim k) = quietly (steps.Claim k) tt
   meaning_alike (steps.Rounds count) = quietly (steps.Rounds count) tt

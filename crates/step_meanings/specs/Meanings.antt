@@ -14,9 +14,13 @@ use Rattle.call_history.specs.declared.call.Call.TheVariants as calls
 use Rattle.call_history.specs.declared.call.Op.TheVariants as ops
 use Rattle.network.specs.declared.command.Command.{Command}
 use Rattle.network.specs.declared.command.Command.TheVariants as commands
+use Rattle.network.specs.declared.command.LedgerFunding.{LedgerFunding}
+use Rattle.network.specs.declared.command.VirtualFunding.{VirtualFunding}
 use Rattle.step_meanings.specs.Chains.{state_by, listed, chain_of}
 use Rattle.step_meanings.specs.declared.chains.NamedState.{NamedState}
 use Rattle.script_steps.specs.Digests.{key_of, fresh, person_name}
+use Rattle.script_steps.specs.declared.step.OpenOnStep.{OpenOnStep}
+use Rattle.script_steps.specs.declared.step.OpenVirtualStep.{OpenVirtualStep}
 use Rattle.script_steps.specs.declared.step.Step.{Step}
 use Rattle.script_steps.specs.declared.step.Step.TheVariants as steps
 use Rattle.step_meanings.specs.People.{◌>>=◌, person_by, key_by, keys_by, numbers_by, who_of}
@@ -93,10 +97,6 @@ signing n name channel by made = do
   signed ← sign_state n.people by f made
   Some (learning (with_state (record n { people = signed.people }) (record { name = name; key = key; channel = name_of f; signed = record { state = made; signature = signed.signature } })))
 
--- where there is a state, it is signed
-abbrev pub signed_if : Names → List ℕ → List ℕ → List ℕ → Option StateParts → Meaning
-signed_if n name channel by made = unwrap_or (made >>= signing n name channel by) (learning n)
-
 -- ---- what commands and messages name
 
 -- the digests of the channels of two names
@@ -121,26 +121,41 @@ message_by states name = do
   x ← state_by states name
   if nat_le (length x.signed.signature) 9004 then Some (message (x.channel, x.signed)) else None
 
+abbrev pub ledger_funding : OpenOnStep → (ledger channel : FixedParts) → LedgerFunding
+ledger_funding k ledger channel = record { ledger = name_of ledger; fixed = channel; asset = k.asset; amounts = k.amounts }
+
+abbrev pub virtual_funding : OpenVirtualStep → List ℕ × List ℕ → FixedParts × FixedParts → (joint channel : FixedParts) → VirtualFunding
+virtual_funding k ledgers guarantors joint channel =
+    record {
+      route = k.route;
+      ledgers = ledgers;
+      guarantors = guarantors;
+      joint = joint;
+      channel = channel;
+      asset = k.asset;
+      amounts = k.amounts;
+    }
+
 -- ---- steps
 
 -- what a step means, unless one of its names stands for nothing, or what it makes isn't valid, or a key is spent
 abbrev pub meant : Names → Step → Option Meaning
-meant n (steps.Deposit channel asset expected amount) = do
-  to ← digest_or_digits (fixed_by n.channels channel) channel
-  Some (calling n (calls.Deposit to asset expected amount))
+meant n (steps.Deposit k) = do
+  to ← digest_or_digits (fixed_by n.channels k.channel) k.channel
+  Some (calling n (calls.Deposit to k.asset k.expected k.amount))
 meant n (steps.Time to) = Some (doing n (Enter (ops.Time to)))
-meant n (steps.Person name seed h node watchers) =
-    Some (doing (with_person n name seed h node) (joins_if node (length n.people + 1) (fresh seed h) watchers))
-meant n (steps.Channel name people nonce app duration) = do
-  f ← valid_fixed (fixed_with (keys_by n.people people) nonce app duration)
-  Some (learning (with_channel n name f))
-meant n (steps.Sign name channel by turn is_final items votes proposal) = do
-  made ← valid_state (state_with turn is_final items (data_of (record { votes = votes; proposal = outcome proposal })))
-  signing n name channel by made
-meant n (steps.Catch name from channel turn) = do
-  p ← person_by n.people from
-  f ← fixed_by n.channels channel
-  Some (doing n (Catch name p.number p.key (name_of f) turn))
+meant n (steps.Person k) =
+    Some (doing (with_person n k.name k.seed k.h k.node) (joins_if k.node (length n.people + 1) (fresh k.seed k.h) k.watchers))
+meant n (steps.Channel k) = do
+  f ← valid_fixed (fixed_with (keys_by n.people k.people) k.nonce k.app k.duration)
+  Some (learning (with_channel n k.name f))
+meant n (steps.Sign k) = do
+  made ← valid_state (state_with k.turn k.is_final k.outcome (data_of (record { votes = k.votes; proposal = outcome k.proposal })))
+  signing n k.name k.channel k.by made
+meant n (steps.Catch k) = do
+  p ← person_by n.people k.from
+  f ← fixed_by n.channels k.channel
+  Some (doing n (Catch k.name p.number p.key (name_of f) k.turn))
 meant n (steps.Send to state) = do
   p ← person_by n.people to
   bytes ← message_by n.states state
@@ -148,15 +163,15 @@ meant n (steps.Send to state) = do
 meant n (steps.Drop to) = do
   p ← person_by n.people to
   Some (doing n (Lose (who_of p)))
-meant n (steps.Challenge channel chain by) = do
-  f ← fixed_by n.channels channel
-  key ← key_by n.people by
-  signed ← sign_challenge n.people by f (listed n.states chain) (position_of f.keys key)
-  Some (calling (record n { people = signed.people }) (calls.Challenge (chain_of f (listed n.states chain)) (position_of f.keys key) signed.signature))
-meant n (steps.Respond channel from next) = do
-  f ← fixed_by n.channels channel
-  before ← state_by n.states from
-  answer ← state_by n.states next
+meant n (steps.Challenge k) = do
+  f ← fixed_by n.channels k.channel
+  key ← key_by n.people k.by
+  signed ← sign_challenge n.people k.by f (listed n.states k.chain) (position_of f.keys key)
+  Some (calling (record n { people = signed.people }) (calls.Challenge (chain_of f (listed n.states k.chain)) (position_of f.keys key) signed.signature))
+meant n (steps.Respond k) = do
+  f ← fixed_by n.channels k.channel
+  before ← state_by n.states k.from
+  answer ← state_by n.states k.state
   Some (calling n (calls.Respond f before.signed.state answer.signed))
 meant n (steps.Refute channel next) = do
   f ← fixed_by n.channels channel
@@ -168,32 +183,32 @@ meant n (steps.Checkpoint channel chain) = do
 meant n (steps.Conclude channel chain) = do
   f ← fixed_by n.channels channel
   Some (calling n (calls.Conclude (chain_of f (listed n.states chain))))
-meant n (steps.Transfer channel state asset index) = do
-  f ← fixed_by n.channels channel
-  ending ← state_by n.states state
-  Some (calling n (calls.Transfer (name_of f) ending.signed.state.outcome asset index))
-meant n (steps.Claim guarantor promise target ending asset position) = do
-  payer ← fixed_by n.channels guarantor
-  promised ← state_by n.states promise
-  f ← fixed_by n.channels target
-  ended ← state_by n.states ending
-  Some (calling n (calls.Claim (name_of payer) promised.signed.state.outcome (name_of f) ended.signed.state.outcome asset position))
-meant n (steps.Open who channel opening) = do
-  f ← fixed_by n.channels channel
-  Some (telling n who (commands.Open f opening))
-meant n (steps.OpenOn who ledger channel asset amounts) = do
-  on ← fixed_by n.channels ledger
-  f ← fixed_by n.channels channel
-  Some (telling n who (commands.OpenOn (name_of on) f asset amounts))
-meant n (steps.OpenVirtual who route ledgers guarantors joint channel asset amounts) = do
-  on ← names_by n.channels ledgers
-  by ← both_by n.channels guarantors
-  j ← fixed_by n.channels joint
-  f ← fixed_by n.channels channel
-  Some (telling n who (commands.OpenVirtual route on by j f asset amounts))
-meant n (steps.Pay who channel asset amount) = do
-  f ← fixed_by n.channels channel
-  Some (telling n (who ∷ []) (commands.Pay (name_of f) asset amount))
+meant n (steps.Transfer k) = do
+  f ← fixed_by n.channels k.channel
+  ending ← state_by n.states k.state
+  Some (calling n (calls.Transfer (name_of f) ending.signed.state.outcome k.asset k.index))
+meant n (steps.Claim k) = do
+  payer ← fixed_by n.channels k.guarantor
+  promised ← state_by n.states k.state
+  f ← fixed_by n.channels k.target
+  ended ← state_by n.states k.target_state
+  Some (calling n (calls.Claim (name_of payer) promised.signed.state.outcome (name_of f) ended.signed.state.outcome k.asset k.position))
+meant n (steps.Open k) = do
+  f ← fixed_by n.channels k.channel
+  Some (telling n k.who (commands.Open f k.outcome))
+meant n (steps.OpenOn k) = do
+  on ← fixed_by n.channels k.ledger
+  f ← fixed_by n.channels k.channel
+  Some (telling n k.who (commands.OpenOn (ledger_funding k on f)))
+meant n (steps.OpenVirtual k) = do
+  on ← names_by n.channels k.ledgers
+  by ← both_by n.channels k.guarantors
+  j ← fixed_by n.channels k.joint
+  f ← fixed_by n.channels k.channel
+  Some (telling n k.who (commands.OpenVirtual (virtual_funding k on by j f)))
+meant n (steps.Pay k) = do
+  f ← fixed_by n.channels k.channel
+  Some (telling n (k.who ∷ []) (commands.Pay (name_of f) k.asset k.amount))
 meant n (steps.Close who channel) = do
   f ← fixed_by n.channels channel
   Some (telling n who (commands.Close (name_of f)))

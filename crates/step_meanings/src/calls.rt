@@ -1,6 +1,7 @@
 //! The calls that steps make.
 
 ghost use Rattle.std.specs.Prelude.{◌≡◌, ◌≤◌, length, IfOk};
+ghost use Rattle.script_steps.specs.Bounds.{Fits};
 ghost use Rattle.script_steps.specs.declared.step.Step.TheVariants as steps;
 ghost use Rattle.step_meanings.specs.Meanings.{doing, meaning};
 
@@ -9,43 +10,34 @@ use crate::effect::Effect;
 use crate::names::{Names, channel_by, digest_or_digits, position_of, sign_challenge};
 use call_history::{Call, Op};
 use channel_values::{Label, NoMemory};
+use script_steps::{ChallengeStep, ClaimStep, DepositStep, RespondStep, TransferStep};
 
-pub(crate) fn deposit(
-    known: &Names,
-    channel: &Label,
-    asset: u32,
-    expected: u64,
-    amount: u64,
-) -> Effect
-    ensures { doing known.now result ≡ meaning known.now (steps.Deposit channel.now asset expected amount) }
+pub(crate) fn deposit(known: &Names, keys: &DepositStep) -> Effect
+    requires { Fits (steps.Deposit keys.now) }
+    ensures { doing known.now result ≡ meaning known.now (steps.Deposit keys.now) }
 {
-    let declared = channel_by(known.channels.as_slice(), channel.as_str());
-    let Some(to) = digest_or_digits(declared, channel.as_str()) else {
+    let declared = channel_by(known.channels.as_slice(), keys.channel.as_str());
+    let Some(channel) = digest_or_digits(declared, keys.channel.as_str()) else {
         return Effect::Nothing;
     };
     Effect::Enter(Op::Call(Call::Deposit {
-        channel: to,
-        asset,
-        expected,
-        amount,
+        channel,
+        asset: keys.asset as u32,
+        expected: keys.expected,
+        amount: keys.amount,
     }))
 }
 
-pub(crate) fn respond(
-    known: &Names,
-    channel: &Label,
-    from: &Label,
-    next: &Label,
-) -> Result<Effect, NoMemory>
-    ensures { IfOk result (λ e. doing known.now e ≡ meaning known.now (steps.Respond channel.now from.now next.now)) }
+pub(crate) fn respond(known: &Names, keys: &RespondStep) -> Result<Effect, NoMemory>
+    ensures { IfOk result (λ e. doing known.now e ≡ meaning known.now (steps.Respond keys.now)) }
 {
-    let Some(fixed) = known.fixed_by(channel)? else {
+    let Some(fixed) = known.fixed_by(&keys.channel)? else {
         return Ok(Effect::Nothing);
     };
-    let Some(before) = known.signed_by(from)? else {
+    let Some(before) = known.signed_by(&keys.from)? else {
         return Ok(Effect::Nothing);
     };
-    let Some(next) = known.signed_by(next)? else {
+    let Some(next) = known.signed_by(&keys.state)? else {
         return Ok(Effect::Nothing);
     };
     let from = before.state;
@@ -89,53 +81,39 @@ pub(crate) fn conclude(known: &Names, channel: &Label, names: &[Label]) -> Resul
 }
 
 /// A transfer of an item of the outcome of a named state.
-pub(crate) fn transfer(
-    known: &Names,
-    channel: &Label,
-    state: &Label,
-    asset: u32,
-    index: u8,
-) -> Result<Effect, NoMemory>
-    ensures { IfOk result (λ e. doing known.now e
-        ≡ meaning known.now (steps.Transfer channel.now state.now asset index)) }
+pub(crate) fn transfer(known: &Names, keys: &TransferStep) -> Result<Effect, NoMemory>
+    requires { Fits (steps.Transfer keys.now) }
+    ensures { IfOk result (λ e. doing known.now e ≡ meaning known.now (steps.Transfer keys.now)) }
 {
-    let Some(channel) = known.name_by(channel) else {
+    let Some(channel) = known.name_by(&keys.channel) else {
         return Ok(Effect::Nothing);
     };
-    let Some(outcome) = known.outcome_by(state)? else {
+    let Some(outcome) = known.outcome_by(&keys.state)? else {
         return Ok(Effect::Nothing);
     };
     Ok(Effect::Enter(Op::Call(Call::Transfer {
         channel,
         outcome,
-        asset,
-        index,
+        asset: keys.asset as u32,
+        index: keys.index as u8,
     })))
 }
 
 /// A claim, by the outcomes of two named states, of the guarantor and of its target.
-pub(crate) fn claim(
-    known: &Names,
-    guarantor: &Label,
-    state: &Label,
-    target: &Label,
-    target_state: &Label,
-    asset: u32,
-    position: u8,
-) -> Result<Effect, NoMemory>
-    ensures { IfOk result (λ e. doing known.now e
-        ≡ meaning known.now (steps.Claim guarantor.now state.now target.now target_state.now asset position)) }
+pub(crate) fn claim(known: &Names, keys: &ClaimStep) -> Result<Effect, NoMemory>
+    requires { Fits (steps.Claim keys.now) }
+    ensures { IfOk result (λ e. doing known.now e ≡ meaning known.now (steps.Claim keys.now)) }
 {
-    let Some(guarantor) = known.name_by(guarantor) else {
+    let Some(guarantor) = known.name_by(&keys.guarantor) else {
         return Ok(Effect::Nothing);
     };
-    let Some(guarantor_outcome) = known.outcome_by(state)? else {
+    let Some(guarantor_outcome) = known.outcome_by(&keys.state)? else {
         return Ok(Effect::Nothing);
     };
-    let Some(target) = known.name_by(target) else {
+    let Some(target) = known.name_by(&keys.target) else {
         return Ok(Effect::Nothing);
     };
-    let Some(target_outcome) = known.outcome_by(target_state)? else {
+    let Some(target_outcome) = known.outcome_by(&keys.target_state)? else {
         return Ok(Effect::Nothing);
     };
     Ok(Effect::Enter(Op::Call(Call::Claim {
@@ -143,34 +121,33 @@ pub(crate) fn claim(
         guarantor_outcome,
         target,
         target_outcome,
-        asset,
-        position,
+        asset: keys.asset as u32,
+        position: keys.position as u8,
     })))
 }
 
 /// A challenge, signed where the chain has a state.
-pub(crate) fn challenge(
-    known: &mut Names,
-    channel: &Label,
-    names: &[Label],
-    by: &Label,
-) -> Result<Effect, NoMemory>
-    requires { length names.now ≤ 4 }
-    ensures { IfOk result (λ e. doing known.new e ≡ meaning known.old (steps.Challenge channel.now names.now by.now)) }
+pub(crate) fn challenge(known: &mut Names, keys: &ChallengeStep) -> Result<Effect, NoMemory>
+    requires { Fits (steps.Challenge keys.now) }
+    ensures { IfOk result (λ e. doing known.new e ≡ meaning known.old (steps.Challenge keys.now)) }
 {
-    let Some(fixed) = known.fixed_by(channel)? else {
+    let Some(fixed) = known.fixed_by(&keys.channel)? else {
         return Ok(Effect::Nothing);
     };
-    let Some(key) = known.people.key_by(by.as_str()) else {
+    let Some(key) = known.people.key_by(keys.by.as_str()) else {
         return Ok(Effect::Nothing);
     };
     let challenger = position_of(fixed.keys(), &key);
-    let listed = listed(known.alloc(), known.states.as_slice(), names)?;
+    let listed = listed(
+        known.alloc(),
+        known.states.as_slice(),
+        keys.chain.as_slice(),
+    )?;
     let alloc = known.alloc();
     let signed = sign_challenge(
         alloc,
         &mut known.people,
-        by.as_str(),
+        keys.by.as_str(),
         &fixed,
         &listed,
         challenger,

@@ -11,11 +11,12 @@ ghost use Rattle.channel_values.specs.declared.value.Dest.TheVariants as dests;
 ghost use Rattle.support_rules.specs.Ballots.{data_of};
 ghost use Rattle.channel_values.specs.Digests.{digest_of_state, name_of_person};
 ghost use Rattle.step_meanings.specs.Chains.{state_by, listed, chain_of};
+ghost use Rattle.script_steps.specs.Bounds.{Fits};
 ghost use Rattle.script_steps.specs.Digests.{key_of, fresh};
 ghost use Rattle.script_steps.specs.declared.step.Step.TheVariants as steps;
 ghost use Rattle.step_meanings.specs.People.{person_by, who_of};
 ghost use Rattle.step_meanings.specs.Names.{fixed_by, name_of, digest_or_digits, position_of, sign_state, sign_challenge};
-ghost use Rattle.step_meanings.specs.Meanings.{valid_fixed, valid_state, with_state, signing, signed_if, learning, doing, meaning, nameless};
+ghost use Rattle.step_meanings.specs.Meanings.{valid_fixed, valid_state, with_state, signing, learning, doing, meaning, nameless};
 
 use crate::chains::{NamedState, chain_of, listed, state_by};
 use crate::effect::Effect;
@@ -26,6 +27,7 @@ use channel_values::{
 };
 use hex::FromHex;
 use lms_signatures::Signer;
+use script_steps::{ChannelStep, PersonStep, SignStep};
 use std::alloc::Global;
 use support_rules::vote_bytes;
 
@@ -281,50 +283,38 @@ impl Names {
 
     /// Declares a person. The signer goes to its node, which has watchers, or else is its hand.
     #[tactic(auto, unfolding(script_steps::specs::Digests::key_of))]
-    pub fn person(
-        &mut self,
-        signer: Signer,
-        name: &Label,
-        seed: &[u8; 32],
-        h: u64,
-        node: bool,
-        watchers: u32,
-    ) -> Result<Effect, NoMemory>
-        requires fresh { signer ≡ fresh seed.now h }
+    pub fn person(&mut self, signer: Signer, keys: &PersonStep) -> Result<Effect, NoMemory>
+        requires fresh { signer ≡ fresh keys.now.seed keys.now.h }
+        requires fits { Fits (steps.Person keys.now) }
         requires few { length self.old.people < 16 }
-        ensures { IfOk result (λ e. doing self.new e
-            ≡ meaning self.old (steps.Person name.now seed.now h node watchers)) }
+        ensures { IfOk result (λ e. doing self.new e ≡ meaning self.old (steps.Person keys.now)) }
     {
         let key = signer.public();
-        if !node {
-            self.add_person(name, key, Some(signer))?;
+        if !keys.node {
+            self.add_person(&keys.name, key, Some(signer))?;
             return Ok(Effect::Nothing);
         }
         let number = self.people.as_slice().len() as u32 + 1;
-        self.add_person(name, key, None)?;
-        Ok(Effect::Join(number, signer, watchers))
+        self.add_person(&keys.name, key, None)?;
+        Ok(Effect::Join(number, signer, keys.watchers as u32))
     }
 
     /// Declares a channel. Where its parts make none, nothing is declared.
-    pub fn channel(
-        &mut self,
-        name: &Label,
-        people: &[Label],
-        nonce: u64,
-        app: u8,
-        duration: u32,
-    ) -> Result<(), NoMemory>
-        ensures { OnOk result (learning self.new
-            ≡ meaning self.old (steps.Channel name.now people.now nonce app duration)) }
+    pub fn channel(&mut self, keys: &ChannelStep) -> Result<Effect, NoMemory>
+        requires { Fits (steps.Channel keys.now) }
+        ensures { IfOk result (λ e. doing self.new e ≡ meaning self.old (steps.Channel keys.now)) }
     {
-        let keys = self.people.keys_by(self.alloc(), people)?;
-        let Some(fixed) = valid_fixed(self.alloc(), keys, nonce, app, duration)? else {
-            return Ok(());
+        let people = self.people.keys_by(self.alloc(), keys.people.as_slice())?;
+        let duration = keys.duration as u32;
+        let made = valid_fixed(self.alloc(), people, keys.nonce, keys.app, duration)?;
+        let Some(fixed) = made else {
+            return Ok(Effect::Nothing);
         };
         let digest = channel_name(fixed.bytes());
-        let copy = name.copy()?;
-        self.channels.push(NamedChannel { name: copy, fixed })?;
-        self.label(Dest::Channel(digest), name)
+        let name = keys.name.copy()?;
+        self.channels.push(NamedChannel { name, fixed })?;
+        self.label(Dest::Channel(digest), &keys.name)?;
+        Ok(Effect::Nothing)
     }
 
     /// A name for a state of a channel.
@@ -381,19 +371,24 @@ impl Names {
         )
     }
 
-    /// Signs a state of a channel by hand, where there is one, and gives it a name.
-    pub fn sign(
-        &mut self,
-        name: &Label,
-        channel: &Label,
-        by: &Label,
-        made: Option<State>,
-    ) -> Result<(), NoMemory>
-        ensures { OnOk result (learning self.new ≡ signed_if self.old name.now channel.now by.now made) }
+    /// Signs a state of a channel by hand, where its parts make one, and gives it a name.
+    pub fn sign(&mut self, keys: &SignStep) -> Result<Effect, NoMemory>
+        requires { Fits (steps.Sign keys.now) }
+        ensures { IfOk result (λ e. doing self.new e ≡ meaning self.old (steps.Sign keys.now)) }
     {
-        match made {
-            Some(made) => self.sign_state(name, channel, by, made),
-            None => Ok(()),
+        let votes = keys.votes as u8;
+        let (outcome, proposal) = (&keys.outcome, &keys.proposal);
+        let made = state_with_votes(
+            self.alloc(),
+            keys.turn,
+            keys.is_final,
+            outcome,
+            votes,
+            proposal,
+        )?;
+        if let Some(made) = made {
+            self.sign_state(&keys.name, &keys.channel, &keys.by, made)?;
         }
+        Ok(Effect::Nothing)
     }
 }

@@ -1,6 +1,7 @@
 //! The messages and the commands of steps.
 
 ghost use Rattle.std.specs.Prelude.{◌≡◌, length, IfOk};
+ghost use Rattle.script_steps.specs.Bounds.{Fits};
 ghost use Rattle.script_steps.specs.declared.step.Step.TheVariants as steps;
 ghost use Rattle.step_meanings.specs.Meanings.{doing, telling, meaning, message_by, names_by, both_by};
 
@@ -8,8 +9,9 @@ use crate::chains::state_by;
 use crate::effect::Effect;
 use crate::names::Names;
 use call_bytes::write_message;
-use channel_values::{Fixed, Label, Listed, Name, NoMemory, Outcome};
-use network::{Command, Route};
+use channel_values::{Fixed, Label, Listed, Name, NoMemory};
+use network::{Command, LedgerFunding, VirtualFunding};
+use script_steps::{CatchStep, OpenOnStep, OpenStep, OpenVirtualStep, PayStep};
 use std::slice;
 
 /// The message of a named state, on its way to a person.
@@ -50,24 +52,17 @@ pub(crate) fn lose(known: &Names, to: &Label) -> Effect
 }
 
 /// A name for the state that a person's node signed of a channel.
-pub(crate) fn catch(
-    known: &Names,
-    name: &Label,
-    from: &Label,
-    channel: &Label,
-    turn: u64,
-) -> Result<Effect, NoMemory>
-    ensures { IfOk result (λ e. doing known.now e
-        ≡ meaning known.now (steps.Catch name.now from.now channel.now turn)) }
+pub(crate) fn catch(known: &Names, keys: &CatchStep) -> Result<Effect, NoMemory>
+    ensures { IfOk result (λ e. doing known.now e ≡ meaning known.now (steps.Catch keys.now)) }
 {
-    let Some(person) = known.people.person_by(from.as_str()) else {
+    let Some(person) = known.people.person_by(keys.from.as_str()) else {
         return Ok(Effect::Nothing);
     };
-    let Some(channel) = known.name_by(channel) else {
+    let Some(channel) = known.name_by(&keys.channel) else {
         return Ok(Effect::Nothing);
     };
-    let name = name.copy()?;
-    Ok(Effect::Catch(name, person.number, person.key, channel, turn))
+    let name = keys.name.copy()?;
+    Ok(Effect::Catch(name, person.number, person.key, channel, keys.turn))
 }
 
 /// A command for the nodes of these people.
@@ -79,47 +74,35 @@ fn tell(known: &Names, who: &[Label], command: Command) -> Result<Effect, NoMemo
 }
 
 /// A command to open a channel.
-pub(crate) fn open_channel(
-    known: &Names,
-    who: &[Label],
-    channel: &Label,
-    outcome: &Outcome,
-) -> Result<Effect, NoMemory>
-    ensures { IfOk result (λ e. doing known.now e ≡ meaning known.now (steps.Open who.now channel.now outcome.now)) }
+pub(crate) fn open_channel(known: &Names, keys: &OpenStep) -> Result<Effect, NoMemory>
+    ensures { IfOk result (λ e. doing known.now e ≡ meaning known.now (steps.Open keys.now)) }
 {
-    let Some(fixed) = known.fixed_by(channel)? else {
+    let Some(fixed) = known.fixed_by(&keys.channel)? else {
         return Ok(Effect::Nothing);
     };
-    let outcome = outcome.copy()?;
-    tell(known, who, Command::Open { fixed, outcome })
+    let outcome = keys.outcome.copy()?;
+    tell(known, keys.who.as_slice(), Command::Open { fixed, outcome })
 }
 
-pub(crate) fn open_on(
-    known: &Names,
-    who: &[Label],
-    ledger: &Label,
-    channel: &Label,
-    asset: u32,
-    amounts: (u64, u64),
-) -> Result<Effect, NoMemory>
-    ensures { IfOk result (λ e. doing known.now e
-        ≡ meaning known.now (steps.OpenOn who.now ledger.now channel.now asset amounts)) }
+pub(crate) fn open_on(known: &Names, keys: &OpenOnStep) -> Result<Effect, NoMemory>
+    requires { Fits (steps.OpenOn keys.now) }
+    ensures { IfOk result (λ e. doing known.now e ≡ meaning known.now (steps.OpenOn keys.now)) }
 {
-    let Some(ledger) = known.name_by(ledger) else {
+    let Some(ledger) = known.name_by(&keys.ledger) else {
         return Ok(Effect::Nothing);
     };
-    let Some(fixed) = known.fixed_by(channel)? else {
+    let Some(fixed) = known.fixed_by(&keys.channel)? else {
         return Ok(Effect::Nothing);
     };
     tell(
         known,
-        who,
-        Command::OpenOn {
+        keys.who.as_slice(),
+        Command::OpenOn(LedgerFunding {
             ledger,
             fixed,
-            asset,
-            amounts,
-        },
+            asset: keys.asset as u32,
+            amounts: keys.amounts,
+        }),
     )
 }
 
@@ -155,66 +138,51 @@ fn both_by(known: &Names, names: &[Label]) -> Result<Option<(Fixed, Fixed)>, NoM
     Ok(Some((first, second)))
 }
 
-pub(crate) fn open_virtual(
-    known: &Names,
-    who: &[Label],
-    route: Route,
-    ledgers: &[Label],
-    guarantors: &[Label],
-    joint: &Label,
-    channel: &Label,
-    asset: u32,
-    amounts: (u64, u64),
-) -> Result<Effect, NoMemory>
-    ensures { IfOk result (λ e. doing known.now e
-        ≡ meaning known.now (steps.OpenVirtual who.now route ledgers.now guarantors.now joint.now channel.now asset amounts)) }
+pub(crate) fn open_virtual(known: &Names, keys: &OpenVirtualStep) -> Result<Effect, NoMemory>
+    requires { Fits (steps.OpenVirtual keys.now) }
+    ensures { IfOk result (λ e. doing known.now e ≡ meaning known.now (steps.OpenVirtual keys.now)) }
 {
-    let Some(ledgers) = names_by(known, ledgers) else {
+    let Some(ledgers) = names_by(known, keys.ledgers.as_slice()) else {
         return Ok(Effect::Nothing);
     };
-    let Some(guarantors) = both_by(known, guarantors)? else {
+    let Some(guarantors) = both_by(known, keys.guarantors.as_slice())? else {
         return Ok(Effect::Nothing);
     };
-    let Some(joint) = known.fixed_by(joint)? else {
+    let Some(joint) = known.fixed_by(&keys.joint)? else {
         return Ok(Effect::Nothing);
     };
-    let Some(channel) = known.fixed_by(channel)? else {
+    let Some(channel) = known.fixed_by(&keys.channel)? else {
         return Ok(Effect::Nothing);
     };
     tell(
         known,
-        who,
-        Command::OpenVirtual {
-            route,
+        keys.who.as_slice(),
+        Command::OpenVirtual(VirtualFunding {
+            route: keys.route,
             ledgers,
             guarantors,
             joint,
             channel,
-            asset,
-            amounts,
-        },
+            asset: keys.asset as u32,
+            amounts: keys.amounts,
+        }),
     )
 }
 
-pub(crate) fn pay(
-    known: &Names,
-    who: &Label,
-    channel: &Label,
-    asset: u32,
-    amount: u64,
-) -> Result<Effect, NoMemory>
-    ensures { IfOk result (λ e. doing known.now e ≡ meaning known.now (steps.Pay who.now channel.now asset amount)) }
+pub(crate) fn pay(known: &Names, keys: &PayStep) -> Result<Effect, NoMemory>
+    requires { Fits (steps.Pay keys.now) }
+    ensures { IfOk result (λ e. doing known.now e ≡ meaning known.now (steps.Pay keys.now)) }
 {
-    let Some(channel) = known.name_by(channel) else {
+    let Some(channel) = known.name_by(&keys.channel) else {
         return Ok(Effect::Nothing);
     };
     tell(
         known,
-        slice::from_ref(who),
+        slice::from_ref(&keys.who),
         Command::Pay {
             channel,
-            asset,
-            amount,
+            asset: keys.asset as u32,
+            amount: keys.amount,
         },
     )
 }

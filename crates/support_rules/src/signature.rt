@@ -1,16 +1,17 @@
 //! Whose signatures verify.
 
-ghost use Rattle.std.specs.Prelude.{◌≡◌, ◌<◌};
+ghost use Rattle.std.specs.Prelude.{◌≡◌};
 ghost use Rattle.std.specs.List.{slice_get};
 ghost use Rattle.channel_values.specs.Spelling.{fixed as spelling, state as body};
 ghost use Rattle.channel_values.specs.Digests.{name_of_channel, digest_of_state};
 ghost use Rattle.channel_values.specs.Messages.{message_of_state};
-ghost use Rattle.channel_values.specs.Rows.{mover};
-ghost use Rattle.channel_values.specs.Rules.{people, signs_state, is_signed_well};
+ghost use Rattle.channel_values.specs.Rules.{signs_state, is_signed_well};
 ghost use Rattle.channel_values.specs.Support.{is_marked_well};
 ghost use Rattle.support_rules.specs.Real.{real};
 
-use channel_values::{Fixed, Mark, Signed, State, channel_name, state_digest, state_message};
+use channel_values::{
+    Fixed, Mark, Signed, State, channel_name, mover_at, state_digest, state_message,
+};
 use lms_signatures::verifies;
 
 /// What is signed for a state of the channel.
@@ -39,14 +40,6 @@ pub fn mark_verifies(fixed: &Fixed, states: &[State], j: usize, mark: &Mark) -> 
         return false;
     };
     signs_state(fixed, j, state, mark.signature.as_slice())
-}
-
-/// The position of the participant who moves to this turn.
-pub fn mover_at(fixed: &Fixed, turn: u64) -> usize
-    ensures value { result ≡ mover (people fixed.now) turn }
-    ensures there { result < people fixed.now }
-{
-    (turn % fixed.keys().len() as u64) as usize
 }
 
 /// Whether the mover's key verifies the state.

@@ -6,8 +6,7 @@ ghost use Rattle.support_rules.specs.Steps.{persons, repeat_fault, step_fault};
 
 use crate::app_rules::app_step;
 use crate::consensus::is_same_outcome;
-use crate::signature::mover_at;
-use channel_values::{Fixed, Name, State, StepFault};
+use channel_values::{Fixed, Name, State, StepFault, mover_at};
 
 fn repeat(from: &State, to: &State) -> Result<(), StepFault>
     ensures { result_err result ≡ repeat_fault from.now to.now }

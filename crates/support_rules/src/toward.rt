@@ -30,8 +30,8 @@ fn is_settled(n: usize, target: &Outcome, own_last: Option<&State>) -> bool
     }
 }
 
-/// What a state's making answered, where nothing but memory was wanting.
-fn unless_memory(made: Result<State, ByteFault>) -> Result<State, NoMemory>
+/// The state that was made, where making it fails only if memory runs out.
+pub fn unless_memory(made: Result<State, ByteFault>) -> Result<State, NoMemory>
     requires { IfErr made (λ fault. fault ≡ faults.NoMemory) }
     ensures { IfOk result (λ s. made ≡ Ok s) }
 {

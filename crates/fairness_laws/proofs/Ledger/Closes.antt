@@ -242,64 +242,64 @@ module _ (s : Signing) (h : List Entry) (journal : List Told) (fair : IsFair s h
       lenders commands.Exit is taken p l i on = absurd i
       lenders (commands.Open fixed outcome) is taken p l (inr n) on = absurd n
       lenders (commands.Open fixed outcome) is taken p l (inl e) on = absurd (subst (λ (q : Part). In l (ledgers_of q)) e on)
-      lenders (commands.OpenOn ledger fixed asset amounts) is taken p l (inr n) on = absurd n
-      lenders (commands.OpenOn ledger fixed asset amounts) is taken p l (inl e) on = by (subst (λ (q : Part). In l (ledgers_of q)) e on)
+      lenders (commands.OpenOn o) is taken p l (inr n) on = absurd n
+      lenders (commands.OpenOn o) is taken p l (inl e) on = by (subst (λ (q : Part). In l (ledgers_of q)) e on)
         where
-          b : Between G ledger asset amounts (persons fixed)
-          b = between G ledger asset amounts (persons fixed) (fits-it s h journal fair known ends middles past x front next keeps number deed-is ledger fixed asset amounts is taken)
+          b : Between G o.ledger o.asset o.amounts (persons o.fixed)
+          b = between G o.ledger o.asset o.amounts (persons o.fixed) (fits-it s h journal fair known ends middles past x front next keeps number deed-is o.ledger o.fixed o.asset o.amounts is taken)
 
-          by : In l (ledger ∷ []) → Lender G l
+          by : In l (o.ledger ∷ []) → Lender G l
           by (inr n) = absurd n
-          by (inl same) = subst (Lender G) (sym same) (record { asset = asset; first = b.first; second = b.second; amounts = amounts; lends_them = true-left (lends G ledger (stake asset b.first b.second amounts)) (lends_virtual G ledger (stake asset b.first b.second amounts)) b.lends_them })
-      lenders (commands.OpenVirtual route ledgers guarantors joint channel asset amounts) is taken p l i on = go (takes_part s.key channel) refl i
+          by (inl same) = subst (Lender G) (sym same) (record { asset = o.asset; first = b.first; second = b.second; amounts = o.amounts; lends_them = true-left (lends G o.ledger (stake o.asset b.first b.second o.amounts)) (lends_virtual G o.ledger (stake o.asset b.first b.second o.amounts)) b.lends_them })
+      lenders (commands.OpenVirtual funding) is taken p l i on = go (takes_part s.key funding.channel) refl i
         where
           v : Virtual
-          v = virtual real s.key ledgers guarantors joint channel asset amounts
+          v = virtual real s.key funding.ledgers funding.guarantors funding.joint funding.channel funding.asset funding.amounts
 
-          end : (takes : takes_part s.key channel ≡ true) → PartAt s past (x ∷ front) (kinds.End v) → In l (ledgers_of (kinds.End v)) → Lender G l
+          end : (takes : takes_part s.key funding.channel ≡ true) → PartAt s past (x ∷ front) (kinds.End v) → In l (ledgers_of (kinds.End v)) → Lender G l
           end takes a (inr n) = absurd n
           end takes a (inl same) =
               subst (Lender G) (sym same) (record {
-                asset = asset;
+                asset = funding.asset;
                 first = cond v.side_b a.is.end.terms.middle a.is.end.terms.first;
                 second = cond v.side_b a.is.end.terms.second a.is.end.terms.middle;
-                amounts = amounts;
+                amounts = funding.amounts;
                 lends_them =
-                    end-lends s h journal fair known ends middles past x front next keeps number deed-is route ledgers guarantors joint channel asset amounts is taken
+                    end-lends s h journal fair known ends middles past x front next keeps number deed-is funding.route funding.ledgers funding.guarantors funding.joint funding.channel funding.asset funding.amounts is taken
                     a.goal a.is.end.terms a.is.end.joint a.is.joint v.side_b a.is.me;
               })
 
-          middle : (passes : takes_part s.key channel ≡ false) → PartAt s past (x ∷ front) (kinds.Middle v) → In l (ledgers_of (kinds.Middle v)) → Lender G l
+          middle : (passes : takes_part s.key funding.channel ≡ false) → PartAt s past (x ∷ front) (kinds.Middle v) → In l (ledgers_of (kinds.Middle v)) → Lender G l
           middle passes a (inr (inr n)) = absurd n
           middle passes a (inl same) =
               subst (Lender G) (sym same) (record {
-                asset = asset;
+                asset = funding.asset;
                 first = a.is.middle.terms.first;
                 second = a.is.middle.terms.middle;
-                amounts = amounts;
+                amounts = funding.amounts;
                 lends_them =
-                    first-lends s h journal fair known ends middles past x front next keeps number deed-is route ledgers guarantors joint channel asset amounts is taken
+                    first-lends s h journal fair known ends middles past x front next keeps number deed-is funding.route funding.ledgers funding.guarantors funding.joint funding.channel funding.asset funding.amounts is taken
                     a.goal a.is.middle.terms a.is.middle.joint a.is.joint (inr (inl (sym a.is.me)));
               })
           middle passes a (inr (inl same)) =
               subst (Lender G) (sym same) (record {
-                asset = asset;
+                asset = funding.asset;
                 first = a.is.middle.terms.middle;
                 second = a.is.middle.terms.second;
-                amounts = amounts;
+                amounts = funding.amounts;
                 lends_them =
-                    second-lends s h journal fair known ends middles past x front next keeps number deed-is route ledgers guarantors joint channel asset amounts is taken
+                    second-lends s h journal fair known ends middles past x front next keeps number deed-is funding.route funding.ledgers funding.guarantors funding.joint funding.channel funding.asset funding.amounts is taken
                     a.goal a.is.middle.terms a.is.middle.joint a.is.joint (inl (sym a.is.me));
               })
 
-          go : (b : Bool) → takes_part s.key channel ≡ b → In p (cond b (kinds.End v ∷ []) (kinds.Middle v ∷ [])) → Lender G l
+          go : (b : Bool) → takes_part s.key funding.channel ≡ b → In p (cond b (kinds.End v ∷ []) (kinds.Middle v ∷ [])) → Lender G l
           go true takes (inr n) = absurd n
           go true takes (inl e) =
-              end takes (at-end s h journal fair known ends middles past x front next keeps number deed-is route ledgers guarantors joint channel asset amounts is taken takes)
+              end takes (at-end s h journal fair known ends middles past x front next keeps number deed-is funding.route funding.ledgers funding.guarantors funding.joint funding.channel funding.asset funding.amounts is taken takes)
               (subst (λ (q : Part). In l (ledgers_of q)) e on)
           go false passes (inr n) = absurd n
           go false passes (inl e) =
-              middle passes (at-middle s h journal fair known ends middles past x front next keeps number deed-is route ledgers guarantors joint channel asset amounts is taken passes)
+              middle passes (at-middle s h journal fair known ends middles past x front next keeps number deed-is funding.route funding.ledgers funding.guarantors funding.joint funding.channel funding.asset funding.amounts is taken passes)
               (subst (λ (q : Part). In l (ledgers_of q)) e on)
 
     -- what a command opens stands on what doesn't close

@@ -66,9 +66,9 @@ module _ (s : Signing) (h : List Entry) (journal : List Told) (fair : IsFair s h
         (ap (λ (z : Mind). z.parts) (happened (deeds.Commanded step None) (Some (commands.Close c)) e f)) (ap (λ (z : Mind). z.goals) (happened (deeds.Commanded step None) (Some (commands.Close c)) e f))
         (λ c. ap (made_in c) e)
     commanded step (Some (commands.Open fixed outcome)) e f a = open-step s h journal fair known ends middles past x front next keeps step e fixed outcome f a.1
-    commanded step (Some (commands.OpenOn l fixed asset amounts)) e f a = on-step s h journal fair known ends middles past x front next keeps step e l fixed asset amounts f a.1
-    commanded step (Some (commands.OpenVirtual route ledgers guarantors joint channel asset amounts)) e f a =
-        virtual-step s h journal fair known ends middles past x front next keeps step e route ledgers guarantors joint channel asset amounts f a.1
+    commanded step (Some (commands.OpenOn o)) e f a = on-step s h journal fair known ends middles past x front next keeps step e o.ledger o.fixed o.asset o.amounts f a.1
+    commanded step (Some (commands.OpenVirtual v)) e f a =
+        virtual-step s h journal fair known ends middles past x front next keeps step e v.route v.ledgers v.guarantors v.joint v.channel v.asset v.amounts f a.1
 
     same-parts : (o : Result Message ByteFault) → ((noted_message real o m).parts ≡ m.parts) × ((noted_message real o m).goals ≡ m.goals)
     same-parts (Ok message) = (refl, refl)

@@ -25,6 +25,7 @@ use Rattle.funding_plans.specs.declared.plan.Part.TheVariants as kinds
 use Rattle.funding_plans.specs.declared.plan.Virtual.{Virtual}
 use Rattle.channel_safety.proofs.Members.{In-append_left, In-append_right, In-append_cases, In-flat_map}
 use Rattle.channel_safety.specs.Journals.{In, Line, made_in, is_followed, opened}
+use Rattle.fairness_laws.specs.Openings.{open_on, open_virtual}
 use Rattle.network.specs.declared.command.Command.{Command}
 use Rattle.network.specs.declared.command.Command.TheVariants as commands
 use Rattle.network.specs.declared.command.Route.{Route}
@@ -271,21 +272,21 @@ module _ (s : Signing) (h : List Entry) (journal : List Told) (fair : IsFair s h
     open-step fixed outcome is taken =
         part-step (commands.Open fixed outcome) is taken (kinds.Root (real.named fixed)) outcome (0, 0) refl refl refl refl (λ l k lends. absurd (none-eq k lends))
 
-    module _ (l : List ℕ) (fixed : FixedParts) (asset : ℕ) (amounts : ℕ × ℕ) (is : x.command ≡ Some (commands.OpenOn l fixed asset amounts)) (taken : None ≡ open_refusal stages real m (commands.OpenOn l fixed asset amounts)) where
+    module _ (l : List ℕ) (fixed : FixedParts) (asset : ℕ) (amounts : ℕ × ℕ) (is : x.command ≡ Some (open_on l fixed asset amounts)) (taken : None ≡ open_refusal stages real m (open_on l fixed asset amounts)) where
       abbrev on-it : Part
       on-it = kinds.OnLedger l (real.named fixed)
 
       at-it : PartAt s past (x ∷ front) on-it
-      at-it = at (commands.OpenOn l fixed asset amounts) is taken on-it (shared fixed asset amounts) amounts refl refl refl refl
+      at-it = at (open_on l fixed asset amounts) is taken on-it (shared fixed asset amounts) amounts refl refl refl refl
 
       told-it : at-it.goal ≡ goal_with (length m.parts) (shared fixed asset amounts) amounts
-      told-it = goal-is (commands.OpenOn l fixed asset amounts) is taken on-it (shared fixed asset amounts) amounts refl refl refl refl at-it.goal at-it.found
+      told-it = goal-is (open_on l fixed asset amounts) is taken on-it (shared fixed asset amounts) amounts refl refl refl refl at-it.goal at-it.found
 
       pub fits-it : fits_between (facts_of m) l asset amounts (persons fixed) ≡ true
       unfolding fits
       fits-it =
           and-right (fixed.app == 1) (fits_between (facts_of m) l asset amounts (persons fixed))
-          (and-left (stages.fits (facts_of m) (commands.OpenOn l fixed asset amounts)) (are_new m (map real.named (fixed ∷ []))) (can-open m (commands.OpenOn l fixed asset amounts) taken))
+          (and-left (stages.fits (facts_of m) (open_on l fixed asset amounts)) (are_new m (map real.named (fixed ∷ []))) (can-open m (open_on l fixed asset amounts) taken))
 
       it-affords : (o : OnLedgerIs s.key past lines (facts_of new) l (real.named fixed) at-it.goal) (last : StateParts) → own_at s.key journal front l ≡ Some last
           → HaveItems o.funded.child last.outcome × Afford o.funded.child last.outcome
@@ -293,7 +294,7 @@ module _ (s : Signing) (h : List Entry) (journal : List Told) (fair : IsFair s h
           covered-child o.funded.child asset b.first b.second amounts last.outcome (ap asset-of (sym o.opening ∙ ap (λ (g : Goal). g.opening) told-it))
           (ap (λ (ns : List (List ℕ)). slice_index_or ns 0 []) people) (ap (λ (ns : List (List ℕ)). slice_index_or ns 1 []) people) (sym (ap (λ (g : Goal). g.amounts) told-it) ∙ o.amounts)
           (covers-last s h journal fair known past front (at-before s h journal fair past x front next) l asset b.first b.second amounts
-          (true-left (lends (facts_of m) l (stake asset b.first b.second amounts)) (lends_virtual (facts_of m) l (stake asset b.first b.second amounts)) b.lends_them) last signed (alone (commands.OpenOn l fixed asset amounts) is taken l last signed))
+          (true-left (lends (facts_of m) l (stake asset b.first b.second amounts)) (lends_virtual (facts_of m) l (stake asset b.first b.second amounts)) b.lends_them) last signed (alone (open_on l fixed asset amounts) is taken l last signed))
         where
           b : Between (facts_of m) l asset amounts (persons fixed)
           b = between (facts_of m) l asset amounts (persons fixed) fits-it
@@ -304,7 +305,7 @@ module _ (s : Signing) (h : List Entry) (journal : List Told) (fair : IsFair s h
               (sym o.opening ∙ ap (λ (g : Goal). g.opening) told-it)
 
       pub on-step : StepAt s journal past past front (x ∷ front)
-      on-step = part-step (commands.OpenOn l fixed asset amounts) is taken on-it (shared fixed asset amounts) amounts refl refl refl refl (affords at-it.is)
+      on-step = part-step (open_on l fixed asset amounts) is taken on-it (shared fixed asset amounts) amounts refl refl refl refl (affords at-it.is)
         where
           affords : (o : OnLedgerIs s.key past lines (facts_of new) l (real.named fixed) at-it.goal) (n : List ℕ) (k : Lent) → lends_at s past (x ∷ front) n on-it ≡ Some k
               → (last : StateParts) → own_at s.key journal front n ≡ Some last → HaveItems k.child last.outcome × Afford k.child last.outcome
@@ -316,9 +317,9 @@ module _ (s : Signing) (h : List Entry) (journal : List Told) (fair : IsFair s h
     -- ---- a virtual channel
 
     module _ (route : Route) (ledgers : List ℕ × List ℕ) (guarantors : FixedParts × FixedParts) (joint channel : FixedParts) (asset : ℕ) (amounts : ℕ × ℕ)
-        (is : x.command ≡ Some (commands.OpenVirtual route ledgers guarantors joint channel asset amounts)) (taken : None ≡ open_refusal stages real m (commands.OpenVirtual route ledgers guarantors joint channel asset amounts)) where
+        (is : x.command ≡ Some (open_virtual route ledgers guarantors joint channel asset amounts)) (taken : None ≡ open_refusal stages real m (open_virtual route ledgers guarantors joint channel asset amounts)) where
       abbrev virtually : Command
-      virtually = commands.OpenVirtual route ledgers guarantors joint channel asset amounts
+      virtually = open_virtual route ledgers guarantors joint channel asset amounts
 
       abbrev v : Virtual
       v = virtual real s.key ledgers guarantors joint channel asset amounts

@@ -12,7 +12,7 @@ use Rattle.funding_plans.specs.declared.plan.Goal.{Goal}
 use Rattle.funding_plans.specs.declared.plan.Part.TheVariants.{OnLedger}
 use Rattle.funding_plans.specs.declared.child.Child.{Child}
 use Rattle.support_rules.specs.Real.{real}
-use Rattle.network.specs.declared.command.Command.TheVariants.{OpenOn}
+use Rattle.fairness_laws.specs.Openings.{open_on}
 use Rattle.funding_plans.specs.Gathered as gathered
 use Rattle.funding_plans.specs.Seats.{Seat, repeats, takes_payment}
 use Rattle.ledger_channel.specs.OnLedgers.{Funded, on_ledger_rows}
@@ -91,14 +91,14 @@ module _ (m : Mind) (ledger : List ℕ) (f : FixedParts) where
 
 -- ---- its first round
 
-pub goal-opening : (ledger : List ℕ) (f : FixedParts) (asset : ℕ) (amounts : ℕ × ℕ) (g : Goal) → IsGoalOf (OpenOn ledger f asset amounts) g → g.opening ≡ shared f asset amounts
+pub goal-opening : (ledger : List ℕ) (f : FixedParts) (asset : ℕ) (amounts : ℕ × ℕ) (g : Goal) → IsGoalOf (open_on ledger f asset amounts) g → g.opening ≡ shared f asset amounts
 goal-opening ledger f asset amounts g o = o.opening ∙ only o.n o.first o.there
   where
     only : (n : ℕ) (first : Goal) → (first ≡ goal_with n (shared f asset amounts) amounts) ⊎ ⊥ → first.opening ≡ shared f asset amounts
     only n first (inl e) = ap (λ (x : Goal). x.opening) e
     only n first (inr i) = absurd i
 
-not-ledger : (ledger : List ℕ) (f : FixedParts) (asset : ℕ) (amounts : ℕ × ℕ) (m : Mind) → IsPlace m (OpenOn ledger f asset amounts) (OnLedger ledger (real.named f)) f
+not-ledger : (ledger : List ℕ) (f : FixedParts) (asset : ℕ) (amounts : ℕ × ℕ) (m : Mind) → IsPlace m (open_on ledger f asset amounts) (OnLedger ledger (real.named f)) f
     → (p : Funded) → FundedAt m ledger (real.named f) p → bytes_eq p.ledger.name (real.named f) ≡ true → ⊥
 not-ledger ledger f asset amounts m place p at same =
     place.apart (ap (λ (b : Bool). b || false)
@@ -106,7 +106,7 @@ not-ledger ledger f asset amounts m place p at same =
 
 -- until Close what is wanted there repeats its opening outcome
 pub wants-opening : (ledger : List ℕ) (f : FixedParts) (asset : ℕ) (amounts : ℕ × ℕ) (m : Mind) (s : StateParts) (Q : Type 0)
-    → IsPlace m (OpenOn ledger f asset amounts) (OnLedger ledger (real.named f)) f → stages.asked (facts_of m) (real.named f) ≡ Some (OnLedger ledger (real.named f))
+    → IsPlace m (open_on ledger f asset amounts) (OnLedger ledger (real.named f)) f → stages.asked (facts_of m) (real.named f) ≡ Some (OnLedger ledger (real.named f))
     → ((g : Goal) → gathered.goal_in (facts_of m) (real.named f) ≡ Some g → g.closing ≡ false) → stages.wanted (facts_of m) (real.named f) ≡ Some s
     → ((c : Seat) (from until : ℕ) → c.opening ≡ shared f asset amounts → repeats from until c ≡ Some s → Q) → Q
 wants-opening ledger f asset amounts m s Q place asked going wants told = by (funded_in (facts_of m) ledger c) refl
@@ -137,7 +137,7 @@ wants-opening ledger f asset amounts m s Q place asked going wants told = by (fu
     by None is = absurd (none-eq s (sym (ap (wanted_on_ledger c) is) ∙ (sym (ap (wanted_of (facts_of m) c) asked) ∙ wants)))
     by (Some p) is = with-part p is
 
-pub child-starts : (ledger : List ℕ) (f : FixedParts) (asset : ℕ) (amounts : ℕ × ℕ) → Starts (OpenOn ledger f asset amounts) (OnLedger ledger (real.named f)) f (shared f asset amounts) (people f - 1)
+pub child-starts : (ledger : List ℕ) (f : FixedParts) (asset : ℕ) (amounts : ℕ × ℕ) → Starts (open_on ledger f asset amounts) (OnLedger ledger (real.named f)) f (shared f asset amounts) (people f - 1)
 child-starts ledger f asset amounts = record {
   own = ap (λ (b : Bool). b || false) (bytes_eq_self (real.named f));
   enough = once (people f);
@@ -152,7 +152,7 @@ child-starts ledger f asset amounts = record {
     once : (n : ℕ) → n ≤ n - 1 + 1
     once n = omega arith
 
-    first : (m : Mind) (k : Kept) (s : StateParts) → IsPlace m (OpenOn ledger f asset amounts) (OnLedger ledger (real.named f)) f → stages.asked (facts_of m) (real.named f) ≡ Some (OnLedger ledger (real.named f))
+    first : (m : Mind) (k : Kept) (s : StateParts) → IsPlace m (open_on ledger f asset amounts) (OnLedger ledger (real.named f)) f → stages.asked (facts_of m) (real.named f) ≡ Some (OnLedger ledger (real.named f))
         → kept_of (real.named f) m.kept ≡ Some k → s.turn ≡ next_of k → s.turn < people f
         → (stages.accepts (facts_of m) (real.named f) s ≡ true)
         ⊎ (((g : Goal) → gathered.goal_in (facts_of m) (real.named f) ≡ Some g → g.closing ≡ false) × (stages.wanted (facts_of m) (real.named f) ≡ Some s))
@@ -173,4 +173,4 @@ child-starts ledger f asset amounts = record {
 
 pub children_open : ChildrenOpenWith
 children_open s h journal legal plays ledger f asset amounts took =
-    opens-with s h journal legal plays (OpenOn ledger f asset amounts) (OnLedger ledger (real.named f)) f (shared f asset amounts) (people f - 1) took (inl refl) (inl refl) (child-starts ledger f asset amounts)
+    opens-with s h journal legal plays (open_on ledger f asset amounts) (OnLedger ledger (real.named f)) f (shared f asset amounts) (people f - 1) took (inl refl) (inl refl) (child-starts ledger f asset amounts)

@@ -21,8 +21,8 @@ use Rattle.funding_plans.specs.declared.terms.Terms.{Terms}
 use Rattle.support_rules.specs.Real.{real}
 use Rattle.support_rules.specs.Steps.{persons}
 use Rattle.channel_safety.specs.Journals.{In}
+use Rattle.fairness_laws.specs.Openings.{open_virtual}
 use Rattle.network.specs.declared.command.Command.{Command}
-use Rattle.network.specs.declared.command.Command.TheVariants.{OpenVirtual}
 use Rattle.network.specs.declared.command.Route.{Route}
 use Rattle.funding_plans.specs.Gathered as gathered
 use Rattle.funding_plans.specs.Rows.{wanted_in}
@@ -135,7 +135,7 @@ module _ (key : List ℕ) (route : Route) (ledgers : List ℕ × List ℕ) (guar
   v = virtual real key ledgers guarantors joint channel asset amounts
 
   abbrev command : Command
-  command = OpenVirtual route ledgers guarantors joint channel asset amounts
+  command = open_virtual route ledgers guarantors joint channel asset amounts
 
   module _ (told : terms_for v (persons joint) ≡ Some t) (distinct : Differ (real.named guarantors.0) (real.named guarantors.1) (real.named joint) (real.named channel)) where
     -- what is known of a place
@@ -454,8 +454,8 @@ ends_open s h journal legal plays route ledgers guarantors joint channel asset a
     distinct : Differ (real.named guarantors.0) (real.named guarantors.1) (real.named joint) (real.named channel)
     distinct = names-differ s h journal legal plays route ledgers guarantors joint channel asset amounts took
 
-    opens : (f : FixedParts) → In f (opened_by (OpenVirtual route ledgers guarantors joint channel asset amounts)) → (opening : List AssetOutcome) → EndChannel s.key route ledgers guarantors joint channel asset amounts t told distinct f opening
+    opens : (f : FixedParts) → In f (opened_by (open_virtual route ledgers guarantors joint channel asset amounts)) → (opening : List AssetOutcome) → EndChannel s.key route ledgers guarantors joint channel asset amounts t told distinct f opening
         → OpensWith f opening (lines_of s.key journal)
     opens f inside opening ch =
-        opens-with s h journal legal plays (OpenVirtual route ledgers guarantors joint channel asset amounts) (parts.End (virtual real s.key ledgers guarantors joint channel asset amounts)) f opening (people f - 1) took inside
+        opens-with s h journal legal plays (open_virtual route ledgers guarantors joint channel asset amounts) (parts.End (virtual real s.key ledgers guarantors joint channel asset amounts)) f opening (people f - 1) took inside
         (at-end s.key route ledgers guarantors joint channel asset amounts takes) (end-starts s.key route ledgers guarantors joint channel asset amounts t told distinct f opening ch)

@@ -10,6 +10,7 @@ use Rattle.funding_plans.specs.declared.plan.Virtual.{Virtual}
 use Rattle.funding_plans.specs.Targets.{guarantee}
 use Rattle.funding_plans.specs.declared.terms.Terms.{Terms}
 use Rattle.support_rules.specs.Real.{real}
+use Rattle.fairness_laws.specs.Openings.{open_virtual}
 use Rattle.network.specs.declared.command.Command.{Command}
 use Rattle.channel_node.specs.Places.{Told, lines_of}
 use Rattle.channel_node.specs.Playing.{Signing, Plays}
@@ -31,7 +32,6 @@ use Rattle.funding_plans.specs.declared.plan.Goal.{Goal}
 use Rattle.funding_plans.specs.declared.plan.Part.{Part}
 use Rattle.funding_plans.specs.declared.plan.Part.TheVariants.{Root, OnLedger, End, Middle}
 use Rattle.channel_safety.specs.Journals.{In}
-use Rattle.network.specs.declared.command.Command.TheVariants.{OpenVirtual}
 use Rattle.network.specs.declared.command.Route.{Route}
 use Rattle.funding_plans.specs.Gathered as gathered
 use Rattle.funding_plans.specs.Seats.{Seat, repeats}
@@ -155,7 +155,7 @@ fixed-among f route ledgers guarantors joint channel asset ab (x ∷ y ∷ z ∷
       people = is;
     }
 
-pub are-fixed : (f : FactsOf) (route : Route) (ledgers : List ℕ × List ℕ) (guarantors : FixedParts × FixedParts) (joint channel : FixedParts) (asset : ℕ) (ab : ℕ × ℕ) → fits f (OpenVirtual route ledgers guarantors joint channel asset ab) ≡ true
+pub are-fixed : (f : FactsOf) (route : Route) (ledgers : List ℕ × List ℕ) (guarantors : FixedParts × FixedParts) (joint channel : FixedParts) (asset : ℕ) (ab : ℕ × ℕ) → fits f (open_virtual route ledgers guarantors joint channel asset ab) ≡ true
     → AreFixed guarantors joint
 are-fixed f route ledgers guarantors joint channel asset ab e =
     fixed-among f route ledgers guarantors joint channel asset ab (persons joint) refl (fits-by-route f route ledgers guarantors joint channel asset ab e)
@@ -163,12 +163,12 @@ are-fixed f route ledgers guarantors joint channel asset ab e =
 -- ---- the laws
 
 module _ (s : Signing) (h : List Entry) (journal : List Told) (legal : Legal real h) (plays : Plays stages real s h journal) (route : Route) (ledgers : List ℕ × List ℕ) (guarantors : FixedParts × FixedParts) (joint channel : FixedParts)
-    (asset : ℕ) (amounts : ℕ × ℕ) (t : Terms) (took : Took (OpenVirtual route ledgers guarantors joint channel asset amounts) journal) where
+    (asset : ℕ) (amounts : ℕ × ℕ) (t : Terms) (took : Took (open_virtual route ledgers guarantors joint channel asset amounts) journal) where
   abbrev v : Virtual
   v = virtual real s.key ledgers guarantors joint channel asset amounts
 
   abbrev command : Command
-  command = OpenVirtual route ledgers guarantors joint channel asset amounts
+  command = open_virtual route ledgers guarantors joint channel asset amounts
 
   pub distinct : Differ (real.named guarantors.0) (real.named guarantors.1) (real.named joint) (real.named channel)
   distinct = names-differ s h journal legal plays route ledgers guarantors joint channel asset amounts took

@@ -6,7 +6,7 @@ use Rattle.channel_values.specs.Parts.{FixedParts}
 use Rattle.call_history.proofs.Names.{same_bytes}
 use Rattle.call_history.specs.Flows.{is_among}
 use Rattle.funding_plans.specs.Known.{FactsOf}
-use Rattle.network.specs.declared.command.Command.TheVariants.{OpenVirtual}
+use Rattle.fairness_laws.specs.Openings.{open_virtual}
 use Rattle.network.specs.declared.command.Route.{Route}
 use Rattle.network.specs.declared.command.Route.TheVariants.{Plain, Ledger, Onward}
 use Rattle.stage_tables.specs.Fitting.{fits, stake, lends_if_own, both_lend, app_of, lends_virtual, one_lends, either_lends, onward_lends, route_lends, fits_route}
@@ -16,7 +16,7 @@ use Rattle.stage_tables.specs.declared.stake.Stake.{Stake}
 -- ---- by the route
 
 pub fits-by-route : (f : FactsOf) (route : Route) (ledgers : List ℕ × List ℕ) (guarantors : FixedParts × FixedParts) (joint channel : FixedParts) (asset : ℕ) (ab : ℕ × ℕ)
-    → fits f (OpenVirtual route ledgers guarantors joint channel asset ab) ≡ true → fits_route f route ledgers guarantors joint channel asset ab ≡ true
+    → fits f (open_virtual route ledgers guarantors joint channel asset ab) ≡ true → fits_route f route ledgers guarantors joint channel asset ab ≡ true
 unfolding fits
 fits-by-route f route ledgers guarantors joint channel asset ab e = e
 

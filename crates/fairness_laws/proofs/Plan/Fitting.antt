@@ -24,8 +24,9 @@ use Rattle.funding_plans.specs.declared.plan.Part.TheVariants.{Root, OnLedger, E
 use Rattle.funding_plans.specs.declared.plan.Virtual.{Virtual}
 use Rattle.channel_safety.specs.Journals.{In}
 use Rattle.channel_safety.proofs.Members.{In-append_left, In-append_right, In-map, mapped}
+use Rattle.fairness_laws.specs.Openings.{open_on, open_virtual}
 use Rattle.network.specs.declared.command.Command.{Command}
-use Rattle.network.specs.declared.command.Command.TheVariants.{Open, OpenOn, OpenVirtual}
+use Rattle.network.specs.declared.command.Command.TheVariants.{Open}
 use Rattle.network.specs.declared.command.Route.{Route}
 use Rattle.channel_node.proofs.Allowing.{first_none, rest_none, holds_not}
 use Rattle.channel_node.specs.Minds.{Mind, facts_of}
@@ -315,8 +316,8 @@ module _ (key : List ℕ) (m : Mind) (mine : m.key ≡ key) (fs : List FixedPart
 
   -- ---- a channel on a ledger
 
-  pub child-added : (ledger : List ℕ) (fixed : FixedParts) (asset : ℕ) (amounts : ℕ × ℕ) (tells : (f : FixedParts) → In f (opened_by (OpenOn ledger fixed asset amounts)) → Tells key f)
-      → can_open stages real m (OpenOn ledger fixed asset amounts) ≡ true → (n : ℕ) → Added key fs m.parts n (OpenOn ledger fixed asset amounts)
+  pub child-added : (ledger : List ℕ) (fixed : FixedParts) (asset : ℕ) (amounts : ℕ × ℕ) (tells : (f : FixedParts) → In f (opened_by (open_on ledger fixed asset amounts)) → Tells key f)
+      → can_open stages real m (open_on ledger fixed asset amounts) ≡ true → (n : ℕ) → Added key fs m.parts n (open_on ledger fixed asset amounts)
   unfolding fits
   child-added ledger fixed asset amounts tells can n = record {
     part = OnLedger ledger (real.named fixed);
@@ -328,7 +329,7 @@ module _ (key : List ℕ) (m : Mind) (mine : m.key ≡ key) (fs : List FixedPart
   }
     where
       gs : List FixedParts
-      gs = adds key (Some (OpenOn ledger fixed asset amounts))
+      gs = adds key (Some (open_on ledger fixed asset amounts))
 
       fit : ((fixed.app == 1) && fits_between (facts_of m) ledger asset amounts (persons fixed)) ≡ true
       fit = and-left ((fixed.app == 1) && fits_between (facts_of m) ledger asset amounts (persons fixed)) (are_new m (map real.named (fixed ∷ []))) can
@@ -368,11 +369,11 @@ module _ (key : List ℕ) (m : Mind) (mine : m.key ≡ key) (fs : List FixedPart
   -- ---- a virtual channel
 
   module _ (route : Route) (ledgers : List ℕ × List ℕ) (guarantors : FixedParts × FixedParts) (joint channel : FixedParts) (asset : ℕ) (amounts : ℕ × ℕ)
-      (tells : (f : FixedParts) → In f (opened_by (OpenVirtual route ledgers guarantors joint channel asset amounts)) → Tells key f)
-      (valid : (f : FixedParts) → In f (adds key (Some (OpenVirtual route ledgers guarantors joint channel asset amounts))) → IsFixed f)
-      (can : can_open stages real m (OpenVirtual route ledgers guarantors joint channel asset amounts) ≡ true) where
+      (tells : (f : FixedParts) → In f (opened_by (open_virtual route ledgers guarantors joint channel asset amounts)) → Tells key f)
+      (valid : (f : FixedParts) → In f (adds key (Some (open_virtual route ledgers guarantors joint channel asset amounts))) → IsFixed f)
+      (can : can_open stages real m (open_virtual route ledgers guarantors joint channel asset amounts) ≡ true) where
     abbrev command : Command
-    command = OpenVirtual route ledgers guarantors joint channel asset amounts
+    command = open_virtual route ledgers guarantors joint channel asset amounts
 
     abbrev gs : List FixedParts
     gs = adds key (Some command)

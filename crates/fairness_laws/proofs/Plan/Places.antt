@@ -142,12 +142,12 @@ module _ (s : Signing) (past : List Entry) (m : Mind) (mine : m.key ≡ s.key) (
       → Knows s.key (fs ++ adds s.key (Some command)) (commanded real command m).parts (commanded real command m).goals
   followed used (commands.Open f outcome) e tells valid =
       opening (commands.Open f outcome) (root-added s.key m mine fs on-ledger owns f outcome tells (can-open m (commands.Open f outcome) e) (length m.parts))
-  followed used (commands.OpenOn ledger f asset amounts) e tells valid =
-      opening (commands.OpenOn ledger f asset amounts)
-      (child-added s.key m mine fs on-ledger owns ledger f asset amounts tells (can-open m (commands.OpenOn ledger f asset amounts) e) (length m.parts))
-  followed used (commands.OpenVirtual route ledgers guarantors joint channel asset amounts) e tells valid =
-      opening (commands.OpenVirtual route ledgers guarantors joint channel asset amounts)
-      (virtual-added s.key m mine fs on-ledger owns route ledgers guarantors joint channel asset amounts tells valid (can-open m (commands.OpenVirtual route ledgers guarantors joint channel asset amounts) e) (length m.parts))
+  followed used (commands.OpenOn o) e tells valid =
+      opening (commands.OpenOn o)
+      (child-added s.key m mine fs on-ledger owns o.ledger o.fixed o.asset o.amounts tells (can-open m (commands.OpenOn o) e) (length m.parts))
+  followed used (commands.OpenVirtual v) e tells valid =
+      opening (commands.OpenVirtual v)
+      (virtual-added s.key m mine fs on-ledger owns v.route v.ledgers v.guarantors v.joint v.channel v.asset v.amounts tells valid (can-open m (commands.OpenVirtual v) e) (length m.parts))
   followed used (commands.Pay channel asset amount) e tells valid = with-channels s.key fs [] m.parts m.goals was
   followed used (commands.Close channel) e tells valid = with-closing s.key fs [] m.parts m.goals (place_with channel m.parts) was
   followed used commands.Exit e tells valid = with-channels s.key fs [] m.parts m.goals was

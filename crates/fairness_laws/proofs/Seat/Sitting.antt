@@ -26,7 +26,7 @@ use Rattle.channel_safety.specs.Held.{held}
 use Rattle.channel_safety.specs.Journals.{In, Line}
 use Rattle.funding_plans.specs.Limits.{is_valid}
 use Rattle.share_laws.specs.Finality.{StandsFor}
-use Rattle.share_laws.specs.Turns.{OneOf}
+use Rattle.support_rules.specs.May.{OneOf}
 use Rattle.share_laws.specs.Bases.{all_bases}
 use Rattle.share_laws.specs.Places as places
 use Rattle.share_laws.specs.Places.{Order, plan, last_made, possible, possible_after, outcomes_of}

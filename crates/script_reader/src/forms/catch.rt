@@ -6,7 +6,7 @@ ghost use Rattle.script_steps.specs.Rules.{Gives};
 ghost use Rattle.script_reader.specs.Forms.{catch_of};
 
 use crate::kinds::{keys, name_at, number_at};
-use script_steps::{Step, StepFault};
+use script_steps::{CatchStep, Step, StepFault};
 use serde_json::Value;
 use std::alloc::Global;
 
@@ -18,10 +18,10 @@ pub(crate) fn catch_of(alloc: Global, step: &Value) -> Result<Step, StepFault>
     let from = name_at(alloc, step, "from")?;
     let channel = name_at(alloc, step, "channel")?;
     let turn = number_at(step, "turn")?;
-    Ok(Step::Catch {
+    Ok(Step::Catch(CatchStep {
         name,
         from,
         channel,
         turn,
-    })
+    }))
 }

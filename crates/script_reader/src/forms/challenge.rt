@@ -6,7 +6,7 @@ ghost use Rattle.script_steps.specs.Rules.{Gives};
 ghost use Rattle.script_reader.specs.Forms.{challenge_of};
 
 use crate::kinds::{keys, name_at, names_at};
-use script_steps::{Step, StepFault};
+use script_steps::{ChallengeStep, Step, StepFault};
 use serde_json::Value;
 use std::alloc::Global;
 
@@ -17,5 +17,5 @@ pub(crate) fn challenge_of(alloc: Global, step: &Value) -> Result<Step, StepFaul
     let channel = name_at(alloc, step, "channel")?;
     let chain = names_at(alloc, step, "chain")?;
     let by = name_at(alloc, step, "by")?;
-    Ok(Step::Challenge { channel, chain, by })
+    Ok(Step::Challenge(ChallengeStep { channel, chain, by }))
 }

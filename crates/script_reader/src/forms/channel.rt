@@ -6,7 +6,7 @@ ghost use Rattle.script_steps.specs.Rules.{Gives};
 ghost use Rattle.script_reader.specs.Forms.{channel_of};
 
 use crate::kinds::{app_at, keys, name_at, names_at, number_at};
-use script_steps::{Step, StepFault};
+use script_steps::{ChannelStep, Step, StepFault};
 use serde_json::Value;
 use std::alloc::Global;
 
@@ -19,11 +19,11 @@ pub(crate) fn channel_of(alloc: Global, step: &Value) -> Result<Step, StepFault>
     let nonce = number_at(step, "nonce")?;
     let app = app_at(step, "app")?;
     let duration = number_at(step, "duration")?;
-    Ok(Step::Channel {
+    Ok(Step::Channel(ChannelStep {
         name,
         people,
         nonce,
         app,
         duration,
-    })
+    }))
 }

@@ -6,7 +6,7 @@ ghost use Rattle.script_steps.specs.Rules.{Gives};
 ghost use Rattle.script_reader.specs.Forms.{claim_of};
 
 use crate::kinds::{keys, name_at, number_at};
-use script_steps::{Step, StepFault};
+use script_steps::{ClaimStep, Step, StepFault};
 use serde_json::Value;
 use std::alloc::Global;
 
@@ -20,12 +20,12 @@ pub(crate) fn claim_of(alloc: Global, step: &Value) -> Result<Step, StepFault>
     let target_state = name_at(alloc, step, "target_state")?;
     let asset = number_at(step, "asset")?;
     let position = number_at(step, "position")?;
-    Ok(Step::Claim {
+    Ok(Step::Claim(ClaimStep {
         guarantor,
         state,
         target,
         target_state,
         asset,
         position,
-    })
+    }))
 }

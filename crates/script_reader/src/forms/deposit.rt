@@ -6,7 +6,7 @@ ghost use Rattle.script_steps.specs.Rules.{Gives};
 ghost use Rattle.script_reader.specs.Forms.{deposit_of};
 
 use crate::kinds::{keys, number_at, place_at};
-use script_steps::{Step, StepFault};
+use script_steps::{DepositStep, Step, StepFault};
 use serde_json::Value;
 use std::alloc::Global;
 
@@ -18,10 +18,10 @@ pub(crate) fn deposit_of(alloc: Global, step: &Value) -> Result<Step, StepFault>
     let asset = number_at(step, "asset")?;
     let expected = number_at(step, "expected")?;
     let amount = number_at(step, "amount")?;
-    Ok(Step::Deposit {
+    Ok(Step::Deposit(DepositStep {
         channel,
         asset,
         expected,
         amount,
-    })
+    }))
 }

@@ -6,7 +6,7 @@ ghost use Rattle.script_steps.specs.Rules.{Gives};
 ghost use Rattle.script_reader.specs.Forms.{pay_of};
 
 use crate::kinds::{keys, name_at, number_at};
-use script_steps::{Step, StepFault};
+use script_steps::{PayStep, Step, StepFault};
 use serde_json::Value;
 use std::alloc::Global;
 
@@ -18,10 +18,10 @@ pub(crate) fn pay_of(alloc: Global, step: &Value) -> Result<Step, StepFault>
     let channel = name_at(alloc, step, "channel")?;
     let asset = number_at(step, "asset")?;
     let amount = number_at(step, "amount")?;
-    Ok(Step::Pay {
+    Ok(Step::Pay(PayStep {
         who,
         channel,
         asset,
         amount,
-    })
+    }))
 }

@@ -6,7 +6,7 @@ ghost use Rattle.script_steps.specs.Rules.{Gives};
 ghost use Rattle.script_reader.specs.Forms.{person_of};
 
 use crate::kinds::{flag_at, keys, name_at, number_at, seed_at};
-use script_steps::{Step, StepFault};
+use script_steps::{PersonStep, Step, StepFault};
 use serde_json::Value;
 use std::alloc::Global;
 
@@ -19,11 +19,11 @@ pub(crate) fn person_of(alloc: Global, step: &Value) -> Result<Step, StepFault>
     let h = number_at(step, "h")?;
     let node = flag_at(step, "node")?;
     let watchers = number_at(step, "watchers")?;
-    Ok(Step::Person {
+    Ok(Step::Person(PersonStep {
         name,
         seed,
         h,
         node,
         watchers,
-    })
+    }))
 }

@@ -6,7 +6,7 @@ ghost use Rattle.script_steps.specs.Rules.{Gives};
 ghost use Rattle.script_reader.specs.Forms.{respond_of};
 
 use crate::kinds::{keys, name_at};
-use script_steps::{Step, StepFault};
+use script_steps::{RespondStep, Step, StepFault};
 use serde_json::Value;
 use std::alloc::Global;
 
@@ -17,9 +17,9 @@ pub(crate) fn respond_of(alloc: Global, step: &Value) -> Result<Step, StepFault>
     let channel = name_at(alloc, step, "channel")?;
     let from = name_at(alloc, step, "from")?;
     let state = name_at(alloc, step, "state")?;
-    Ok(Step::Respond {
+    Ok(Step::Respond(RespondStep {
         channel,
         from,
         state,
-    })
+    }))
 }

@@ -6,7 +6,7 @@ ghost use Rattle.script_steps.specs.Rules.{Gives};
 ghost use Rattle.script_reader.specs.Forms.{transfer_of};
 
 use crate::kinds::{keys, name_at, number_at};
-use script_steps::{Step, StepFault};
+use script_steps::{Step, StepFault, TransferStep};
 use serde_json::Value;
 use std::alloc::Global;
 
@@ -18,10 +18,10 @@ pub(crate) fn transfer_of(alloc: Global, step: &Value) -> Result<Step, StepFault
     let state = name_at(alloc, step, "state")?;
     let asset = number_at(step, "asset")?;
     let index = number_at(step, "index")?;
-    Ok(Step::Transfer {
+    Ok(Step::Transfer(TransferStep {
         channel,
         state,
         asset,
         index,
-    })
+    }))
 }

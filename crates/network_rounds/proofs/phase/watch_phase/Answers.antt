@@ -12,7 +12,7 @@ returns-then-is_empty-clause-phase g c =
 
 pub watch_all-requires-after_bounds : goal.watch_all-requires-after_bounds
 watch_all-requires-after_bounds g c κs within =
-    all_ready (worker_of (λ x. (goal.Actor-dyn g (x.actor.vtable, x.actor.value)).tells x.actor.value) (λ x. (goal.Actor-dyn g (x.actor.vtable, x.actor.value)).told x.actor.value))
+    all_ready (worker_of (λ b. (goal.Actor-dyn g (b.vtable, b.value)).tells b.value) (λ b. (goal.Actor-dyn g (b.vtable, b.value)).told b.value))
     (Watches g.P.Party.ways) CanWatch c.args.book.now c.args.seat.now _ _ _ _ c.requires.book c.in_ok-other.ensures.0 c.new-jobs.ensures.items c.in_ok-deal.ensures c.requires.can
 
 pub collect-requires-clause-results : goal.collect-requires-clause-results

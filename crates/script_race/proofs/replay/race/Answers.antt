@@ -28,7 +28,7 @@ taken step steps i old new result inside is before take =
 pub loop-step-init : goal.loop-step-init
 loop-step-init g c =
     let ways = g.P.Party.ways in
-    let player = player_of (λ c. (goal.Actor-dyn g (c.actor.vtable, c.actor.value)).tells c.actor.value) (λ c. (goal.Actor-dyn g (c.actor.vtable, c.actor.value)).told c.actor.value) in
+    let player = player_of (λ b. (goal.Actor-dyn g (b.vtable, b.value)).tells b.value) (λ b. (goal.Actor-dyn g (b.vtable, b.value)).told b.value) in
     let starts = c.in_ok-race.ensures.starts in
     let none = no_notes player c.args.cast.items c.requires.unseen in
     record {
@@ -70,8 +70,8 @@ loop-step-preserved g c =
     let i = c.loop-step.step-index in
     let step = c.step-item.result in
     let n = c.loop-step.number in
-    let before = race_of (λ c. (goal.Actor-dyn g (c.actor.vtable, c.actor.value)).tells c.actor.value) (λ c. (goal.Actor-dyn g (c.actor.vtable, c.actor.value)).told c.actor.value) c.loop-step.race in
-    let after = race_of (λ c. (goal.Actor-dyn g (c.actor.vtable, c.actor.value)).tells c.actor.value) (λ c. (goal.Actor-dyn g (c.actor.vtable, c.actor.value)).told c.actor.value) c.play_step.new.self in
+    let before = race_of (λ b. (goal.Actor-dyn g b).tells b.1) (λ b. (goal.Actor-dyn g b).told b.1) c.loop-step.race in
+    let after = race_of (λ b. (goal.Actor-dyn g b).tells b.1) (λ b. (goal.Actor-dyn g b).told b.1) c.play_step.new.self in
     let inside = c.loop-step-test.true in
     let fit = subst (λ (x : Step). Fits x) (sym c.step-item.is) (c.requires.fit i step inside) in
     let may = subst (λ (x : Step). runs_in_race x ≡ true) (sym c.step-item.is) (c.requires.may_race i step inside) in
@@ -88,7 +88,7 @@ loop-step-preserved g c =
 pub returns-clause-raced : goal.returns-clause-raced
 returns-clause-raced g c =
     let ways = g.P.Party.ways in
-    let last = race_of (λ c. (goal.Actor-dyn g (c.actor.vtable, c.actor.value)).tells c.actor.value) (λ c. (goal.Actor-dyn g (c.actor.vtable, c.actor.value)).told c.actor.value) c.loop-step.race in
+    let last = race_of (λ b. (goal.Actor-dyn g b).tells b.1) (λ b. (goal.Actor-dyn g b).told b.1) c.loop-step.race in
     let steps = c.args.steps.now in
     let raced = c.loop-step.invariant.raced last (races_end ways (c.loop-step.number + 1) steps c.loop-step.step-index last (omega (arith, c.loop-step-test.false))) in
     record {
@@ -99,6 +99,6 @@ returns-clause-raced g c =
 
 pub returns-clause-racing : goal.returns-clause-racing
 returns-clause-racing g c =
-    let last = race_of (λ c. (goal.Actor-dyn g (c.actor.vtable, c.actor.value)).tells c.actor.value) (λ c. (goal.Actor-dyn g (c.actor.vtable, c.actor.value)).told c.actor.value) c.loop-step.race in
+    let last = race_of (λ b. (goal.Actor-dyn g b).tells b.1) (λ b. (goal.Actor-dyn g b).told b.1) c.loop-step.race in
     subst (λ (r : RaceOf g.row.P.Denot). IsRacing g.P.Party.ways g.P.Party.stands g.P.Party.lost (stage_of r)) (sym c.in_ok-see_all.ensures.turns)
     (ends_stay g.P.Party.ways g.P.Party.stands g.P.Party.lost c.requires.keep.kept c.requires.keep.writes last c.loop-step.invariant.racing)

@@ -8,6 +8,6 @@ use Rattle.script_run.proofs.recording.work.Goals as goal
 
 pub returns-in-Some-report : goal.returns-in-Some-report
 returns-in-Some-report g c =
-    let handed : Given = given g.S.Source.remaining g.S.Source.faults c.args.words.now c.args.source.now c.end_of_words.new.source in
+    let handed : Given = given g.S.Source c.args.words.now c.args.source.now c.end_of_words.new.source in
     let asked : asked_of c.args.words.now ≡ Some c.in-Some.asked.now = search rules in
     c.recorded.ensures _ handed (played_end ways _ handed c.in-Some.asked.now c.in_ok-ended.ended.status c.in_ok-ended.ended.report _ asked (search rules) c.in_ok-ended.ensures.ends)

@@ -6,7 +6,7 @@ use Rattle.script_run.proofs.run.race_source.Goals as goal
 
 pub returns-in-Ok-clause-ends : goal.returns-in-Ok-clause-ends
 returns-in-Ok-clause-ends g c words asks =
-    let s : Given = given g.S.Source.remaining g.S.Source.faults words c.args.source.now c.read_all.new.source in
+    let s : Given = given g.S.Source words c.args.source.now c.read_all.new.source in
     let taken : Consumes s.before s.after c.in-Ok.bytes.items = search rules in
     let done : IsAtEnd s.after = search rules in
     let short : length c.in-Ok.bytes.items ≤ 4194304 = search rules in

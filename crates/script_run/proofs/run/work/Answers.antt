@@ -20,5 +20,5 @@ run_load-requires-clause-few g c =
 pub returns-in-Some-Load-clause-ends : goal.returns-in-Some-Load-clause-ends
 returns-in-Some-Load-clause-ends g c =
     let is : asked c.args.words.now ≡ Some (Load c.in-Some-Load.seed c.in-Some-Load.count) = search rules in
-    c.run_load.ensures.ends _ (given g.S.Source.remaining g.S.Source.faults c.args.words.now c.args.source.now c.args.source.now) is
+    c.run_load.ensures.ends _ (given g.S.Source c.args.words.now c.args.source.now c.args.source.now) is
     (keeps_all (g.S.Source.remaining c.args.source.now), refl)

@@ -1,8 +1,8 @@
-use Rattle.std.proofs.Common.{false, map, sym, ◌∙◌, ap, subst}
+use Rattle.std.proofs.Common.{false, sym, ◌∙◌, ap, subst}
 use Rattle.shared_object.specs.Caller.{Caller, IsCaller}
 use Rattle.call_history.specs.History.{newest_first, now_of}
 use Rattle.call_history.specs.declared.entry.Entry.{Entry}
-use Rattle.network_rounds.specs.Views.{player_of}
+use Rattle.network_rounds.specs.Views.{players}
 use Rattle.script_race.proofs.Driving.{opens}
 use Rattle.script_race.proofs.racing.Race.make.Goals as goal
 
@@ -18,7 +18,7 @@ returns-clause-seated g c =
 
 pub returns-clause-starts : goal.returns-clause-starts
 returns-clause-starts g c =
-    let cast = map (player_of (λ c. (goal.Actor-dyn g (c.actor.vtable, c.actor.value)).tells c.actor.value) (λ c. (goal.Actor-dyn g (c.actor.vtable, c.actor.value)).told c.actor.value)) c.args.cast.items in
+    let cast = players (λ b. (goal.Actor-dyn g b).tells b.1) (λ b. (goal.Actor-dyn g b).told b.1) c.args.cast.items in
     let history = ap (λ (c : Caller Entry). newest_first c.seen) c.in-Ok.ensures in
     let rounds = c.make-4.ensures ∙ c.new-3.ensures.items in
     λ i. record {

@@ -15,15 +15,15 @@ do_effect-requires-clause-racing g c = λ κs out. c.requires.racing
 
 pub returns-clause-does : goal.returns-clause-does
 returns-clause-does g c =
-    let before = race_of (λ c. (goal.Actor-dyn g (c.actor.vtable, c.actor.value)).tells c.actor.value) (λ c. (goal.Actor-dyn g (c.actor.vtable, c.actor.value)).told c.actor.value) c.args.self.now in
-    let after = race_of (λ c. (goal.Actor-dyn g (c.actor.vtable, c.actor.value)).tells c.actor.value) (λ c. (goal.Actor-dyn g (c.actor.vtable, c.actor.value)).told c.actor.value) c.do_effect.new.self in
+    let before = race_of (λ b. (goal.Actor-dyn g b).tells b.1) (λ b. (goal.Actor-dyn g b).told b.1) c.args.self.now in
+    let after = race_of (λ b. (goal.Actor-dyn g b).tells b.1) (λ b. (goal.Actor-dyn g b).told b.1) c.do_effect.new.self in
     subst (λ (m : Meaning). DoesAs g.P.Party.ways c.args.number m before after) c.in_ok-effect.ensures c.in_ok-do_effect.ensures.does
 
 pub returns-clause-people : goal.returns-clause-people
 returns-clause-people g c =
     let names = c.args.self.now.names in
-    let before = race_of (λ c. (goal.Actor-dyn g (c.actor.vtable, c.actor.value)).tells c.actor.value) (λ c. (goal.Actor-dyn g (c.actor.vtable, c.actor.value)).told c.actor.value) (record c.args.self.now { names = c.meet.new.known }) in
-    let after = race_of (λ c. (goal.Actor-dyn g (c.actor.vtable, c.actor.value)).tells c.actor.value) (λ c. (goal.Actor-dyn g (c.actor.vtable, c.actor.value)).told c.actor.value) c.do_effect.new.self in
+    let before = race_of (λ b. (goal.Actor-dyn g b).tells b.1) (λ b. (goal.Actor-dyn g b).told b.1) (record c.args.self.now { names = c.meet.new.known }) in
+    let after = race_of (λ b. (goal.Actor-dyn g b).tells b.1) (λ b. (goal.Actor-dyn g b).told b.1) c.do_effect.new.self in
     let kept : length c.do_effect.new.self.names.people ≡ length c.meet.new.known.people =
     does_people g.P.Party.ways c.args.number c.in_ok-effect.effect before after c.in_ok-do_effect.ensures.does in
     let met : length c.meet.new.known.people ≡ length (meaning names c.args.step.now).names.people =

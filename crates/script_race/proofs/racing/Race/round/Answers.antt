@@ -7,12 +7,12 @@ use Rattle.script_race.proofs.racing.Race.round.Goals as goal
 
 pub race_round-requires-clause-followed : goal.race_round-requires-clause-followed
 race_round-requires-clause-followed g c = λ κs out.
-    let before = race_of (λ c. (goal.Actor-dyn g (c.actor.vtable, c.actor.value)).tells c.actor.value) (λ c. (goal.Actor-dyn g (c.actor.vtable, c.actor.value)).told c.actor.value) c.args.self.now in
+    let before = race_of (λ b. (goal.Actor-dyn g b).tells b.1) (λ b. (goal.Actor-dyn g b).told b.1) c.args.self.now in
     all_followed g.P.Party.ways g.P.Party.stands g.P.Party.lost c.requires.keep before c.args.self.now.seat.seen refl c.requires.racing
 
 pub overflow_add-now : goal.overflow_add-now
 overflow_add-now g c =
-    let before = race_of (λ c. (goal.Actor-dyn g (c.actor.vtable, c.actor.value)).tells c.actor.value) (λ c. (goal.Actor-dyn g (c.actor.vtable, c.actor.value)).told c.actor.value) c.args.self.now in
+    let before = race_of (λ b. (goal.Actor-dyn g b).tells b.1) (λ b. (goal.Actor-dyn g b).told b.1) c.args.self.now in
     omega (arith, c.requires.seated.now, early_by_now g.P.Party.ways g.P.Party.stands g.P.Party.lost before c.args.self.now.seat.seen refl c.requires.racing, c.requires.seated.sound.few)
 
 pub enter-requires-clause-part : goal.enter-requires-clause-part
@@ -34,7 +34,7 @@ pub returns-clause-seated : goal.returns-clause-seated
 returns-clause-seated g c =
     let ways = g.P.Party.ways in
     let self = c.args.self.now in
-    let before = race_of (λ c. (goal.Actor-dyn g (c.actor.vtable, c.actor.value)).tells c.actor.value) (λ c. (goal.Actor-dyn g (c.actor.vtable, c.actor.value)).told c.actor.value) self in
+    let before = race_of (λ b. (goal.Actor-dyn g b).tells b.1) (λ b. (goal.Actor-dyn g b).told b.1) self in
     let later = c.race_round.new.seat in
     let last = c.enter.new.seat in
     let ran = runs_are_rounds g.row.P.Denot ways _ _ self.seat later c.requires.seated.sound c.requires.seated.part c.in_ok-race_round.ensures.runs in

@@ -10,14 +10,14 @@ use Rattle.script_race.proofs.racing.Race.see_all.Goals as goal
 
 pub see_all-requires-clause-followed : goal.see_all-requires-clause-followed
 see_all-requires-clause-followed g c = λ count m i.
-    let before = race_of (λ c. (goal.Actor-dyn g (c.actor.vtable, c.actor.value)).tells c.actor.value) (λ c. (goal.Actor-dyn g (c.actor.vtable, c.actor.value)).told c.actor.value) c.args.self.now in
+    let before = race_of (λ b. (goal.Actor-dyn g b).tells b.1) (λ b. (goal.Actor-dyn g b).told b.1) c.args.self.now in
     seen_on g.P.Party.ways g.P.Party.stands g.P.Party.lost c.requires.keep (take count c.as_slice-people.result.now) before c.args.self.now.seat.seen refl c.requires.racing m i
 
 pub returns-clause-turns : goal.returns-clause-turns
 returns-clause-turns g c =
     let ways = g.P.Party.ways in
     let self = c.args.self.now in
-    let before = race_of (λ c. (goal.Actor-dyn g (c.actor.vtable, c.actor.value)).tells c.actor.value) (λ c. (goal.Actor-dyn g (c.actor.vtable, c.actor.value)).told c.actor.value) self in
+    let before = race_of (λ b. (goal.Actor-dyn g b).tells b.1) (λ b. (goal.Actor-dyn g b).told b.1) self in
     let saw = c.in_ok-see_all.ensures in
     let world =
     ap (λ (l : List Entry). world_of l c.see_all.new.nodes.items) saw.looked.seen

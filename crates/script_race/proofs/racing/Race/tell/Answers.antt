@@ -13,7 +13,7 @@ see-requires-clause-followed g c = c.requires.followed
 pub returns-clause-turns : goal.returns-clause-turns
 returns-clause-turns g c =
     let self = c.args.self.now in
-    let before = race_of (λ c. (goal.Actor-dyn g (c.actor.vtable, c.actor.value)).tells c.actor.value) (λ c. (goal.Actor-dyn g (c.actor.vtable, c.actor.value)).told c.actor.value) self in
+    let before = race_of (λ b. (goal.Actor-dyn g b).tells b.1) (λ b. (goal.Actor-dyn g b).told b.1) self in
     let saw = c.in_ok-see.ensures in
     let sent = c.in_ok-append.ensures.items ∙ ap (λ (l : List Letter). self.crew.post.items ++ l) c.into_vec.ensures in
     ap (λ (s : SceneOf g.row.P.Denot). record before { scene = s })

@@ -11,15 +11,15 @@ loop-number-init g c = record { turns = refl; seated = c.requires.seated }
 
 pub tell-requires-clause-followed : goal.tell-requires-clause-followed
 tell-requires-clause-followed g c = λ κs out m i.
-    let before = race_of (λ c. (goal.Actor-dyn g (c.actor.vtable, c.actor.value)).tells c.actor.value) (λ c. (goal.Actor-dyn g (c.actor.vtable, c.actor.value)).told c.actor.value) c.args.self.now in
-    let mid = race_of (λ c. (goal.Actor-dyn g (c.actor.vtable, c.actor.value)).tells c.actor.value) (λ c. (goal.Actor-dyn g (c.actor.vtable, c.actor.value)).told c.actor.value) c.loop-number.self in
+    let before = race_of (λ b. (goal.Actor-dyn g b).tells b.1) (λ b. (goal.Actor-dyn g b).told b.1) c.args.self.now in
+    let mid = race_of (λ b. (goal.Actor-dyn g b).tells b.1) (λ b. (goal.Actor-dyn g b).told b.1) c.loop-number.self in
     let racing = told_on g.P.Party.ways g.P.Party.stands g.P.Party.lost c.requires.keep c.args.step c.args.order.now (take c.loop-number.number-index c.args.numbers.now) before mid
     c.requires.racing c.loop-number.invariant.turns in
     seen_by_all g.P.Party.ways g.P.Party.stands g.P.Party.lost c.requires.keep mid c.loop-number.self.seat.seen refl racing m i
 
 pub loop-number-preserved : goal.loop-number-preserved
 loop-number-preserved g c =
-    let before = race_of (λ c. (goal.Actor-dyn g (c.actor.vtable, c.actor.value)).tells c.actor.value) (λ c. (goal.Actor-dyn g (c.actor.vtable, c.actor.value)).told c.actor.value) c.args.self.now in
+    let before = race_of (λ b. (goal.Actor-dyn g b).tells b.1) (λ b. (goal.Actor-dyn g b).told b.1) c.args.self.now in
     let tell = told g.P.Party.ways c.args.step c.args.order.now in
     let numbers = c.args.numbers.now in
     let i = c.loop-number.number-index in
