@@ -2,7 +2,7 @@
 """Prints the names, keys and signatures of towers.lines: of two people with the seeds of defended.json, who sign in the
 order of that run.
 
-It stands apart from the program: it has its own writer of states and fixed parts (docs/DEFINITIONS.md) and its own
+It stands apart from the program: it has its own writer of states and fixed parts (docs/definitions/channels.md) and its own
 signer (RFC 8554, LM-OTS type 3, LMS type 5), in another language.
 """
 import hashlib

@@ -1,4 +1,4 @@
-"""Reads the bytes of a record by the tables of docs/DEFINITIONS.md, in another language than the program's.
+"""Reads the bytes of a record by the tables of docs/definitions/channels.md, in another language than the program's.
 
 `record_of(bytes)` gives a `Record`, or raises `Unspelled` with the number of the first fault and its place. A
 destination is its 33 bytes, and of a fixed part, an outcome, a state and a reply the bytes are kept, which are their

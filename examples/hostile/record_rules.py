@@ -1,4 +1,4 @@
-"""What `nitro check` says of a record, by the tables of docs/DEFINITIONS.md, in another language than the program's.
+"""What `nitro check` says of a record, by the tables of docs/definitions/channels.md, in another language than the program's.
 
 `verdict_of(bytes)` gives the line. Signatures are verified too (RFC 8554).
 """

@@ -1,4 +1,4 @@
-"""Which rule a script breaks first, by the tables of docs/DEFINITIONS.md, in another language than the program's.
+"""Which rule a script breaks first, by the tables of docs/SCRIPT.md, in another language than the program's.
 
 `first_broken(bytes, race)` gives the line that `nitro run`, or `nitro race`, prints of a script that is refused, or None.
 As there, a number that is too large for a double is no JSON text; arrays that stand in one another deeper than 127, which

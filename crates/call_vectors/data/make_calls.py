@@ -1,7 +1,7 @@
 #!/usr/bin/env python3
 """Writes calls.txt and ../stdout: calls and messages in bytes, and what is to be said of each.
 
-It stands apart from the program: a writer and a reader of the formats of docs/DEFINITIONS.md, in another language,
+It stands apart from the program: a writer and a reader of the formats of docs/definitions/channels.md, in another language,
 that share nothing with the crates. Each line of calls.txt is `NAME KIND HEX`; each line of ../stdout is `NAME same`
 for bytes that spell a call or a message, or `NAME FAULT PLACE`.
 """

@@ -177,7 +177,7 @@ module _ (s : Signing) (h : List Entry) (journal : List Told) (fair : IsFair s h
       w = virtual real s.key o.ledgers o.guarantors o.joint o.channel o.asset o.amounts
 
       command : Command
-      command = commands.OpenVirtual o
+      command = open_virtual o.route o.ledgers o.guarantors o.joint o.channel o.asset o.amounts
 
       took : Took command journal
       took = later-took s h journal fair past front at command o.took
@@ -271,7 +271,7 @@ module _ (s : Signing) (h : List Entry) (journal : List Told) (fair : IsFair s h
       w = virtual real s.key o.ledgers o.guarantors o.joint o.channel o.asset o.amounts
 
       command : Command
-      command = commands.OpenVirtual o
+      command = open_virtual o.route o.ledgers o.guarantors o.joint o.channel o.asset o.amounts
 
       took : Took command journal
       took = later-took s h journal fair past front at command o.took

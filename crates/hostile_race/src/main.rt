@@ -1,4 +1,4 @@
-//! `hostile_race` plays a script as `nitro_cli race` does, beside a replayer, an equivocator, somebody who begins a message and
+//! `hostile_race` plays a script as `nitro race` does, beside a replayer, an equivocator, somebody who begins a message and
 //! vanishes, and a flood; with one word, beside sixteen floods. Behind the text it prints how many messages the nodes refused
 //! as no message.
 #![tactic(auto)]

@@ -6,3 +6,4 @@ pub mod Laws
 pub mod Lines
 pub mod Answering
 pub mod Running
+pub mod Check

@@ -2,6 +2,7 @@
 #![tactic(auto)]
 
 mod answering;
+mod check;
 mod checking;
 mod comparing;
 mod laws;
@@ -15,6 +16,7 @@ mod verdict_lines;
 mod walking;
 
 pub use answering::Answering;
+pub use check::run_check;
 pub use checking::{Verdict, check_record};
 pub use laws::verdicts_are_one;
 pub use running::run_on_record;

@@ -4,5 +4,5 @@ pub mod Bounds
 pub mod Checked
 pub mod Each
 pub mod OneReading
-pub mod Kept
 pub mod Steps
+pub mod Kept

@@ -8,3 +8,4 @@ pub mod Pays
 pub mod Racing
 pub mod RecordEnds
 pub mod RecordCompletes
+pub mod RouteEnds

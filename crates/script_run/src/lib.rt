@@ -6,6 +6,8 @@ mod laws;
 mod recording;
 mod records;
 mod report_laws;
+mod route;
+mod route_words;
 mod run;
 mod status;
 
@@ -14,5 +16,6 @@ pub use network_node::Node;
 pub use recording::run_record;
 pub use records::Records;
 pub use report_laws::{plays_have_sound_records, races_have_sound_records, records_have_sums};
+pub use route::{RouteEnded, run_route};
 pub use run::{Ended, Status, end_of_words, line_of, run_words};
 pub use status::Status as RecordStatus;

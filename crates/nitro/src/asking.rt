@@ -1,0 +1,140 @@
+//! What the words of the program ask for.
+
+use crate::pages::Page;
+use crate::table::program;
+use channel_values::{Label, NoMemory};
+use clap::error::ErrorKind;
+use clap::{ArgMatches, Error};
+use std::alloc::Global;
+
+/// Which library call does what is asked for.
+#[derive(Clone, Copy, Debug, PartialEq, Eq)]
+pub enum Task {
+    /// `run`, `race`, `load`.
+    Play,
+    Route,
+    Record,
+    Check,
+    Tower,
+    Picture,
+    Lint,
+}
+
+/// What is asked for: a task, the words that its call takes, and the file that is read, if not standard input.
+#[derive(Drop)]
+pub struct Request<'a> {
+    pub task: Task,
+    pub words: Vec<Label>,
+    pub file: Option<&'a str>,
+}
+
+/// What words come to.
+#[derive(Drop)]
+pub enum Asked<'a> {
+    Task(Request<'a>),
+    Version,
+    /// The manual page, or completions for a shell.
+    Page(Page),
+    /// The words are wrong, or ask for help: the text says it.
+    Told(Error),
+}
+
+/// Adds a word.
+fn push(alloc: Global, words: &mut Vec<Label>, word: &str) -> Result<(), NoMemory> {
+    let text = String::from_str(alloc, word)?;
+    words.push(Label::make(text))?;
+    Ok(())
+}
+
+/// Adds an option, where it is given.
+fn push_option(
+    alloc: Global,
+    words: &mut Vec<Label>,
+    matches: &ArgMatches,
+    name: &str,
+    flag: &str,
+) -> Result<(), NoMemory> {
+    if let Some(value) = matches.get_str(name) {
+        push(alloc, words, flag)?;
+        push(alloc, words, value)?;
+    }
+    Ok(())
+}
+
+/// Adds the value of an argument, where it is given.
+fn push_value(
+    alloc: Global,
+    words: &mut Vec<Label>,
+    matches: &ArgMatches,
+    name: &str,
+) -> Result<(), NoMemory> {
+    match matches.get_str(name) {
+        Some(value) => push(alloc, words, value),
+        None => Ok(()),
+    }
+}
+
+fn task_of(name: &str) -> Option<Task> {
+    match name {
+        "run" | "race" | "load" => Some(Task::Play),
+        "route" => Some(Task::Route),
+        "record" => Some(Task::Record),
+        "check" => Some(Task::Check),
+        "tower" => Some(Task::Tower),
+        "picture" => Some(Task::Picture),
+        "lint" => Some(Task::Lint),
+        _ => None,
+    }
+}
+
+/// The words that the call of a task takes.
+fn words_of(alloc: Global, name: &str, matches: &ArgMatches) -> Result<Vec<Label>, NoMemory> {
+    let mut words = Vec::new(alloc);
+    if name != "route" && name != "lint" {
+        push(alloc, &mut words, name)?;
+    }
+    match name {
+        "load" => {
+            push_option(alloc, &mut words, matches, "seed", "--seed")?;
+            push_option(alloc, &mut words, matches, "count", "--count")?;
+        }
+        "route" => {
+            push_value(alloc, &mut words, matches, "ending")?;
+            push_value(alloc, &mut words, matches, "count")?;
+        }
+        "record" => push_value(alloc, &mut words, matches, "play")?,
+        "lint" if matches.get_flag("race") => push(alloc, &mut words, "race")?,
+        "lint" => push(alloc, &mut words, "run")?,
+        _ => {}
+    }
+    Ok(words)
+}
+
+/// The file that is read, if not standard input.
+fn file_of<'a>(matches: &ArgMatches<'a>) -> Option<&'a str> {
+    let file = matches.get_str("file")?;
+    if file == "-" { None } else { Some(file) }
+}
+
+/// What the program is asked for by the words after its name.
+pub(crate) fn read_words<'a>(alloc: Global, words: &'a [&'a str]) -> Result<Asked<'a>, NoMemory> {
+    let matches = match program(alloc)?.try_get_matches_from(words) {
+        Ok(matches) => matches,
+        Err(error) if error.kind() == ErrorKind::OutOfMemory => return Err(NoMemory),
+        Err(error) => return Ok(Asked::Told(error)),
+    };
+    let Some((name, own)) = matches.subcommand() else {
+        return Ok(Asked::Version);
+    };
+    if let Some(word) = own.get_str("page") {
+        return Ok(Asked::Page(Page::by_word(word)));
+    }
+    let Some(task) = task_of(name) else {
+        return Ok(Asked::Version);
+    };
+    Ok(Asked::Task(Request {
+        task,
+        words: words_of(alloc, name, own)?,
+        file: file_of(own),
+    }))
+}

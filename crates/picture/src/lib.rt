@@ -1,0 +1,6 @@
+//! Pictures: from the text or the record of a run to the picture that was put.
+#![tactic(auto)]
+
+mod drawing;
+
+pub use drawing::{Status, Undrawn, draw};
