@@ -3,7 +3,7 @@ use Rattle.std.proofs.Common.{◌≡◌, ℕ, ◌+◌, ◌*◌, ◌≤◌, ◌==
 use Rattle.sha2.proofs.Facts256.{length-sha256}
 use Rattle.lms_signatures.specs.Types.{u32str, ots_code, lms_code, chain_count, height}
 use Rattle.lms_signatures.specs.Ots.{message_hash}
-use Rattle.lms_signatures.specs.declared.types.LmsType.TheVariants.{H5, H10}
+use Rattle.lms_signatures.specs.declared.types.LmsType.TheVariants.{H5, H10, H15}
 use Rattle.lms_signatures.specs.Secret.{Secret, secret_of, randomizer}
 use Rattle.lms_signatures.specs.Made.{signed_chains, path_of, made_bytes}
 use Rattle.lms_signatures.proofs.Chains.{length-along, length-joined}
@@ -26,9 +26,10 @@ long_path : (s : Secret) (q : ℕ) → length (path_of s q) ≡ 32 * height s.lm
 unfolding path_of
 long_path s q = length-joined _ _ (λ i. length-node s i _)
 
-low : (b : Bool) → height (cond b H5 H10) ≤ 10
-low true = omega arith
-low false = omega arith
+low : (five ten : Bool) → height (cond five H5 (cond ten H10 H15)) ≤ 15
+low true ten = omega arith
+low false true = omega arith
+low false false = omega arith
 
 pub short_signature : (seed id : List ℕ) (h q : ℕ) (message : List ℕ) → length (made_bytes seed id h q message) ≤ 9004
 unfolding made_bytes
@@ -45,5 +46,5 @@ short_signature seed id h q message =
       long_c s q,
       long_chains s q (message_hash s.id q c message),
       long_path s q,
-      low (h == 5),
+      low (h == 5) (h == 10),
     )

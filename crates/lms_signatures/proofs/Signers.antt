@@ -46,7 +46,10 @@ next_verifies s q message bytes v view types id lt is =
 height_of : (seed id : List ℕ) (h : ℕ) → IsHeight h → height (secret_of seed id h).lms ≡ h
 height_of seed id h is = elim is [
   | inl five ↦ subst (λ (v : ℕ). height (secret_of seed id v).lms ≡ v) (sym five) refl
-  | inr ten ↦ subst (λ (v : ℕ). height (secret_of seed id v).lms ≡ v) (sym ten) refl
+  | inr more ↦ elim more [
+    | inl ten ↦ subst (λ (v : ℕ). height (secret_of seed id v).lms ≡ v) (sym ten) refl
+    | inr fifteen ↦ subst (λ (v : ℕ). height (secret_of seed id v).lms ≡ v) (sym fifteen) refl
+  ]
 ]
 
 pub made_is_signed : MadeIsSigned

@@ -15,10 +15,13 @@ use Rattle.lms_signatures.specs.SignLaws.{NoIndexTwice}
 use Rattle.lms_signatures.proofs.Reading.{number_behind}
 
 -- an index of the leaves fits in four bytes
-index_fits : (h q : ℕ) → IsHeight h → q < 2 ^ h → q < 2 ^ 32
+pub index_fits : (h q : ℕ) → IsHeight h → q < 2 ^ h → q < 2 ^ 32
 index_fits h q is lt = elim is [
   | inl five ↦ let low : q < 2 ^ 5 = subst (λ (v : ℕ). q < 2 ^ v) five lt in omega arith
-  | inr ten ↦ let low : q < 2 ^ 10 = subst (λ (v : ℕ). q < 2 ^ v) ten lt in omega arith
+  | inr more ↦ elim more [
+    | inl ten ↦ let low : q < 2 ^ 10 = subst (λ (v : ℕ). q < 2 ^ v) ten lt in omega arith
+    | inr fifteen ↦ let low : q < 2 ^ 15 = subst (λ (v : ℕ). q < 2 ^ v) fifteen lt in omega arith
+  ]
 ]
 
 -- a signature names the index that it was made at
@@ -28,7 +31,7 @@ index_of-signature s q message lt =
     let whole : signature_bytes s g ≡ [] ++ (u32str q ++ (u32str (ots_code s.ots) ++ (g.c ++ (g.chains ++ (u32str (lms_code s.lms) ++ g.path))))) = simp append_assoc in
     ap (number_at 0) whole ∙ number_behind [] _ 0 q refl lt
 
-index_of-made : (seed id : List ℕ) (h q : ℕ) (message : List ℕ) → q < 2 ^ 32 → index_of (made_bytes seed id h q message) ≡ q
+pub index_of-made : (seed id : List ℕ) (h q : ℕ) (message : List ℕ) → q < 2 ^ 32 → index_of (made_bytes seed id h q message) ≡ q
 unfolding made_bytes
 index_of-made seed id h q message lt = index_of-signature (secret_of seed id h) q message lt
 

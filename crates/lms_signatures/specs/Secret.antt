@@ -5,7 +5,7 @@ use Rattle.sha2.specs.Sha256.{sha256}
 use Rattle.lms_signatures.specs.declared.types.OtsType.{OtsType}
 use Rattle.lms_signatures.specs.declared.types.OtsType.TheVariants.{W4}
 use Rattle.lms_signatures.specs.declared.types.LmsType.{LmsType}
-use Rattle.lms_signatures.specs.declared.types.LmsType.TheVariants.{H5, H10}
+use Rattle.lms_signatures.specs.declared.types.LmsType.TheVariants.{H5, H10, H15}
 use Rattle.lms_signatures.specs.Types.{u8str, u16str, u32str, width, height}
 use Rattle.lms_signatures.specs.Ots.{chain, ends_hash}
 use Rattle.lms_signatures.specs.Tree.{leaf, interior}
@@ -16,9 +16,13 @@ pub record Secret : Type 0 where
   pub seed : List ℕ
   pub id : List ℕ
 
--- the secret of a seed and an identifier, with LM-OTS type 3 and a tree of height 5 or 10
+-- the LMS type of a height: 5, 10, and 15 for all others
+abbrev pub lms_of : ℕ → LmsType
+lms_of h = if h == 5 then H5 else if h == 10 then H10 else H15
+
+-- the secret of a seed and an identifier, with LM-OTS type 3 and a tree of height 5, 10 or 15
 abbrev pub secret_of : List ℕ → List ℕ → ℕ → Secret
-secret_of seed id h = record { ots = W4; lms = if h == 5 then H5 else H10; seed = seed; id = id }
+secret_of seed id h = record { ots = W4; lms = lms_of h; seed = seed; id = id }
 
 -- x_q[i] (Appendix A)
 unfoldable pub private_element : Secret → ℕ → ℕ → List ℕ

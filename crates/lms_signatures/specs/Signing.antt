@@ -11,9 +11,9 @@ pub record Signing : Type 0 where
   pub h : ℕ
   pub used : ℕ
 
--- the heights that a signer may have
+-- the heights that a signer may have: those of LMS types 5, 6 and 7
 abbrev pub IsHeight : ℕ → Type 0
-IsHeight h = (h ≡ 5) ⊎ (h ≡ 10)
+IsHeight h = (h ≡ 5) ⊎ ((h ≡ 10) ⊎ (h ≡ 15))
 
 -- A call on a signer s for a message gives an answer, and leaves s' behind. A signature is made at the next
 -- index, which is then used. A refusal leaves the signer as it was: the key is spent exactly where all 2^h

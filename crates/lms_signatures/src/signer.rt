@@ -33,12 +33,17 @@ impl Model for Signer {
 }
 
 impl Signer {
-    /// The signer of a seed and an identifier I, with 2^h indices.
+    /// The signer of a seed and an identifier I, with 2^h indices, where h is 5, 10 or 15 (RFC 8554,
+    /// LMS types 5, 6 and 7). It makes the whole tree, which takes 2^(h + 6) bytes.
     pub fn make(alloc: Global, seed: [u8; 32], id: [u8; 16], h: u8) -> Result<Signer, NoMemory>
         requires { IsHeight h }
         ensures { IfOk result (λ s. s ≡ record { seed = seed; id = id; h = h; used = 0 }) }
     {
-        let lms = if h == 5 { LmsType::H5 } else { LmsType::H10 };
+        let lms = match h {
+            5 => LmsType::H5,
+            10 => LmsType::H10,
+            _ => LmsType::H15,
+        };
         let seed = Seed { seed, id, lms };
         let tree = tree::tree_of(alloc, &seed)?;
         Ok(Signer {

@@ -1,5 +1,5 @@
 -- The two signers of a load, and what they and their channel are.
-use Rattle.std.proofs.Common.{◌≡◌, ℕ, true, false, List, inr, refl, ap, subst, arith}
+use Rattle.std.proofs.Common.{◌≡◌, ℕ, true, false, List, inl, inr, refl, ap, subst, arith}
 use Rattle.std.specs.Prelude.{◌^◌, nat_lt, Some, Result}
 use Rattle.std.specs.Result.{result_ok}
 use Rattle.std.specs.Str.{bytes_eq}
@@ -51,7 +51,7 @@ unfolding signing_of
 signs letter seed used message = made_is_signature _ _ 10 used message
 
 sound : (letter seed : ℕ) → FitsSigner (signer_of letter seed)
-sound letter seed = record { sixteen = id_long (key_seed letter seed); height = inr refl }
+sound letter seed = record { sixteen = id_long (key_seed letter seed); height = inr (inl refl) }
 
 well : (letter seed used : ℕ) (message : List ℕ) → nat_lt used (signing_of (signer_of letter seed)).limit ≡ true
     → real.verifies (key_of (key_seed letter seed) 10) message ((signing_of (signer_of letter seed)).made used message) ≡ true

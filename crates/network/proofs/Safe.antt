@@ -9,7 +9,7 @@ use Rattle.network.proofs.Standing.{stays, honest}
 use Rattle.network.specs.Standing.{AreKept, IsWorld}
 use Rattle.network.specs.Safe.{after, NothingOldBecomesFinal}
 
-stays-after : {P : Type 0} (ways : Ways P) (stands : List Entry → P → Type 0) → AreKept ways stands
+pub stays-after : {P : Type 0} (ways : Ways P) (stands : List Entry → P → Type 0) → AreKept ways stands
     → (events : List Happening) (w : WorldOf P) → IsWorld stands w → IsWorld stands (after ways events w)
 stays-after ways stands kept [] w is = is
 stays-after ways stands kept (event ∷ events) w is = stays-after ways stands kept events (happened ways event w) (stays ways stands kept w event is)

@@ -1,13 +1,8 @@
 -- In a journal by the rules no index signs twice.
-use Rattle.std.proofs.Common.{◌≡◌, ℕ, suc, ◌^◌, ◌<◌, cond, List, [], ◌∷◌, ◌++◌, length, append_assoc, refl, sym, ap, subst, ◌∙◌, inl, inr, arith}
+use Rattle.std.proofs.Common.{◌≡◌, ℕ, suc, ◌<◌, cond, List, [], ◌∷◌, ◌++◌, length, refl, sym, ap, subst, ◌∙◌, inl, inr, arith}
 use Rattle.std.specs.Prelude.{Option}
-use Rattle.lms_signatures.specs.Types.{u32str, ots_code, lms_code}
-use Rattle.lms_signatures.specs.Parts.{number_at}
-use Rattle.lms_signatures.specs.Secret.{Secret, secret_of}
-use Rattle.lms_signatures.specs.Made.{made, signature_bytes, made_bytes}
-use Rattle.lms_signatures.specs.Signing.{IsHeight}
 use Rattle.lms_signatures.specs.Calls.{index_of}
-use Rattle.lms_signatures.proofs.Reading.{number_behind}
+use Rattle.lms_signatures.proofs.StartRuns.{index_fits, index_of-made}
 use Rattle.channel_values.specs.Messages.{message_of_state, message_of_challenge}
 use Rattle.channel_safety.proofs.Lists.{Suffix, suffix_of}
 use Rattle.call_history.specs.declared.entry.Entry.{Entry}
@@ -28,24 +23,10 @@ use Rattle.node_guarantees.specs.Promised.{IsByRules, IsHonest}
 
 -- ---- one signature
 
--- an index of the leaves fits in four bytes
-index_fits : (h q : ℕ) → IsHeight h → q < 2 ^ h → q < 2 ^ 32
-index_fits h q is lt = elim is [
-  | inl five ↦ let low : q < 2 ^ 5 = subst (λ (v : ℕ). q < 2 ^ v) five lt in omega arith
-  | inr ten ↦ let low : q < 2 ^ 10 = subst (λ (v : ℕ). q < 2 ^ v) ten lt in omega arith
-]
-
--- a signature names the index that it was made at
-index_of-signature : (s : Secret) (q : ℕ) (message : List ℕ) → q < 2 ^ 32 → index_of (signature_bytes s (made s q message)) ≡ q
-index_of-signature s q message lt =
-    let g = made s q message in
-    let whole : signature_bytes s g ≡ [] ++ (u32str q ++ (u32str (ots_code s.ots) ++ (g.c ++ (g.chains ++ (u32str (lms_code s.lms) ++ g.path))))) = simp append_assoc in
-    ap (number_at 0) whole ∙ number_behind [] _ 0 q refl lt
-
-index_of-made : (s : SignerOf) → FitsSigner s → (q : ℕ) (message signature : List ℕ) → q < (signing_of s).limit → signature ≡ (signing_of s).made q message → index_of signature ≡ q
-unfolding signing_of made_bytes
-index_of-made s fits q message signature lt is =
-    ap (number_at 0) is ∙ index_of-signature (secret_of s.seed s.id s.h) q message (index_fits s.h q fits.height lt)
+made-at : (s : SignerOf) → FitsSigner s → (q : ℕ) (message signature : List ℕ) → q < (signing_of s).limit → signature ≡ (signing_of s).made q message → index_of signature ≡ q
+unfolding signing_of
+made-at s fits q message signature lt is =
+    ap index_of is ∙ index_of-made s.seed s.id s.h q message (index_fits s.h q fits.height lt)
 
 -- ---- a journal
 
@@ -64,10 +45,10 @@ module _ (s : SignerOf) (fits : FitsSigner s) where
       → Counted (signed_in real deed ++ before) (cond (is_signed deed) (suc used) used)
   at-event past m used waits (deeds.Signed channel state signature) command before allowed c =
       one-more (message_of_state (real.digest channel state)) signature before used
-      (index_of-made s fits used (message_of_state (real.digest channel state)) signature allowed.1 allowed.2) c
+      (made-at s fits used (message_of_state (real.digest channel state)) signature allowed.1 allowed.2) c
   at-event past m used waits (deeds.SignedChallenge channel state who signature) command before allowed c =
       one-more (message_of_challenge (real.digest channel state) who) signature before used
-      (index_of-made s fits used (message_of_challenge (real.digest channel state) who) signature allowed.2 allowed.3) c
+      (made-at s fits used (message_of_challenge (real.digest channel state) who) signature allowed.2 allowed.3) c
   at-event past m used waits (deeds.Commanded step refusal) command before allowed c = c
   at-event past m used waits (deeds.Handled bytes refusal) command before allowed c = c
   at-event past m used waits (deeds.Called call) command before allowed c = c

@@ -10,7 +10,7 @@ use Rattle.network.specs.declared.happening.Happening.TheVariants.{Enter, Time, 
 use Rattle.network.specs.declared.command.Command.{Command}
 use Rattle.channel_node.specs.Places.{Told}
 use Rattle.support_rules.specs.Real.{real}
-use Rattle.network.proofs.Standing.{stays}
+use Rattle.network.proofs.Safe.{stays-after}
 use Rattle.network.specs.Safe.{after}
 use Rattle.network.specs.Standing.{AreKept, IsWorld}
 use Rattle.network.proofs.Commanded.{go_on}
@@ -18,11 +18,6 @@ use Rattle.network.specs.Commanded.{IsOfStep, AllFollow}
 use Rattle.node_guarantees.specs.Laws.{NobodyLowersAShare, EveryJournalIsHonest, EveryChallengeIsOwn}
 use Rattle.node_guarantees.specs.Telling.{LinesAreTold, OwnersGoOn, OwnersCallTheirOwn, JournalsAreByRules, KeepsShares}
 use Rattle.node_guarantees.proofs.Once.{is_honest}
-
-stays-after : {P : Type 0} (ways : Ways P) (stands : List Entry → P → Type 0) → AreKept ways stands
-    → (events : List Happening) (w : WorldOf P) → IsWorld stands w → IsWorld stands (after ways events w)
-stays-after ways stands kept [] w is = is
-stays-after ways stands kept (event ∷ events) w is = stays-after ways stands kept events (happened ways event w) (stays ways stands kept w event is)
 
 pub shares_stay : {P : Type 0} (ways : Ways P) (stands : List Entry → P → Type 0) (told : P → List Told) → AreKept ways stands → KeepsShares ways stands told
     → NobodyLowersAShare ways stands told

@@ -65,7 +65,7 @@ five_or_ten h e = by (h == 5) refl (h == 10) refl e
   where
     by : (a : Bool) → (h == 5) ≡ a → (b : Bool) → (h == 10) ≡ b → (a || b) ≡ true → IsHeight h
     by true t b u e = inl (eqb-true h 5 t)
-    by false t true u e = inr (eqb-true h 10 u)
+    by false t true u e = inr (inl (eqb-true h 10 u))
     by false t false u e = absurd (cc)
 
 pub is_fresh : (seed : List ℕ) (h : ℕ) → IsTrue (h == 5 || h == 10) → IsFresh (fresh seed h)

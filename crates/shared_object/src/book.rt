@@ -41,6 +41,10 @@ impl<O: OneThread> Model for Book<O> {
 #[derive(Clone, Copy, Debug, PartialEq, Eq)]
 pub struct StillOut(pub u64);
 
+/// The part of a seat, in units of 2^-63 of a whole one. It is odd, so it has no half.
+#[derive(Clone, Copy, Debug, PartialEq, Eq)]
+pub struct OddPart(pub u64);
+
 impl<O: OneThread> Book<O> {
     /// A book with no entry, and a whole seat: no other seat of it is out. The object is at its
     /// opening state.
@@ -127,17 +131,18 @@ impl<O: OneThread> Book<O> {
     }
 
     /// Halves a seat. The new one has seen the same and made nothing. A part of one can be halved
-    /// 63 times, so split evenly: halve the halves. With an odd part there is no half, and nothing
+    /// 63 times, so split evenly: halve the halves. An odd part has no half, and then nothing
     /// changes.
-    pub fn split(&self, seat: &mut Seat<O>) -> Result<Seat<O>, NoMemory>
+    pub fn split(&self, seat: &mut Seat<O>) -> Result<Seat<O>, OddPart>
         requires { seat.old.book ≡ self.now }
         ensures sound { IsCaller seat.new }
         ensures even { IsOk result ↔ (seat.old.part % 2 ≡ 0) }
         ensures ok { IfOk result (λ s. IsCaller s × (s ≡ fresh_half seat.old) × (seat.new ≡ halved seat.old)) }
         ensures err { OnErr result (seat.new ≡ seat.old) }
+        ensures odd { IfErr result (λ e. e.0 ≡ seat.old.part) }
     {
         if seat.part % 2 == 1 {
-            return Err(NoMemory);
+            return Err(OddPart(seat.part));
         }
         let part = seat.part / 2;
         let token = self.table.shared.split_seat::<Cut>(&mut seat.token);

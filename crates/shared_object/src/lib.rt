@@ -12,7 +12,7 @@ mod rule;
 mod seat;
 mod turn;
 
-pub use book::{Book, StillOut};
+pub use book::{Book, OddPart, StillOut};
 pub use desk::{Answer, BookFault};
 pub use no_memory::NoMemory;
 pub use one_thread::OneThread;

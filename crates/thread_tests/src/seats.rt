@@ -1,5 +1,6 @@
 //! One seat, dealt to many callers and gathered again.
-ghost use Rattle.std.specs.Prelude.{◌≡◌, ℕ, ◌+◌, ◌<◌, IfOk, OnOk, vec_len, slice_index_or};
+ghost use Rattle.std.specs.Prelude.{◌≡◌, ℕ, ◌+◌, ◌<◌, ◌%◌, IfOk, OnOk, vec_len, slice_index_or};
+ghost use Rattle.shared_object.specs.Caller.{IsCaller, fresh_half, halved};
 ghost use Rattle.shared_object.specs.History.{StartsWith};
 ghost use Rattle.thread_tests.specs.Seats.{AreOf, Deals, parts};
 
@@ -10,6 +11,18 @@ use std::alloc::{AllocError, Global};
 use std::sync::Wait;
 use std::thread;
 use std::thread::Threads;
+
+/// Halves a seat. `NoMemory` stands here for an odd part too, which no seat of these tests has.
+fn halve(book: &Book<Counter>, seat: &mut Seat<Counter>) -> Result<Seat<Counter>, NoMemory>
+    requires { seat.old.book ≡ book.now }
+    ensures even { IfOk result (λ _. seat.old.part % 2 ≡ 0) }
+    ensures ok { IfOk result (λ s. IsCaller s × (s ≡ fresh_half seat.old) × (seat.new ≡ halved seat.old)) }
+{
+    match book.split(seat) {
+        Ok(half) => Ok(half),
+        Err(_) => Err(NoMemory),
+    }
+}
 
 /// Deals a seat to n callers. Its halves are halved again, so that no part of one gets too small.
 pub fn deal(
@@ -26,7 +39,7 @@ pub fn deal(
         seats.push(seat)?;
         return Ok(());
     }
-    let other = book.split(&mut seat)?;
+    let other = halve(book, &mut seat)?;
     deal(book, seat, n - n / 2, seats)?;
     deal(book, other, n / 2, seats)?;
     Ok(())
@@ -82,7 +95,7 @@ pub fn round<R: Threads + Wait + Sync>(
     ensures part { OnOk result (seat.new.part ≡ seat.old.part) }
     ensures later { OnOk result (StartsWith seat.new.seen seat.old.seen) }
 {
-    let half = book.split(seat)?;
+    let half = halve(book, seat)?;
     let mut seats = Vec::new(alloc);
     deal(book, half, n, &mut seats)?;
     let seats = enter_all(rt, book, seats)?;

@@ -1,19 +1,16 @@
-//! Measures the adjudicator's tables: `table_meter WORK COUNT`, where WORK is `deposits` or `transfers`.
+//! Measures the adjudicator's tables.
 //!
 //! COUNT deposits go to as many channels. COUNT transfers are each of what was deposited just before, out of one final
-//! channel. `WORK COUNT` is printed, and the time that the work took is told on the standard error.
-#![tactic(auto)]
+//! channel.
 
-mod spelled;
-
+use crate::print_time;
 use crate::spelled::{Fixed, conclude_bytes, outcome_bytes};
 use adjudicator::Adjudicator;
-use anyhow::{Context, Result, anyhow, bail};
+use anyhow::{Result, anyhow, bail};
 use call_bytes::read_call;
 use call_history::{Call, Op, Reply};
 use channel_values::{Name, channel_name, read_outcome};
 use std::alloc::Global;
-use std::env;
 use std::time::Instant;
 
 /// The name of a number.
@@ -80,7 +77,7 @@ fn conclude(alloc: Global, fixed: &Fixed) -> Result<Op> {
 
 /// Makes a channel final, and gives its name.
 fn final_channel(alloc: Global, adjudicator: &mut Adjudicator) -> Result<Name> {
-    let fixed = spelled::fixed(alloc)?;
+    let fixed = crate::spelled::fixed(alloc)?;
     let conclude = conclude(alloc, &fixed)?;
     if enters(adjudicator, &conclude) {
         Ok(channel_name(&fixed))
@@ -89,17 +86,10 @@ fn final_channel(alloc: Global, adjudicator: &mut Adjudicator) -> Result<Name> {
     }
 }
 
-/// Tells how long the work has taken.
-fn tell(rt: &HostRuntime, start: &Instant) -> Result<()> {
-    let micros = start.elapsed(rt)?.as_micros();
-    eprintln!(rt; "{micros} microseconds")?;
-    Ok(())
-}
-
 fn measure_deposits(rt: &HostRuntime, adjudicator: &mut Adjudicator, count: u64) -> Result<bool> {
     let start = Instant::now(rt)?;
     let all = deposits(adjudicator, count);
-    tell(rt, &start)?;
+    print_time(rt, &start)?;
     Ok(all)
 }
 
@@ -108,28 +98,21 @@ fn measure_transfers(rt: &HostRuntime, adjudicator: &mut Adjudicator, count: u64
     let pay = transfer(rt.alloc(), channel)?;
     let start = Instant::now(rt)?;
     let all = transfers(adjudicator, &deposit(channel), &pay, count);
-    tell(rt, &start)?;
+    print_time(rt, &start)?;
     Ok(all)
 }
 
-/// Whether all ops of the work were accepted.
-fn measure(rt: &HostRuntime, work: &str, count: u64) -> Result<bool> {
+/// Does the work so many times, or gives `false` where there is no such work.
+pub(crate) fn measure(rt: &HostRuntime, work: &str, count: u32) -> Result<bool> {
     let mut adjudicator = Adjudicator::make(rt.alloc());
-    match work {
-        "deposits" => measure_deposits(rt, &mut adjudicator, count),
-        "transfers" => measure_transfers(rt, &mut adjudicator, count),
-        _ => Err(anyhow!("the work is deposits or transfers")),
-    }
-}
-
-fn main(rt: HostRuntime) -> Result<()> {
-    let mut words = env::args(&rt)?;
-    let _program = words.next();
-    let work = words.next().context("the work is wanted")?;
-    let count = words.next().context("a count is wanted")?.parse::<u64>()?;
-    if !measure(&rt, work.as_str(), count)? {
+    let count = u64::from(count);
+    let all = match work {
+        "deposits" => measure_deposits(rt, &mut adjudicator, count)?,
+        "transfers" => measure_transfers(rt, &mut adjudicator, count)?,
+        _ => return Ok(false),
+    };
+    if !all {
         bail!("an op was refused");
     }
-    println!(rt; "{work} {count}")?;
-    Ok(())
+    Ok(true)
 }

@@ -3,8 +3,6 @@
 //! A line of the file is `NAME KIND HEX`: the kind is `call` or `message`, the bytes are in hex, `-` for none. Printed
 //! is a line `NAME same` where the same bytes are written back, `NAME other` where others are, and else
 //! `NAME FAULT PLACE` with the first fault.
-#![tactic(auto)]
-
 ghost use Rattle.std.specs.Prelude.{◌≡◌};
 ghost use Rattle.call_history.specs.Limits.{KeepsCall};
 ghost use Rattle.call_history.specs.declared.call.Call.{Call as AnyCall};
@@ -14,7 +12,6 @@ use anyhow::{Context, Result};
 use call_bytes::{read_call, read_message, write_call, write_message};
 use call_history::{Entry, Op, Reply, copy_entry};
 use channel_values::{ByteFault, NoMemory};
-use std::{env, fs};
 
 /// Appends the bytes of the call of an entry's copy.
 fn write_copy(entry: &Entry, out: &mut Vec<u8>) -> Result<(), NoMemory>
@@ -75,7 +72,7 @@ fn print(rt: &HostRuntime, name: &str, read: Result<(), ByteFault>, same: bool) 
 }
 
 /// Prints what is said of a line.
-fn judge(rt: &HostRuntime, line: &str) -> Result<()> {
+pub(crate) fn judge(rt: &HostRuntime, line: &str) -> Result<()> {
     let mut fields = line.split(' ');
     let name = fields.next().context("a name is missing")?;
     let kind = fields.next().context("a kind is missing")?;
@@ -88,15 +85,4 @@ fn judge(rt: &HostRuntime, line: &str) -> Result<()> {
         message_again(&bytes, &mut written)
     };
     print(rt, name, read, written == bytes)
-}
-
-fn main(rt: HostRuntime) -> Result<()> {
-    let mut words = env::args(&rt)?;
-    let _program = words.next();
-    let file = words.next().context("the name of a file is wanted")?;
-    let text = fs::read_to_string(&rt, file.as_str())?;
-    for line in text.lines() {
-        judge(&rt, line)?;
-    }
-    Ok(())
 }

@@ -1,16 +1,13 @@
 //! Judges signatures that others made, and makes the keys and the signatures that others made.
 //!
 //! A line of a file is `NAME KEY MESSAGE SIGNATURE VERDICT`: the bytes in hex, `-` for the empty
-//! message, and what another implementation said, which is not read here. Printed are, for each line of
-//! the first file, `NAME accept` or `NAME reject`; then, for the two names whose keys a signer can make,
-//! `key NAME HEX` and, for each line of that name in the second file, `NAME same` where the signer's next
-//! signature of the message is the one of the line, and else `NAME other`.
-#![tactic(auto)]
+//! message, and what another implementation said, which is not read here.
+
+ghost use Rattle.lms_signatures.specs.Signing.{IsHeight};
 
 use anyhow::{Context, Result, anyhow};
 use lms_signatures::{Signer, verifies};
 use sha2::{Digest, Sha256};
-use std::{env, fs};
 
 /// A key, a message and what is said to be its signature.
 #[derive(Drop)]
@@ -48,7 +45,7 @@ fn vector_of<'a>(rt: &HostRuntime, line: &'a str) -> Result<Vector<'a>> {
 }
 
 /// Prints what is said of a vector.
-fn judge(rt: &HostRuntime, line: &str) -> Result<()> {
+pub(crate) fn judge(rt: &HostRuntime, line: &str) -> Result<()> {
     let vector = vector_of(rt, line)?;
     let word = if verifies(&vector.key, &vector.message, &vector.signature) {
         "accept"
@@ -59,13 +56,14 @@ fn judge(rt: &HostRuntime, line: &str) -> Result<()> {
     Ok(())
 }
 
-/// The signer of a name, whose seed and identifier are digests of the name.
-fn signer_of(rt: &HostRuntime, name: &str, tall: bool) -> Result<Signer> {
+/// The signer of a name, with 2^h indices, whose seed and identifier are digests of the name.
+fn signer_of(rt: &HostRuntime, name: &str, h: u8) -> Result<Signer>
+    requires { IsHeight h }
+{
     let seed = Sha256::digest(format!(in rt.alloc(); "seed {name}")?.as_bytes());
     let digest = Sha256::digest(format!(in rt.alloc(); "id {name}")?.as_bytes());
     let mut id = [0; 16];
     id.copy_from_slice(&digest[..16]);
-    let h = if tall { 10 } else { 5 };
     Signer::make(rt.alloc(), seed, id, h).map_err(|_| anyhow!("no memory was left"))
 }
 
@@ -84,8 +82,10 @@ fn sign_again(rt: &HostRuntime, signer: &mut Signer, vector: &Vector) -> Result<
 }
 
 /// Prints the key of a name, and what comes of signing the messages of the lines with that name.
-fn make_again(rt: &HostRuntime, name: &str, tall: bool, lines: &str) -> Result<()> {
-    let mut signer = signer_of(rt, name, tall)?;
+pub(crate) fn make_again(rt: &HostRuntime, name: &str, h: u8, lines: &str) -> Result<()>
+    requires { IsHeight h }
+{
+    let mut signer = signer_of(rt, name, h)?;
     let key = hex::encode(rt.alloc(), signer.public())?;
     println!(rt; "key {name} {key}")?;
     for line in lines.lines() {
@@ -95,22 +95,4 @@ fn make_again(rt: &HostRuntime, name: &str, tall: bool, lines: &str) -> Result<(
         }
     }
     Ok(())
-}
-
-/// The text of the file that the next word names.
-fn text_of(rt: &HostRuntime, word: Option<String>) -> Result<String> {
-    let file = word.context("the name of a file is wanted")?;
-    Ok(fs::read_to_string(rt, file.as_str())?)
-}
-
-fn main(rt: HostRuntime) -> Result<()> {
-    let mut words = env::args(&rt)?;
-    let _program = words.next();
-    let judged = text_of(&rt, words.next())?;
-    let made = text_of(&rt, words.next())?;
-    for line in judged.lines() {
-        judge(&rt, line)?;
-    }
-    make_again(&rt, "h5w4", false, made.as_str())?;
-    make_again(&rt, "h10w4", true, made.as_str())
 }

@@ -1,5 +1,5 @@
 # Writes own.txt: an independent writer of the signatures that a signer of this project makes (RFC 8554, LM-OTS type 3,
-# the randomizer SHA-256 of seed, 0x43 and q). Bouncy Castle 1.72 accepts each.
+# the randomizer SHA-256 of seed, 0x43 and q), in about a minute. Bouncy Castle 1.72 accepts each (`Outside.java judge own.txt`).
 import hashlib
 H=lambda b: hashlib.sha256(b).digest()
 u8=lambda n:n.to_bytes(1,'big'); u16=lambda n:n.to_bytes(2,'big'); u32=lambda n:n.to_bytes(4,'big')
@@ -25,7 +25,7 @@ class Signer:
     def chain(s,q,i,t,a,b):
         for j in range(a,b): t=H(s.I+u32(q)+u16(i)+u8(j)+t)
         return t
-    def public(s): return u32(5 if s.h==5 else 6)+u32(3)+s.I+s.T[1]
+    def public(s): return u32(4+s.h//5)+u32(3)+s.I+s.T[1]
     def sign(s,m):
         q=s.q; s.q+=1
         C=H(s.seed+b'\x43'+u32(q))
@@ -34,9 +34,9 @@ class Signer:
         y=b''.join(s.chain(q,i,s.x(q,i),0,d[i]) for i in range(P))
         path=b''; r=2**s.h+q
         while r>1: path+=s.T[r^1]; r//=2
-        return u32(q)+u32(3)+C+y+u32(5 if s.h==5 else 6)+path
+        return u32(q)+u32(3)+C+y+u32(4+s.h//5)+path
 M33=b'\x05'+H(b'a state'); M34=b'\x06'+H(b'a challenge')+b'\x01'
-for name,h in (('h5w4',5),('h10w4',10)):
+for name,h in (('h5w4',5),('h10w4',10),('h15w4',15)):
     s=Signer(name,h)
     for m in (M33,M34,b''):
         print(name,s.public().hex(),m.hex() or '-',s.sign(m).hex(),'true')
