@@ -1,0 +1,6 @@
+pub mod Files
+pub mod Machines
+pub mod Lines
+pub mod Serving
+pub mod Opening
+pub mod Lives
