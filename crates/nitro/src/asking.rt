@@ -28,7 +28,22 @@ pub struct Request<'a> {
     pub file: Option<&'a str>,
 }
 
-/// What words come to.
+/// The state file of a ledger, the number of the last event whose effects aren't printed again, and whether the file was moved.
+#[derive(Clone, Copy, Drop)]
+pub struct LedgerRequest<'a> {
+    pub state: &'a str,
+    pub after: Option<u64>,
+    pub is_moved: bool,
+}
+
+/// What words come to. A ledger is served by `main`, since its file takes the runtime of the system.
+#[derive(Drop)]
+pub enum Wanted<'a> {
+    Ledger(LedgerRequest<'a>),
+    Other(Asked<'a>),
+}
+
+/// What words come to that ask for no ledger.
 #[derive(Drop)]
 pub enum Asked<'a> {
     Task(Request<'a>),
@@ -117,24 +132,32 @@ fn file_of<'a>(matches: &ArgMatches<'a>) -> Option<&'a str> {
 }
 
 /// What the program is asked for by the words after its name.
-pub(crate) fn read_words<'a>(alloc: Global, words: &'a [&'a str]) -> Result<Asked<'a>, NoMemory> {
+pub(crate) fn read_words<'a>(alloc: Global, words: &'a [&'a str]) -> Result<Wanted<'a>, NoMemory> {
     let matches = match program(alloc)?.try_get_matches_from(words) {
         Ok(matches) => matches,
         Err(error) if error.kind() == ErrorKind::OutOfMemory => return Err(NoMemory),
-        Err(error) => return Ok(Asked::Told(error)),
+        Err(error) => return Ok(Wanted::Other(Asked::Told(error))),
     };
     let Some((name, own)) = matches.subcommand() else {
-        return Ok(Asked::Version);
+        return Ok(Wanted::Other(Asked::Version));
     };
     if let Some(word) = own.get_str("page") {
-        return Ok(Asked::Page(Page::by_word(word)));
+        return Ok(Wanted::Other(Asked::Page(Page::by_word(word))));
+    }
+    if let Some(state) = own.get_str("state") {
+        return Ok(Wanted::Ledger(LedgerRequest {
+            state,
+            after: own.get_one::<u64>("after"),
+            is_moved: own.get_flag("moved"),
+        }));
     }
     let Some(task) = task_of(name) else {
-        return Ok(Asked::Version);
+        return Ok(Wanted::Other(Asked::Version));
     };
-    Ok(Asked::Task(Request {
+    let request = Request {
         task,
         words: words_of(alloc, name, own)?,
         file: file_of(own),
-    }))
+    };
+    Ok(Wanted::Other(Asked::Task(request)))
 }

@@ -12,12 +12,13 @@ mod table;
 mod telling;
 
 use advice::key_fault;
-use asking::{Asked, Request, Task, read_words};
+use asking::{Asked, LedgerRequest, Request, Task, Wanted, read_words};
 use byte_streams::{Sink, Source, StdSink, StdSource, read_all};
 use channel_values::NoMemory;
 use clap::Error;
 use closed::Closed;
 use doing::{Done, perform};
+use lasting_ledger::{Start, run_ledger};
 use pages::{Page, page_of};
 use std::alloc::Global;
 use std::process::ExitCode;
@@ -117,15 +118,27 @@ fn print_page<R: Print>(rt: &R, alloc: Global, page: Page) -> Result<u8, NoMemor
     }
 }
 
+/// Serves a ledger over its state file, with standard input and standard output, and gives the status that it ends with.
+fn serve(rt: &HostRuntime, request: &LedgerRequest) -> u8 {
+    let start = Start {
+        path: request.state,
+        after: request.after,
+        moved: request.is_moved,
+    };
+    let ended = run_ledger(rt, &start, rt.stdin(), rt.stdout());
+    ended.status.code()
+}
+
 /// Answers the words.
 fn answer<R: Threads + Wait + Sync + Files + Print + Eprint, S: Source, K: Sink>(
     rt: &R,
     alloc: Global,
     words: &[&str],
+    asked: Asked,
     input: &mut S,
     output: &mut K,
 ) -> Result<u8, NoMemory> {
-    match read_words(alloc, words)? {
+    match asked {
         Asked::Version => match println!(rt; "nitro {VERSION}") {
             Ok(()) => Ok(0),
             Err(_) => Ok(5),
@@ -157,6 +170,11 @@ fn main(rt: HostRuntime) -> ExitCode {
             return ExitCode::from(1);
         };
     }
+    let asked = match read_words(alloc, &texts) {
+        Ok(Wanted::Ledger(request)) => return ExitCode::from(serve(&rt, &request)),
+        Ok(Wanted::Other(asked)) => asked,
+        Err(NoMemory) => return ExitCode::from(1),
+    };
     let mut input = StdSource {
         reader: rt.stdin(),
         faults: 0,
@@ -165,7 +183,7 @@ fn main(rt: HostRuntime) -> ExitCode {
         writer: rt.stdout(),
         faults: 0,
     };
-    match answer(&rt, alloc, &texts, &mut input, &mut output) {
+    match answer(&rt, alloc, &texts, asked, &mut input, &mut output) {
         Ok(code) => ExitCode::from(code),
         Err(NoMemory) => ExitCode::from(1),
     }

@@ -10,7 +10,8 @@ const ABOUT: &str = "A state channel network on one machine: an exact simulator,
 const AFTER_HELP: &str = "\
 Exit status: 0 done; 1 out of memory; 2 wrong arguments; 3 the script, the text or the record is refused;
 4 the input can't be read; 5 the output can't be written; 6 the input has more than 4 MiB; 7 the record
-would be past the limits of its format.";
+would be past the limits of its format. Of `ledger` also: 8 the state file is in use; 9 it is damaged; 10 it is
+another program's or version's, or was moved; 11 it has fewer events than --after says.";
 
 const SCRIPT: &str = "A script, one JSON text; without it, or with -, standard input is read";
 
@@ -106,6 +107,31 @@ fn lint<'a>(alloc: Global) -> Result<Command<'a>, AllocError> {
         .arg(file(alloc, SCRIPT))
 }
 
+/// `ledger`, with its state file.
+fn ledger<'a>(alloc: Global) -> Result<Command<'a>, AllocError> {
+    let state = Arg::new(alloc, "state")
+        .long("state")
+        .value_name("FILE")
+        .required(true)
+        .help("The file that keeps the events; it is made where there is none");
+    let after = Arg::new(alloc, "after")
+        .long("after")
+        .value_name("N")
+        .value_parser(value_parser!(u64))
+        .help("Print the effects of the events after the first N once more");
+    let moved = Arg::new(alloc, "moved")
+        .long("moved")
+        .action(ArgAction::SetTrue)
+        .help("Take a file that was moved: no other copy of it may be in use");
+    Command::new(alloc, "ledger")
+        .about(
+            "Serve a ledger that survives crashes: one JSON event a line in, one JSON effect a line out",
+        )
+        .arg(state)?
+        .arg(after)?
+        .arg(moved)
+}
+
 /// `page`, by which `install` makes the manual page and the completions.
 fn page<'a>(alloc: Global) -> Result<Command<'a>, AllocError> {
     let page = Arg::new(alloc, "page")
@@ -141,6 +167,7 @@ pub(crate) fn program<'a>(alloc: Global) -> Result<Command<'a>, AllocError> {
         .subcommand(reader(alloc, "tower", tower, RECORD)?)?
         .subcommand(reader(alloc, "picture", picture, TEXT)?)?
         .subcommand(lint(alloc)?)?
+        .subcommand(ledger(alloc)?)?
         .subcommand(page(alloc)?)?
         .subcommand(Command::new(alloc, "version").about("Print the version"))
 }

@@ -1,0 +1,4 @@
+pub mod Values
+pub mod Words
+pub mod Files
+pub mod Results

@@ -1,0 +1,5 @@
+pub mod Events
+pub mod Spelling
+pub mod Ledgers
+pub mod Runs
+pub mod Statuses
