@@ -13,8 +13,9 @@ use network::Route;
 use play_report::report_play;
 use report_text::{Report, text_of};
 use script_reader::{ScriptFault, read_script_with_signers};
-use script_run::{Node, Records, Status, line_of};
+use script_run::{Node, Status, line_of};
 use script_steps::{STEP_LIMIT, Step};
+use sequential_ledger::Ledger;
 use std::alloc::Global;
 
 /// What the program ends with, and what it prints.
@@ -48,7 +49,7 @@ fn report_of(
     ensures { IfOk result (λ report. Legal real (newest_first report.history)) }
 {
     take_routes(steps, routes);
-    report_play::<Node, Records>(alloc, steps, signers, None)
+    report_play::<Node, Ledger>(alloc, steps, signers, None)
 }
 
 fn play_bytes(alloc: Global, bytes: &[u8], routes: &[Route]) -> Result<Played, NoMemory> {

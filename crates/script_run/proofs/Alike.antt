@@ -6,6 +6,7 @@ use Rattle.play_report.specs.Reported.{IsPlayed}
 use Rattle.play_report.proofs.Once.{one_report}
 use Rattle.report_text.specs.declared.report.Load.{Load as Note}
 use Rattle.report_text.specs.declared.report.Report.{Report}
+use Rattle.script_race.specs.Raced.{IsOfRace}
 use Rattle.step_meanings.specs.Commands.{command_of}
 use Rattle.script_play.specs.Play.{play}
 use Rattle.script_reader.specs.Script.{IsScript, Breaks}
@@ -67,7 +68,8 @@ module _ {P : Type 0} (ways : Ways P) (cast : List Player) where
   Fate (Some Race) bytes s p = Unit {0}
   Fate (Some (Load seed count)) bytes s p = IsLoaded seed count s p
 
-  came : (words : List (List ℕ)) (bytes : List ℕ) (g : Given) (r : Report) (a : Asked) → IsCalm words bytes g → Comes ways cast a g r
+  came : (words : List (List ℕ)) (bytes : List ℕ) (g : Given) (r : Report) (a : Asked) → IsCalm words bytes g
+      → Comes (λ load steps. IsPlayed ways load r steps) (λ steps. IsOfRace ways cast r steps) g a
       → Fate (Some a) bytes Done (Some r)
   came words bytes g r Run calm e =
       let whole = all_taken g.before g.after bytes e.0 calm.told e.1 e.2 in

@@ -5,7 +5,11 @@ pub mod Counts
 pub mod Ends
 pub mod Loaded
 pub mod Pays
+pub mod Putting
 pub mod Racing
 pub mod RecordEnds
 pub mod RecordCompletes
+pub mod RecordPutting
 pub mod RouteEnds
+pub mod RoutePutting
+pub mod Told

@@ -1,11 +1,12 @@
 -- What a run comes to is what its recording comes to.
-use Rattle.std.proofs.Common.{◌≡◌, ◌⊎◌, ℕ, List, [], ◌∷◌, Bool, true, false, cond, codes, Option, Some, None, refl, sym, subst, ⊎_elim}
+use Rattle.std.proofs.Common.{◌≡◌, ℕ, List, [], ◌∷◌, Bool, true, false, cond, codes, Option, Some, None, refl, sym, subst, ⊎_elim}
 use Rattle.std.specs.Prelude.{◌&&◌, ◌||◌}
 use Rattle.std.specs.Str.{bytes_eq}
 use Rattle.call_history.specs.History.{Legal, newest_first}
 use Rattle.network.specs.Ways.{Ways}
 use Rattle.run_record.specs.Spelling.{run_record}
 use Rattle.script_run.specs.Recording.{is_play, asked_of, RunEnds, IsSoundIf, IsRecorded, EndsAs}
+use Rattle.script_run.specs.declared.status.Status.{Status}
 use Rattle.script_run.specs.declared.status.Status.TheVariants.{Ran}
 use Rattle.run_record.specs.Sound.{HasSums}
 use Rattle.script_run.specs.Laws.{PlaysHaveSoundRecords, RacesHaveSoundRecords, RecordsHaveSums}
@@ -13,7 +14,7 @@ use Rattle.report_text.proofs.Numbers.{conserved_in_time}
 use Rattle.report_text.specs.Report.{record_from}
 use Rattle.report_text.specs.declared.report.Report.{Report}
 use Rattle.network_rounds.specs.Players.{Player}
-use Rattle.script_run.specs.Run.{Given, playable, wanted, owed}
+use Rattle.script_run.specs.Run.{Given, IsUnread, playable, wanted, owed}
 use Rattle.script_run.specs.Run as runs
 use Rattle.script_run.specs.declared.run.Status.{Status as RanAs}
 use Rattle.script_run.specs.declared.run.Status.TheVariants.{Done, NoMemory, Usage, Script, ReadFault, WriteFault, TooLong}
@@ -106,3 +107,8 @@ module _ {P : Type 0} (ways : Ways P) (cast : List Player) where
   pub lined_end : (g : Given) (words : List (List ℕ)) (s : RanAs) (bytes : List ℕ) → asked_of g.words ≡ Some words
       → runs.EndsAs ways cast (record g { words = words }) s None → bytes ≡ owed s None → EndsAs ways cast g (Ran s) bytes
   lined_end g words s bytes asked e spelled = subst (EndsAs ways cast g (Ran s)) (sym spelled) (lined_as g words s asked e)
+
+  -- words that ask for no record read nothing
+  pub unasked_end : (g : Given) (s : Status) (bytes : List ℕ) → asked_of g.words ≡ None → IsUnread g
+      → (s ≡ Ran Usage) × (bytes ≡ owed Usage None) → EndsAs ways cast g s bytes
+  unasked_end g s bytes none unread e = subst (λ (x : Status). EndsAs ways cast g x bytes) (sym e.0) (none, unread, e.1)

@@ -1,9 +1,9 @@
 -- A report that tells a scene and keeps its promises has a sound record.
-use Rattle.std.proofs.Common.{◌≡◌, ℕ, true, List, [], ◌∷◌, map, sym, ap, subst}
+use Rattle.std.proofs.Common.{◌≡◌, ℕ, true, List, [], ◌∷◌, map, sym, subst}
 use Rattle.std.specs.List.{All}
 use Rattle.std.specs.Prelude.{Option}
 use Rattle.std.proofs.lemmas.List.Elements.{All-cons, All-nil}
-use Rattle.run_record.specs.Sound.{HasPlan, HasShares, HasSums, IsSound}
+use Rattle.run_record.specs.Sound.{HasPlan, HasShares, IsSound}
 use Rattle.network.specs.Ways.{Ways}
 use Rattle.network.specs.declared.command.Command.{Command}
 use Rattle.play_report.specs.Reported.{Tells, NoCollision, EndsWellIf, Promises, events}
@@ -14,7 +14,7 @@ use Rattle.report_text.specs.Report.{record_from}
 use Rattle.report_text.specs.declared.report.Judged.{Judged}
 use Rattle.report_text.specs.declared.report.Load.{Load}
 use Rattle.report_text.specs.declared.report.Report.{Report}
-use Rattle.node_guarantees.specs.Endings.{ending_of, EndsWell}
+use Rattle.node_guarantees.specs.Endings.{ending_of}
 use Rattle.node_guarantees.specs.Promised.{Pairwise}
 use Rattle.network_rounds.specs.Players.{Player}
 use Rattle.step_meanings.specs.Commands.{command_of}

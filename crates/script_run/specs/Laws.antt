@@ -1,6 +1,7 @@
 -- What a checker finds of the record of a report.
-use Rattle.std.specs.Prelude.{◌≡◌, ℕ, true, List, Option}
+use Rattle.std.specs.Prelude.{◌≡◌, ℕ, true, List, Option, IfSome}
 use Rattle.call_history.specs.History.{Legal, newest_first}
+use Rattle.load.specs.Paying.{Pays}
 use Rattle.run_record.specs.Sound.{HasSums, IsSound}
 use Rattle.network.specs.Ways.{Ways}
 use Rattle.network.specs.declared.command.Command.{Command}
@@ -23,6 +24,10 @@ IsPremised commands r = Pairwise (λ j p. (p.unforged ≡ true) × NoCollision c
 
 abbrev pub IsLegalIn : Report → Type 0
 IsLegalIn r = Legal real (newest_first r.history)
+
+-- where the report is that of a load, it pays what that says
+abbrev pub PaysItsLoad : Report → Type 0
+PaysItsLoad r = IfSome r.load (λ load. Pays load r)
 
 module _ {P : Type 0} (ways : Ways P) where
   abbrev pub RecordsHaveSums : Type 0

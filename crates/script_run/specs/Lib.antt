@@ -1,6 +1,7 @@
 pub mod Laws
-pub mod Kept
 pub mod Run
+pub mod Keeping
+pub mod Telling
 pub mod Recording
 pub mod Routes
 pub mod Promises

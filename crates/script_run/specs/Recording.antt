@@ -2,6 +2,7 @@
 use Rattle.std.specs.Prelude.{◌≡◌, ◌⊎◌, ◌&&◌, ◌||◌, ℕ, List, [], ◌∷◌, Bool, false, Option, Some, None, codes, if◌then◌else◌}
 use Rattle.std.specs.Str.{bytes_eq}
 use Rattle.call_history.specs.Flows.{AreConserved}
+use Rattle.command_words.specs.declared.asking.Asked.TheVariants.{Race}
 use Rattle.call_history.specs.History.{flows_of}
 use Rattle.run_record.specs.Sound.{HasSums, IsSound}
 use Rattle.network.specs.Ways.{Ways}
@@ -36,6 +37,10 @@ is_play _ = false
 abbrev pub asked_of : List (List ℕ) → Option (List (List ℕ))
 asked_of [] = None
 asked_of (word ∷ rest) = if bytes_eq word (codes "record") && is_play rest then Some rest else None
+
+-- the words ask for the record of a race
+abbrev pub AsksForRace : List (List ℕ) → Type 0
+AsksForRace given = (words : List (List ℕ)) × (asked_of given ≡ Some words) × (runs.wanted words ≡ Some Race)
 
 module _ {P : Type 0} (ways : Ways P) (cast : List Player) where
   -- the words ask for a record, and a run of the rest of them comes to this end with this report

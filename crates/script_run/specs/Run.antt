@@ -1,5 +1,5 @@
 -- What a run of the program comes to.
-use Rattle.std.specs.Prelude.{◌≡◌, ◌≤◌, ◌<◌, ℕ, List, [], ◌∷◌, length, Bool, true, false, ⊤, Option, Some, None, codes, if◌then◌else◌}
+use Rattle.std.specs.Prelude.{◌≡◌, ◌≤◌, ◌<◌, ℕ, List, [], length, Bool, true, false, ⊤, Option, Some, None, codes, if◌then◌else◌}
 use Rattle.std.specs.Fmt.{decimal}
 use Rattle.std.specs.Io.KnownBytes.{Keeps, Consumes, IsAtEnd}
 use Rattle.byte_streams.specs.OutsideSource.{Rose}
@@ -85,18 +85,18 @@ IsUnread g = Keeps g.before g.after × (g.faults_after ≡ g.faults_before)
 abbrev pub made_from : (seed count : ℕ) → Note
 made_from seed count = record { seed = seed; count = count }
 
+-- What was asked for comes to this: it holds of the script that was read, or of the load's, as a play or as a race.
+module _ (AsPlay : Option Note → List Step → Type 0) (AsRace : List Step → Type 0) where
+  abbrev pub Comes : Given → Asked → Type 0
+  Comes g Run = Reads g (λ bytes. (steps : List Step) × IsScript false bytes steps × AsPlay None steps)
+  Comes g Race = Reads g (λ bytes. (steps : List Step) × IsScript true bytes steps × AsRace steps)
+  Comes g (Load seed count) = IsUnread g × AsPlay (Some (made_from seed count)) (load_steps seed count)
+
 -- Of these nodes, and of the actors that a race has beside them.
 module _ {P : Type 0} (ways : Ways P) (cast : List Player) where
-  -- What was asked for comes to this report: of the script that was read, or of the load's, it tells the play or the race and
-  -- keeps the promises.
-  abbrev pub Comes : Asked → Given → Report → Type 0
-  Comes Run g report = Reads g (λ bytes. (steps : List Step) × IsScript false bytes steps × IsPlayed ways None report steps)
-  Comes Race g report = Reads g (λ bytes. (steps : List Step) × IsScript true bytes steps × IsOfRace ways cast report steps)
-  Comes (Load seed count) g report = IsUnread g × IsPlayed ways (Some (made_from seed count)) report (load_steps seed count)
-
-  -- the words ask for what comes to this report
+  -- the words ask for what comes to this report, which tells its play and keeps the promises of one
   abbrev pub IsToldOf : Given → Report → Type 0
-  IsToldOf g report = Asks g (λ a. Comes a g report)
+  IsToldOf g report = Asks g (λ a. Comes (λ load steps. IsPlayed ways load report steps) (λ steps. IsOfRace ways cast report steps) g a)
 
   -- Why a run comes to each end, before its text is put.
   abbrev pub EndsAs : Given → Status → Option Report → Type 0

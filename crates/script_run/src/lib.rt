@@ -4,7 +4,6 @@
 mod keeping;
 mod laws;
 mod recording;
-mod records;
 mod report_laws;
 mod route;
 mod route_words;
@@ -13,9 +12,8 @@ mod status;
 
 pub use laws::calm_runs_end_alike;
 pub use network_node::Node;
-pub use recording::run_record;
-pub use records::Records;
+pub use recording::{record_in_one_thread, run_record};
 pub use report_laws::{plays_have_sound_records, races_have_sound_records, records_have_sums};
 pub use route::{RouteEnded, run_route};
-pub use run::{Ended, Status, end_of_words, line_of, run_words};
+pub use run::{Ended, Status, line_of, run_in_one_thread, run_words};
 pub use status::Status as RecordStatus;

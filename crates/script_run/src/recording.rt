@@ -1,22 +1,21 @@
 //! From words and a source to what was played, and the bytes of its record that were put.
 
-ghost use Rattle.std.specs.Prelude.{◌≡◌, ◌≢◌, ◌≤◌, ◌⊎◌, ℕ, List, [], Some, None, All, IfOk, length};
-ghost use Rattle.std.specs.Io.KnownBytes.{Keeps, Appends};
+ghost use Rattle.std.specs.Prelude.{◌≡◌, ◌≤◌, ℕ, List, [], Some, None, All, IfOk, IfSome, IsNone, length};
 ghost use Rattle.std.specs.Option.{option_copied};
-ghost use Rattle.byte_streams.specs.OutsideSink.{AppendsPart};
-ghost use Rattle.byte_streams.specs.OutsideSource.{Rose};
 ghost use Rattle.network_rounds.specs.Views.{players};
 ghost use Rattle.node_guarantees.specs.Ways.{ways};
 ghost use Rattle.script_run.specs.Laws.{IsLegalIn};
-ghost use Rattle.script_run.specs.Recording.{is_play, asked_of, RunEnds, EndsAs, IsRecordable};
+ghost use Rattle.script_run.specs.Promises.{IsRecording, sunk};
+ghost use Rattle.script_run.specs.Recording.{is_play, asked_of, AsksForRace, RunEnds, EndsAs};
 ghost use Rattle.script_run.specs.declared.status.Status.{Status};
 ghost use Rattle.network_rounds.specs.Players.{Player};
 ghost use Rattle.script_run.specs.Run.{Given, given, owed};
+ghost use Rattle.script_run.specs.Run as runs;
 ghost use Rattle.script_run.specs.declared.run.Status.{Status as RanAs};
 
 use crate::keeping::keeps_record;
 use crate::report_laws::{plays_have_sound_records, races_have_sound_records, records_have_sums};
-use crate::run::{Status as Ran, end_of_words, line_of};
+use crate::run::{Ended as RunEnded, Status as Ran, end_in_one_thread, end_in_race, line_of};
 use crate::status::Status;
 use byte_streams::{Sink, Source, put_all};
 use channel_values::{Label, NoMemory};
@@ -90,32 +89,61 @@ fn lined(alloc: Global, status: Ran) -> Result<Ended, NoMemory>
     })
 }
 
-/// What the words and the source come to.
-#[tactic(auto, using(byte_streams::proofs::Known::keeps_all, crate::proofs::RecordEnds::played_end, crate::proofs::RecordEnds::lined_end))]
-fn work<R: Threads + Wait + Sync, S: Source>(
-    rt: &R,
-    alloc: Global,
-    words: &[Label],
-    source: &mut S,
-    cast: Vec<Cast>,
-) -> Result<Ended, NoMemory>
-    requires unseen { All (λ c. c.notes.entries.items ≡ []) cast.items }
-    ensures { IfOk result (λ ended. EndsAs ways (players tells told cast.items)
-        (given S.Source words.now source.old source.new) ended.status ended.bytes.items) }
+/// What the end of a run of the words after `record` comes to.
+#[tactic(auto, using(crate::proofs::RecordEnds::played_end, crate::proofs::RecordEnds::lined_end))]
+fn end_of_run(alloc: Global, end: Result<RunEnded, NoMemory>) -> Result<Ended, NoMemory>
+    requires { IfOk end (λ ended. IfSome ended.report IsLegalIn) }
+    ensures { (cast : List Player) (g : Given) (words : List (List ℕ)) → asked_of g.words ≡ Some words
+        → IfOk end (λ ended. runs.EndsAs ways cast (record g { words = words }) ended.status ended.report)
+        → IfOk result (λ ended. EndsAs ways cast g ended.status ended.bytes.items) }
 {
-    let Some(asked) = asked_of(words) else {
-        return lined(alloc, Ran::Usage);
-    };
-    let ended = end_of_words(rt, alloc, asked, source, cast)?;
+    let ended = end?;
     match ended.report {
         Some(report) => recorded(alloc, report),
         None => lined(alloc, ended.status),
     }
 }
 
-/// Does all that the program does: plays the script that it reads, and puts the record of what was played. In a race the cast,
-/// of at most 16 actors that have seen nothing, acts beside the nodes.
-#[tactic(auto, using(crate::proofs::RecordCompletes::completes))]
+/// Puts what an end owes.
+#[tactic(auto, using(crate::proofs::RecordPutting::none_put, crate::proofs::RecordPutting::all_put, crate::proofs::RecordPutting::part_put))]
+fn put_end<K: Sink>(end: Result<Ended, NoMemory>, sink: &mut K) -> Status
+    ensures { (cast : List Player) (g : Given)
+        → IfOk end (λ ended. EndsAs ways cast g ended.status ended.bytes.items)
+        → IsRecording ways cast g (sunk K.Sink sink.old sink.new) result }
+{
+    let Ok(ended) = end else {
+        return Status::Ran(Ran::NoMemory);
+    };
+    match put_all(sink, &ended.bytes) {
+        Ok(()) => ended.status,
+        Err(_) => Status::Ran(Ran::WriteFault),
+    }
+}
+
+/// Plays the script that it reads, and puts the record of what was played. It starts no thread and waits for nobody, so
+/// it returns. It answers nothing where the words ask for the record of a race: then nothing was read and nothing put.
+pub fn record_in_one_thread<S: Source, K: Sink>(
+    alloc: Global,
+    words: &[Label],
+    source: &mut S,
+    sink: &mut K,
+) -> Option<Status>
+    ensures ends { (cast : List Player) → IfSome result (λ status. IsRecording ways cast
+        (given S.Source words.now source.old source.new) (sunk K.Sink sink.old sink.new) status) }
+    ensures race { IsNone result → AsksForRace words.now }
+    ensures untouched { IsNone result → (source.new ≡ source.old) × (sink.new ≡ sink.old) }
+{
+    let Some(asked) = asked_of(words) else {
+        let end = lined(alloc, Ran::Usage);
+        return Some(put_end(end, sink));
+    };
+    let end = end_in_one_thread::<Node, S>(alloc, asked, source)?;
+    let end = end_of_run(alloc, end);
+    Some(put_end(end, sink))
+}
+
+/// Plays the script that it reads, and puts the record of what was played. What is no race is done in one thread. In a
+/// race the cast, of at most 16 actors that have seen nothing, acts beside the nodes.
 pub fn run_record<R: Threads + Wait + Sync, S: Source, K: Sink>(
     rt: &R,
     alloc: Global,
@@ -126,34 +154,13 @@ pub fn run_record<R: Threads + Wait + Sync, S: Source, K: Sink>(
 ) -> Status
     requires few { length cast.items ≤ 16 }
     requires unseen { All (λ c. c.notes.entries.items ≡ []) cast.items }
-
-    // Every status but running out of memory and a fault of the sink has its cause, and its bytes were put whole: of what was played
-    // the spelling of its record, whose history is legal and conserved; and it is sound where of each person with a node nothing is
-    // told to be forged and no strings collide.
-    ensures ended { result ≢ Status.Ran RanAs.NoMemory → result ≢ Status.Ran RanAs.WriteFault → (bytes : List ℕ)
-        × EndsAs ways (players tells told cast.items) (given S.Source words.now source.old source.new) result bytes
-        × Appends (K.held sink.old) (K.held sink.new) bytes }
-
-    // At a fault of the sink a part was put of what another end owes.
-    ensures write_fault { result ≡ Status.Ran RanAs.WriteFault → Rose (K.faults sink.old) (K.faults sink.new)
-        × ((other : Status) × (bytes : List ℕ)
-        × EndsAs ways (players tells told cast.items) (given S.Source words.now source.old source.new) other bytes
-        × AppendsPart (K.held sink.old) (K.held sink.new) bytes) }
-
-    // Out of memory nothing was put.
-    ensures no_memory { result ≡ Status.Ran RanAs.NoMemory → Keeps (K.held sink.old) (K.held sink.new) }
-
-    // A sound script is played and its record put, unless it is past the format's limits or memory runs out, where neither source
-    // nor sink fails.
-    ensures complete { IsRecordable (given S.Source words.now source.old source.new)
-        → ¬ (Rose (K.faults sink.old) (K.faults sink.new))
-        → (result ≡ Status.Ran RanAs.Done) ⊎ (result ≡ Status.PastLimits) ⊎ (result ≡ Status.Ran RanAs.NoMemory) }
+    ensures { IsRecording ways (players tells told cast.items) (given S.Source words.now source.old source.new)
+        (sunk K.Sink sink.old sink.new) result }
 {
-    let Ok(ended) = work(rt, alloc, words, source, cast) else {
-        return Status::Ran(Ran::NoMemory);
-    };
-    match put_all(sink, &ended.bytes) {
-        Ok(()) => ended.status,
-        Err(_) => Status::Ran(Ran::WriteFault),
+    if let Some(status) = record_in_one_thread(alloc, words, source, sink) {
+        return status;
     }
+    let end = end_in_race(rt, alloc, source, cast);
+    let end = end_of_run(alloc, end);
+    put_end(end, sink)
 }

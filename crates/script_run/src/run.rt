@@ -1,7 +1,7 @@
 //! The top call: from words and a source to a status and the text that was put.
 
-ghost use Rattle.std.specs.Prelude.{◌≡◌, ◌≢◌, ◌≤◌, ◌⊎◌, ℕ, List, [], Some, None, length, All, IfOk, IfSome, IsNone, string_bytes};
-ghost use Rattle.std.specs.Io.KnownBytes.{Keeps, Consumes, Appends, IsAtEnd};
+ghost use Rattle.std.specs.Prelude.{◌≡◌, ◌≤◌, ℕ, List, [], Some, None, length, All, IfOk, IfSome, IsNone, string_bytes};
+ghost use Rattle.std.specs.Io.KnownBytes.{Consumes, IsAtEnd};
 ghost use Rattle.call_history.specs.Flows.{AreConserved};
 ghost use Rattle.call_history.specs.History.{Legal, newest_first, flows_of};
 ghost use Rattle.support_rules.specs.Real.{real};
@@ -9,17 +9,14 @@ ghost use Rattle.network_rounds.specs.Views.{players};
 ghost use Rattle.network_rounds.specs.Journals.{WritesJournals};
 ghost use Rattle.network_rounds.specs.Players.{Player};
 ghost use Rattle.script_race.specs.Raced.{RacersAreInTime};
-ghost use Rattle.byte_streams.specs.OutsideSource.{Rose};
-ghost use Rattle.byte_streams.specs.OutsideSink.{AppendsPart};
 ghost use Rattle.command_words.specs.Words.{asked};
 ghost use Rattle.command_words.specs.declared.asking.Asked.{Asked};
 ghost use Rattle.script_run.specs.declared.run.Status.{Status};
-ghost use Rattle.load.specs.Paying.{Pays};
 ghost use Rattle.node_guarantees.specs.Ways.{ways};
-ghost use Rattle.script_run.specs.Laws.{IsLegalIn};
-ghost use Rattle.script_run.specs.Run.{Given, IsRunnable, IsUnread, given, code_of, wanted, EndsAs, IsToldOf, rule_text, owed};
+ghost use Rattle.script_run.specs.Laws.{IsLegalIn, PaysItsLoad};
+ghost use Rattle.script_run.specs.Promises.{IsRun, sunk};
+ghost use Rattle.script_run.specs.Run.{Given, IsUnread, given, code_of, wanted, EndsAs, rule_text, owed};
 
-use crate::records::Records;
 use byte_streams::{ReadEnd, Sink, Source, put_all, read_all};
 use channel_values::{Label, NoMemory};
 use command_words::{Asked, asked};
@@ -31,6 +28,7 @@ use play_report::report_play;
 use report_text::{Load, Report, text_of};
 use script_race::report_race;
 use script_reader::{Rule, ScriptFault, read_script_with_signers};
+use sequential_ledger::Ledger;
 use std::alloc::{AllocError, Global};
 use std::sync::Wait;
 use std::thread::Threads;
@@ -94,7 +92,7 @@ fn run_script<P: ReportedNode>(alloc: Global, bytes: &[u8]) -> Result<Ended, NoM
         Err(ScriptFault::Broken { step, rule }) => Ok(without_report(Status::Script(step, rule))),
         Ok((script, signers)) => {
             let steps = script.steps.as_slice();
-            let report = report_play::<P, Records>(alloc, steps, signers, None)?;
+            let report = report_play::<P, Ledger>(alloc, steps, signers, None)?;
             Ok(Ended {
                 status: Status::Done,
                 report: Some(report),
@@ -190,7 +188,7 @@ fn run_load<P: ReportedNode>(alloc: Global, seed: u64, count: u32) -> Result<End
         Err(LoadFault::OneName) => Ok(without_report(Status::Usage)),
         Ok((script, signers)) => {
             let load = Some(Load { seed, count });
-            let report = report_play::<P, Records>(alloc, script.steps.as_slice(), signers, load)?;
+            let report = report_play::<P, Ledger>(alloc, script.steps.as_slice(), signers, load)?;
             Ok(Ended {
                 status: Status::Done,
                 report: Some(report),
@@ -199,28 +197,44 @@ fn run_load<P: ReportedNode>(alloc: Global, seed: u64, count: u32) -> Result<End
     }
 }
 
-/// What the words and the source come to, with nodes of this type.
+/// What the words and the source come to with nodes of this type, in one thread. It is nothing where they ask for a race.
 #[tactic(auto, using(byte_streams::proofs::Known::keeps_all, crate::proofs::Counts::some_payments, crate::proofs::Counts::few_payments, crate::proofs::Counts::wanted_none, crate::proofs::Counts::wanted_run, crate::proofs::Counts::wanted_race))]
-fn work<R: Threads + Wait + Sync, P: ReportedNode + Send, S: Source>(
-    rt: &R,
+pub(crate) fn end_in_one_thread<P: ReportedNode, S: Source>(
     alloc: Global,
     words: &[Label],
+    source: &mut S,
+) -> Option<Result<Ended, NoMemory>>
+    ensures ends { (cast : List Player) → IfSome result (λ end. IfOk end (λ ended. EndsAs P.ways cast
+        (given S.Source words.now source.old source.new) ended.status ended.report)) }
+    ensures legal { IfSome result (λ end. IfOk end (λ ended. IfSome ended.report IsLegalIn)) }
+    ensures race { IsNone result → wanted words.now ≡ Some Asked.Race }
+    ensures untouched { IsNone result → source.new ≡ source.old }
+{
+    let Ok(asked) = asked(alloc, words) else {
+        return Some(Err(NoMemory));
+    };
+    match asked {
+        None => Some(Ok(without_report(Status::Usage))),
+        Some(Asked::Run) => Some(run_source::<P, S>(alloc, source)),
+        Some(Asked::Race) => None,
+        Some(Asked::Load { seed, count }) => Some(run_load::<P>(alloc, seed, count)),
+    }
+}
+
+/// What a race of the script comes to that the source has, between the nodes of the network and this cast.
+pub(crate) fn end_in_race<R: Threads + Wait + Sync, S: Source>(
+    rt: &R,
+    alloc: Global,
     source: &mut S,
     cast: Vec<Cast>,
 ) -> Result<Ended, NoMemory>
     requires unseen { All (λ c. c.notes.entries.items ≡ []) cast.items }
-    requires writes { WritesJournals P.ways P.lost }
-    requires timely { RacersAreInTime P.ways P.stands }
-    ensures ends { IfOk result (λ ended. EndsAs P.ways (players tells told cast.items)
-        (given S.Source words.now source.old source.new) ended.status ended.report) }
+    ensures ends { (words : List (List ℕ)) → wanted words ≡ Some Asked.Race
+        → IfOk result (λ ended. EndsAs ways (players tells told cast.items)
+        (given S.Source words source.old source.new) ended.status ended.report) }
     ensures legal { IfOk result (λ ended. IfSome ended.report IsLegalIn) }
 {
-    match asked(alloc, words)? {
-        None => Ok(without_report(Status::Usage)),
-        Some(Asked::Run) => run_source::<P, S>(alloc, source),
-        Some(Asked::Race) => race_source::<R, P, S>(rt, alloc, source, cast),
-        Some(Asked::Load { seed, count }) => run_load::<P>(alloc, seed, count),
-    }
+    race_source::<R, Node, S>(rt, alloc, source, cast)
 }
 
 fn rule_text(rule: Rule) -> &'static str
@@ -233,23 +247,6 @@ fn rule_text(rule: Rule) -> &'static str
         Rule::Limit => "4 Limit",
         Rule::NotInRace => "6 NotInRace",
     }
-}
-
-/// What the words and the source come to, before anything is put. In a race the cast, which has seen nothing, acts beside the
-/// nodes.
-pub fn end_of_words<R: Threads + Wait + Sync, S: Source>(
-    rt: &R,
-    alloc: Global,
-    words: &[Label],
-    source: &mut S,
-    cast: Vec<Cast>,
-) -> Result<Ended, NoMemory>
-    requires unseen { All (λ c. c.notes.entries.items ≡ []) cast.items }
-    ensures ends { IfOk result (λ ended. EndsAs ways (players tells told cast.items)
-        (given S.Source words.now source.old source.new) ended.status ended.report) }
-    ensures legal { IfOk result (λ ended. IfSome ended.report IsLegalIn) }
-{
-    work::<R, Node, S>(rt, alloc, words, source, cast)
 }
 
 /// A line that is no history.
@@ -282,64 +279,20 @@ fn owed(alloc: Global, ended: &Ended) -> Result<Vec<u8>, NoMemory>
     }
 }
 
-/// Does all that the program does: reads the script or makes that of a load, plays it and puts the text of its report. In a
-/// race the cast, of at most 16 actors that have seen nothing, acts beside the nodes.
-#[tactic(auto, using(report_text::proofs::Numbers::conserved_in_time, crate::proofs::Completes::completes, crate::proofs::Completes::is_told, crate::proofs::Pays::pays))]
-pub fn run_words<R: Threads + Wait + Sync, S: Source, K: Sink>(
-    rt: &R,
+/// Puts what an end owes.
+#[tactic(auto, using(crate::proofs::Putting::none_put, crate::proofs::Putting::all_put, crate::proofs::Putting::part_put))]
+fn put_end<P: ReportedNode, K: Sink>(
     alloc: Global,
-    words: &[Label],
-    source: &mut S,
+    end: Result<Ended, NoMemory>,
     sink: &mut K,
-    cast: Vec<Cast>,
 ) -> Ended
-    requires few { length cast.items ≤ 16 }
-    requires unseen { All (λ c. c.notes.entries.items ≡ []) cast.items }
-
-    // Every status but want of memory and a fault of the sink has its cause, and its text was put whole.
-    ensures ended { result.status ≢ Status.NoMemory → result.status ≢ Status.WriteFault
-        → EndsAs ways (players tells told cast.items)
-        (given S.Source words.now source.old source.new) result.status result.report
-        × Appends (K.held sink.old) (K.held sink.new) (owed result.status result.report) }
-
-    // At a fault of the sink a part was put of what another end owes, and the report is that end's.
-    ensures write_fault { result.status ≡ Status.WriteFault → Rose (K.faults sink.old) (K.faults sink.new)
-        × ((other : Status) × EndsAs ways (players tells told cast.items)
-        (given S.Source words.now source.old source.new) other result.report
-        × AppendsPart (K.held sink.old) (K.held sink.new) (owed other result.report)) }
-
-    // For want of memory nothing was put.
-    ensures no_memory { result.status ≡ Status.NoMemory → IsNone result.report
-        × Keeps (K.held sink.old) (K.held sink.new) }
-
-    // Each reply of the history is the sequential adjudicator's at its place.
-    ensures legal { IfSome result.report (λ report. Legal real (newest_first report.history)) }
-
-    // Of each asset, the printed numbers agree: what was deposited is what the channels hold and what the persons were paid.
-    ensures conserved { IfSome result.report (λ report. AreConserved (flows_of report.history)) }
-
-    // The words ask for what comes to the report, which tells the play of the script and keeps its promises. Each printed share is
-    // what the person can get by the definition, over the whole history and its journal; each exit, just after its node's first
-    // accepted command to exit. Each person with a node has an honest journal. Where its premises are told to hold, and the
-    // strings of the fixed parts that its accepted commands name don't collide with others: no channel of it becomes final with
-    // an outcome older than its newest supported state; nobody lowers its share, its own signatures by no more than the payment
-    // that was commanded right before, or, where none was and its plan is funded, not at all (for these its watchers needn't be
-    // in time); it can leave with its share; and once its channels are final and the calls of its exit stand after that, what
-    // was printed of its exit is paid to it, whatever others enter between.
-    ensures told { IfSome result.report
-        (IsToldOf ways (players tells told cast.items) (given S.Source words.now source.old source.new)) }
-
-    // A load pays what it says: its history is two deposits, a conclusion and two transfers; both people were paid what they
-    // have after its payments, and no channel holds anything; no command was refused, and the shares that are told are what
-    // was paid.
-    ensures pays { IfSome result.report (λ report. IfSome report.load (λ load. Pays load report)) }
-
-    // A sound script runs to its end, and so does a load, unless memory runs out.
-    ensures complete { IsRunnable (given S.Source words.now source.old source.new)
-        → ¬ (Rose (K.faults sink.old) (K.faults sink.new))
-        → (result.status ≡ Status.Done) ⊎ (result.status ≡ Status.NoMemory) }
+    requires { IfOk end (λ ended. IfSome ended.report IsLegalIn) }
+    ensures { (cast : List Player) (g : Given)
+        → IfOk end (λ ended. EndsAs P.ways cast g ended.status ended.report)
+        → IfOk end (λ ended. IfSome ended.report PaysItsLoad)
+        → IsRun P.ways cast g (sunk K.Sink sink.old sink.new) result.status result.report }
 {
-    let Ok(ended) = end_of_words(rt, alloc, words, source, cast) else {
+    let Ok(ended) = end else {
         return without_report(Status::NoMemory);
     };
     let Ok(text) = owed(alloc, &ended) else {
@@ -352,4 +305,54 @@ pub fn run_words<R: Threads + Wait + Sync, S: Source, K: Sink>(
             report: ended.report,
         },
     }
+}
+
+/// Plays the script that it reads or that of a load, and puts the text of its report. It starts no thread and waits for
+/// nobody, so it returns. It answers nothing where the words ask for a race: then nothing was read and nothing put.
+pub fn run_in_one_thread<S: Source, K: Sink>(
+    alloc: Global,
+    words: &[Label],
+    source: &mut S,
+    sink: &mut K,
+) -> Option<Ended>
+    ensures ends { (cast : List Player) → IfSome result (λ ended. IsRun ways cast
+        (given S.Source words.now source.old source.new) (sunk K.Sink sink.old sink.new) ended.status ended.report) }
+    ensures race { IsNone result → wanted words.now ≡ Some Asked.Race }
+    ensures untouched { IsNone result → (source.new ≡ source.old) × (sink.new ≡ sink.old) }
+{
+    let end = end_in_one_thread::<Node, S>(alloc, words, source)?;
+    Some(put_end::<Node, K>(alloc, end, sink))
+}
+
+/// Reads the script or makes that of a load, plays it and puts the text of its report. What is no race is done in one
+/// thread. In a race the cast, of at most 16 actors that have seen nothing, acts beside the nodes.
+///
+/// What it promises stands in the record `IsRun`, clause by clause:
+/// - `ended`, `write_fault`, `no_memory`: each status has its cause, and what it owes was put: whole, in part, not at all.
+/// - `legal`: each reply of the history is the sequential adjudicator's at its place.
+/// - `conserved`: of each asset, what was deposited is what the channels hold and what the persons were paid.
+/// - `keeps`: each person with a node keeps its share and is paid on its exit, where its premises hold.
+/// - `tells`: the report tells the play of the script that was asked for.
+/// - `pays`: a load pays what it says.
+/// - `complete`: a sound script runs to its end, unless memory runs out or the sink fails.
+pub fn run_words<R: Threads + Wait + Sync, S: Source, K: Sink>(
+    rt: &R,
+    alloc: Global,
+    words: &[Label],
+    source: &mut S,
+    sink: &mut K,
+    cast: Vec<Cast>,
+) -> Ended
+    requires few { length cast.items ≤ 16 }
+    requires unseen { All (λ c. c.notes.entries.items ≡ []) cast.items }
+    ensures run { IsRun ways (players tells told cast.items) (given S.Source words.now source.old source.new)
+        (sunk K.Sink sink.old sink.new) result.status result.report }
+    ensures legal { IfSome result.report (λ report. Legal real (newest_first report.history)) }
+    ensures conserved { IfSome result.report (λ report. AreConserved (flows_of report.history)) }
+{
+    if let Some(ended) = run_in_one_thread(alloc, words, source, sink) {
+        return ended;
+    }
+    let end = end_in_race(rt, alloc, source, cast);
+    put_end::<Node, K>(alloc, end, sink)
 }

@@ -1,5 +1,5 @@
 -- A load that was played runs to its report.
-use Rattle.std.proofs.Common.{◌≡◌, ◌∙◌}
+use Rattle.std.proofs.Common.{◌∙◌}
 use Rattle.script_run.proofs.Counts.{wanted_load}
 use Rattle.script_run.proofs.Loaded.{loads_run}
 use Rattle.script_run.proofs.run.run_load.Goals as goal
