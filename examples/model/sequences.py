@@ -29,8 +29,8 @@ PICTURES = {
               {0: ("both sign a final state",), 2: ("one concludes with it",), 3: ("each is paid",)}),
     "virtual": ("A and B open the virtual channel X through the hub", "hub.json", 14, 15,
                 {0: ("a first round of the two", "guarantors GA and GB, of the", "joint channel J, and of X"),
-                 9: ("each ledger votes to set 5", "aside for its guarantor,", "and repeats the outcome"),
-                 14: ("a second round of J:", "both ledgers back it"),
+                 9: ("each ledger channel votes", "to set 5 aside for its", "guarantor, and repeats it"),
+                 14: ("a second round of J:", "both ledger channels back it"),
                  18: ("J votes to owe X what it", "owed A and B"),
                  21: ("J repeats the outcome;", "a second round of X:", "it is funded")}),
 }
