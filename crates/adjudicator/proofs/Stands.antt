@@ -72,25 +72,25 @@ stands_still r h s t e st still unpaid same now rows =
 
 pub refused_is_still : (op : Op) (refusal : Refusal) → flow_of op (No refusal) ≡ []
 refused_is_still (ops.Time t) refusal = refl
-refused_is_still (ops.Call (Deposit channel asset expected amount)) refusal = refl
-refused_is_still (ops.Call (Challenge chain who signature)) refusal = refl
-refused_is_still (ops.Call (Respond fixed from next)) refusal = refl
+refused_is_still (ops.Call (Deposit d)) refusal = refl
+refused_is_still (ops.Call (Challenge k)) refusal = refl
+refused_is_still (ops.Call (Respond k)) refusal = refl
 refused_is_still (ops.Call (Refute fixed next)) refusal = refl
 refused_is_still (ops.Call (Checkpoint chain)) refusal = refl
 refused_is_still (ops.Call (Conclude chain)) refusal = refl
-refused_is_still (ops.Call (Transfer channel outcome asset index)) refusal = refl
-refused_is_still (ops.Call (Claim guarantor promise target outcome asset position)) refusal = refl
+refused_is_still (ops.Call (Transfer k)) refusal = refl
+refused_is_still (ops.Call (Claim k)) refusal = refl
 
 pub refused_is_unpaid : (op : Op) (refusal : Refusal) → payment_of op (No refusal) ≡ []
 refused_is_unpaid (ops.Time t) refusal = refl
-refused_is_unpaid (ops.Call (Deposit channel asset expected amount)) refusal = refl
-refused_is_unpaid (ops.Call (Challenge chain who signature)) refusal = refl
-refused_is_unpaid (ops.Call (Respond fixed from next)) refusal = refl
+refused_is_unpaid (ops.Call (Deposit d)) refusal = refl
+refused_is_unpaid (ops.Call (Challenge k)) refusal = refl
+refused_is_unpaid (ops.Call (Respond k)) refusal = refl
 refused_is_unpaid (ops.Call (Refute fixed next)) refusal = refl
 refused_is_unpaid (ops.Call (Checkpoint chain)) refusal = refl
 refused_is_unpaid (ops.Call (Conclude chain)) refusal = refl
-refused_is_unpaid (ops.Call (Transfer channel outcome asset index)) refusal = refl
-refused_is_unpaid (ops.Call (Claim guarantor promise target outcome asset position)) refusal = refl
+refused_is_unpaid (ops.Call (Transfer k)) refusal = refl
+refused_is_unpaid (ops.Call (Claim k)) refusal = refl
 
 pub refused_now : (h : List Entry) (number by : ℕ) (op : Op) (refusal : Refusal) → now_of h ≡ now_of (record { number = number; by = by; op = op; reply = No refusal } ∷ h)
 refused_now h number by (ops.Time t) refusal = refl
@@ -108,7 +108,7 @@ pub stands_unchanged : (r : Rules) (h : List Entry) (s : Standing) (number by : 
     → StandsFor r (record { number = number; by = by; op = op; reply = No refusal } ∷ h) s
 stands_unchanged r h s number by op refusal st = stands_refused r h s s number by op refusal st (record { funds = refl; items = refl }) refl (λ channel. refl)
 
--- a reply that is a refusal tells a refusal
+-- a reply that is a refusal gives a refusal
 pub on_refused : {A P : Type 0} (say : A → Reply) → ((x : A) → is_accepted (say x) ≡ true) → (answer : Result A Refusal) (reply : Reply) (refusal : Refusal)
     → reply ≡ told say answer → reply ≡ No refusal → OnErr answer P → P
 on_refused say accepted (Ok x) reply refusal is said p = let never : true ≡ false = sym (accepted x) ∙ ap is_accepted (sym is ∙ said) in absurd cc

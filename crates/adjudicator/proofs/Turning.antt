@@ -1,7 +1,7 @@
 -- What an accepted call on a row does to what an adjudicator stands for.
 use Rattle.std.proofs.Common.{◌≡◌, ℕ, ◌+◌, List, [], ◌∷◌, true, Some, refl, sym, ◌∙◌, ap, subst}
 use Rattle.std.specs.Prelude.{Option, Result, Ok, Err, unwrap_or}
-use Rattle.channel_values.specs.Parts.{FixedParts, StateParts}
+use Rattle.channel_values.specs.Parts.{FixedParts}
 use Rattle.channel_values.specs.declared.chain.Chain.{Chain}
 use Rattle.channel_values.specs.declared.chain.Signed.{Signed}
 use Rattle.channel_values.specs.Rules.{Rules, is_signed_well, signs_challenge}
@@ -11,6 +11,8 @@ use Rattle.call_history.specs.Rows.{row_or_blank, fixed_of, turned}
 use Rattle.call_history.specs.Replies.{challenge, respond, refute, checkpoint, conclude}
 use Rattle.call_history.specs.History.{is_accepted, row, flow_of, payment_of, now_of, reply_to}
 use Rattle.call_history.specs.declared.call.Call.TheVariants.{Challenge, Respond, Refute, Checkpoint, Conclude}
+use Rattle.call_history.specs.declared.call.ChallengeCall.{ChallengeCall}
+use Rattle.call_history.specs.declared.call.RespondCall.{RespondCall}
 use Rattle.call_history.specs.declared.call.Op.{Op}
 use Rattle.call_history.specs.declared.call.Op.TheVariants as ops
 use Rattle.call_history.specs.declared.entry.Entry.{Entry}
@@ -22,7 +24,7 @@ use Rattle.call_history.proofs.Rowing.{Answers, challenge_row, respond_row, refu
 use Rattle.adjudicator.specs.Standing.{Standing, row_in, StandsFor, HasTurned, Serves}
 use Rattle.adjudicator.proofs.Stands.{row_found, stands_refused, stands_turned, on_refused}
 
--- The op is a call on the row of a channel. `word` is what it answers for the row and the time, and `say` tells it.
+-- The op is a call on the row of a channel. `word` is what it answers for the row and the time, and `say` shows it.
 pub record IsTurning (r : Rules) (op : Op) (fixed : FixedParts) (word : Row → ℕ → Result Row Refusal) (say : ℕ → Row → Reply) : Type 0 where
   pub names : fixed_of op ≡ Some fixed
   pub reply : (h : List Entry) → reply_to r h op ≡ told (say (now_of h)) (word (row r (r.named fixed) h) (now_of h))
@@ -32,18 +34,18 @@ pub record IsTurning (r : Rules) (op : Op) (fixed : FixedParts) (word : Row → 
   pub unpaid : (now : ℕ) (new : Row) → payment_of op (say now new) ≡ []
   pub time : (h : List Entry) (number by now : ℕ) (new : Row) → now_of (record { number = number; by = by; op = op; reply = say now new } ∷ h) ≡ now_of h
 
--- a challenge's reply tells the deadline of the row that it makes
-tells_deadline : (r : Rules) (old : Row) (now : ℕ) (chain : Chain) (who : ℕ) (signature : List ℕ) (answer : Result Row Refusal)
-    → Answers (turned r now (ops.Call (Challenge chain who signature)) old) answer → told (λ new. Until (now + chain.fixed.duration)) answer ≡ told (λ (new : Row). Until (unwrap_or new.deadline 0)) answer
-tells_deadline r old now chain who signature (Ok new) answers = sym (ap (λ (x : Row). Until (unwrap_or x.deadline 0)) answers.is)
-tells_deadline r old now chain who signature (Err refusal) answers = refl
+-- a challenge's reply describes the deadline of the row that it makes
+tells_deadline : (r : Rules) (old : Row) (now : ℕ) (k : ChallengeCall) (answer : Result Row Refusal)
+    → Answers (turned r now (ops.Call (Challenge k)) old) answer → told (λ new. Until (now + k.chain.fixed.duration)) answer ≡ told (λ (new : Row). Until (unwrap_or new.deadline 0)) answer
+tells_deadline r old now k (Ok new) answers = sym (ap (λ (x : Row). Until (unwrap_or x.deadline 0)) answers.is)
+tells_deadline r old now k (Err refusal) answers = refl
 
-pub challenge_turns : (r : Rules) (chain : Chain) (who : ℕ) (signature : List ℕ)
-    → IsTurning r (ops.Call (Challenge chain who signature)) chain.fixed (λ row now. challenge r row now chain who signature) (λ now new. Until (unwrap_or new.deadline 0))
+pub challenge_turns : (r : Rules) (k : ChallengeCall)
+    → IsTurning r (ops.Call (Challenge k)) k.chain.fixed (λ row now. challenge r row now k.chain k.challenger k.signature) (λ now new. Until (unwrap_or new.deadline 0))
 unfolding reply_to
-challenge_turns r chain who signature = record {
+challenge_turns r k = record {
   names = refl;
-  reply = λ h. tells_deadline r (row r (r.named chain.fixed) h) (now_of h) chain who signature _ (rows (row r (r.named chain.fixed) h) (now_of h));
+  reply = λ h. tells_deadline r (row r (r.named k.chain.fixed) h) (now_of h) k _ (rows (row r (r.named k.chain.fixed) h) (now_of h));
   rows = rows;
   accepted = λ now new. refl;
   still = λ now new. refl;
@@ -51,16 +53,16 @@ challenge_turns r chain who signature = record {
   time = λ h number by now new. refl;
 }
   where
-    rows : (old : Row) (now : ℕ) → Answers (turned r now (ops.Call (Challenge chain who signature)) old) (challenge r old now chain who signature)
-    rows old now = challenge_row r old now chain who (verified_marks r chain) (signs_challenge r chain.fixed chain.states who signature)
+    rows : (old : Row) (now : ℕ) → Answers (turned r now (ops.Call (Challenge k)) old) (challenge r old now k.chain k.challenger k.signature)
+    rows old now = challenge_row r old now k.chain k.challenger (verified_marks r k.chain) (signs_challenge r k.chain.fixed k.chain.states k.challenger k.signature)
 
-pub respond_turns : (r : Rules) (fixed : FixedParts) (from : StateParts) (next : Signed)
-    → IsTurning r (ops.Call (Respond fixed from next)) fixed (λ row now. respond r row now fixed from next) (λ now new. Opened new.turn)
+pub respond_turns : (r : Rules) (k : RespondCall)
+    → IsTurning r (ops.Call (Respond k)) k.fixed (λ row now. respond r row now k.fixed k.from k.next) (λ now new. Opened new.turn)
 unfolding reply_to
-respond_turns r fixed from next = record {
+respond_turns r k = record {
   names = refl;
   reply = λ h. refl;
-  rows = λ old now. respond_row r old now fixed from next (is_signed_well r fixed next);
+  rows = λ old now. respond_row r old now k.fixed k.from k.next (is_signed_well r k.fixed k.next);
   accepted = λ now new. refl;
   still = λ now new. refl;
   unpaid = λ now new. refl;

@@ -9,8 +9,8 @@ use Rattle.adjudicator.specs.Values.{challenge_values, answer_values}
 
 -- whether each signature verifies: those of a chain's marks, and last a call's own
 abbrev pub values_of : Rules → Op → List Bool
-values_of r (ops.Call (Challenge chain who signature)) = challenge_values r chain who signature
-values_of r (ops.Call (Respond fixed from next)) = answer_values r fixed next
+values_of r (ops.Call (Challenge k)) = challenge_values r k.chain k.challenger k.signature
+values_of r (ops.Call (Respond k)) = answer_values r k.fixed k.next
 values_of r (ops.Call (Refute fixed next)) = answer_values r fixed next
 values_of r (ops.Call (Checkpoint chain)) = verified_marks r chain
 values_of r (ops.Call (Conclude chain)) = verified_marks r chain

@@ -6,8 +6,11 @@ use Rattle.channel_values.specs.Rules.{Rules}
 use Rattle.call_history.specs.Rows.{row_or_blank}
 use Rattle.call_history.specs.Flows.{pays, AreCovered}
 use Rattle.call_history.specs.Mode.{is_final}
+use Rattle.call_history.specs.Replies.{transfer, claim}
 use Rattle.adjudicator.specs.Due.{deadline_in, AreOrdered}
 use Rattle.call_history.specs.History.{now_of, row, mode, row_given, flows_of, held_of, paid_to, deposited_of, paid_of, reply_to}
+use Rattle.call_history.specs.declared.call.TransferCall.{TransferCall}
+use Rattle.call_history.specs.declared.call.ClaimCall.{ClaimCall}
 use Rattle.call_history.specs.declared.call.Op.{Op}
 use Rattle.call_history.specs.declared.entry.Entry.{Entry}
 use Rattle.call_history.specs.declared.funds.Due.{Due}
@@ -50,6 +53,18 @@ pub record StandsFor (r : Rules) (h : List Entry) (s : Standing) : Type 0 where
   pub funds : AreBalancesOf h s.funds
   pub items : (channel : List ℕ) (asset place : ℕ)
       → amount_of_item s.items channel asset place ≡ paid_of h channel asset place
+
+-- what a transfer and a claim pay, or the first refusal
+abbrev pub transfer_answer : Rules → Standing → TransferCall → Result Due Refusal
+transfer_answer r s k =
+    transfer r (row_or_blank (row_in s.rows k.channel)) s.now (amount_of_item s.items k.channel k.asset)
+    (amount_held s.funds k.channel k.asset) k.channel k.outcome k.asset k.index
+
+abbrev pub claim_answer : Rules → Standing → ClaimCall → Result Due Refusal
+claim_answer r s k =
+    claim r (row_or_blank (row_in s.rows k.guarantor)) (row_or_blank (row_in s.rows k.target)) s.now
+    (amount_of_item s.items k.target k.asset) (amount_held s.funds k.guarantor k.asset) k.guarantor k.guarantor_outcome
+    k.target k.target_outcome k.asset k.position
 
 -- The op is served: its answer is the reply that each history gives for which the adjudicator stood, it then stands for
 -- that history with the op's entry, and a refused op changes nothing.

@@ -1,27 +1,28 @@
 //! The adjudicator that serves one op after another.
 
-ghost use Rattle.std.specs.Prelude.{unwrap_or, ◌≡◌, ◌≤◌, ◌+◌, ◌<◌, ◌^◌, ◌∷◌, [], ℕ, List, OnOk, OnErr, IfOk};
+ghost use Rattle.std.specs.Prelude.{unwrap_or, ◌≡◌, ◌≤◌, ◌+◌, ◌<◌, ◌^◌, [], List, OnOk, OnErr, IfOk};
 ghost use Rattle.std.specs.Option.{option_map};
 ghost use Rattle.asset_holder.specs.Balances.{amount_held};
 ghost use Rattle.asset_holder.specs.Payments.{amount_of_item};
-ghost use Rattle.call_history.specs.History.{reply_to, row_given};
+ghost use Rattle.call_history.specs.History.{row_given};
 ghost use Rattle.call_history.specs.Refusing.{told};
-ghost use Rattle.call_history.specs.Replies as replies;
-ghost use Rattle.call_history.specs.Rows.{row_or_blank};
 ghost use Rattle.call_history.specs.declared.entry.Entry.{Entry};
 ghost use Rattle.support_rules.specs.Real.{real};
 ghost use Rattle.channel_values.specs.Support.{verified_marks};
 ghost use Rattle.adjudicator.specs.Values.{challenge_values, answer_values};
 ghost use Rattle.adjudicator.specs.Checked.{values_of, AreKnown};
-ghost use Rattle.adjudicator.specs.Standing.{row_in, StandsFor, AreBalancesOf, AreFinals, HasRoom, HasTurned, HasPaid, Serves};
+ghost use Rattle.adjudicator.specs.Standing.{StandsFor, AreBalancesOf, AreFinals, HasRoom, HasTurned, HasPaid, Serves, transfer_answer, claim_answer};
 
 use crate::answers::{to_challenge, to_checkpoint, to_conclude, to_refute, to_respond};
 use crate::checked::CheckedOp;
 use crate::ending::{ends_otherwise, is_unfinished};
 use crate::rows::Rows;
 use asset_holder::{Holdings, PaidItems, claim_due, transfer_due};
-use call_history::{Call, Due, Op, Refusal, Reply, Row};
-use channel_values::{Chain, Fixed, Name, NoMemory, Outcome, Signed, State, channel_name};
+use call_history::{
+    Call, ChallengeCall, ClaimCall, DepositCall, Due, Op, Refusal, Reply, RespondCall, Row,
+    TransferCall,
+};
+use channel_values::{Chain, Fixed, Name, NoMemory, Signed, channel_name};
 use std::alloc::Global;
 use std::marker::Model;
 
@@ -185,86 +186,49 @@ impl Adjudicator {
         ensures { Serves real self.old (Op.Call call.now) result self.new }
     {
         match call {
-            Call::Deposit {
-                channel,
-                asset,
-                expected,
-                amount,
-            } => self.deposit(*channel, *asset, *expected, *amount),
-            Call::Challenge {
-                chain,
-                challenger,
-                signature,
-            } => self.challenge(chain, *challenger, signature.as_slice(), verified),
-            Call::Respond { fixed, from, next } => self.respond(fixed, from, next, verified),
+            Call::Deposit(deposit) => self.deposit(deposit),
+            Call::Challenge(challenge) => self.challenge(challenge, verified),
+            Call::Respond(respond) => self.respond(respond, verified),
             Call::Refute { fixed, next } => self.refute(fixed, next, verified),
             Call::Checkpoint { chain } => self.checkpoint(chain, verified),
             Call::Conclude { chain } => self.conclude(chain, verified),
-            Call::Transfer {
-                channel,
-                outcome,
-                asset,
-                index,
-            } => self.transfer(channel, outcome, *asset, *index),
-            Call::Claim {
-                guarantor,
-                guarantor_outcome,
-                target,
-                target_outcome,
-                asset,
-                position,
-            } => self.claim(
-                guarantor,
-                guarantor_outcome,
-                target,
-                target_outcome,
-                *asset,
-                *position,
-            ),
+            Call::Transfer(transfer) => self.transfer(transfer),
+            Call::Claim(claim) => self.claim(claim),
         }
     }
 
-    fn deposit(&mut self, channel: Name, asset: u32, expected: u64, amount: u64) -> Reply
+    fn deposit(&mut self, call: &DepositCall) -> Reply
         requires { HasRoom self.old }
-        ensures { Serves real self.old (Op.Call (Call.Deposit channel asset expected amount)) result self.new }
+        ensures { Serves real self.old (Op.Call (Call.Deposit call.now)) result self.new }
     {
-        let answer = self.funds.deposit(channel, asset, expected, amount);
+        let answer = self
+            .funds
+            .deposit(call.channel, call.asset, call.expected, call.amount);
         held(answer)
     }
 
-    fn challenge(
-        &mut self,
-        chain: &Chain,
-        challenger: u8,
-        signature: &[u8],
-        verified: Option<&[bool]>,
-    ) -> Reply
+    fn challenge(&mut self, call: &ChallengeCall, verified: Option<&[bool]>) -> Reply
         requires room { HasRoom self.old }
-        requires known { AreKnown (challenge_values real chain.now challenger signature.now)
+        requires known { AreKnown (challenge_values real call.now.chain call.now.challenger call.now.signature)
             (option_map (λ m. m.now) verified) }
-        ensures { Serves real self.old (Op.Call (Call.Challenge chain.now challenger signature.now)) result self.new }
+        ensures { Serves real self.old (Op.Call (Call.Challenge call.now)) result self.new }
     {
-        let channel = channel_name(chain.fixed.bytes());
+        let channel = channel_name(call.chain.fixed.bytes());
         let row = self.rows.get(&channel);
-        let answer = to_challenge(row, self.time, chain, challenger, signature, verified);
+        let answer = to_challenge(row, self.time, call, verified);
         self.record(channel, answer);
         until(answer)
     }
 
-    fn respond(
-        &mut self,
-        fixed: &Fixed,
-        from: &State,
-        next: &Signed,
-        verified: Option<&[bool]>,
-    ) -> Reply
+    fn respond(&mut self, call: &RespondCall, verified: Option<&[bool]>) -> Reply
         requires room { HasRoom self.old }
-        requires known { AreKnown (answer_values real fixed.now next.now) (option_map (λ m. m.now) verified) }
-        ensures { Serves real self.old (Op.Call (Call.Respond fixed.now from.now next.now)) result self.new }
+        requires known { AreKnown (answer_values real call.now.fixed call.now.next)
+            (option_map (λ m. m.now) verified) }
+        ensures { Serves real self.old (Op.Call (Call.Respond call.now)) result self.new }
     {
-        let channel = channel_name(fixed.bytes());
+        let channel = channel_name(call.fixed.bytes());
         let row = self.rows.get(&channel);
-        let answer = to_respond(row, self.time, fixed, from, next, verified);
+        let answer = to_respond(row, self.time, call, verified);
         self.record(channel, answer);
         opened(answer)
     }
@@ -316,108 +280,79 @@ impl Adjudicator {
         }
     }
 
-    fn transfer(&mut self, channel: &Name, outcome: &Outcome, asset: u32, index: u8) -> Reply
+    fn transfer(&mut self, call: &TransferCall) -> Reply
         requires { HasRoom self.old }
-        ensures { Serves real self.old (Op.Call (Call.Transfer channel.now outcome.now asset index)) result self.new }
+        ensures { Serves real self.old (Op.Call (Call.Transfer call.now)) result self.new }
     {
-        let answer = self.transfer_due(channel, outcome, asset, index);
-        self.pay(*channel, *channel, asset, answer);
+        let answer = self.transfer_due(call);
+        self.pay(call.channel, call.channel, call.asset, answer);
         paid(answer)
     }
 
-    fn claim(
-        &mut self,
-        guarantor: &Name,
-        guarantor_outcome: &Outcome,
-        target: &Name,
-        target_outcome: &Outcome,
-        asset: u32,
-        position: u8,
-    ) -> Reply
+    fn claim(&mut self, call: &ClaimCall) -> Reply
         requires { HasRoom self.old }
-        ensures { Serves real self.old
-            (Op.Call (Call.Claim guarantor.now guarantor_outcome.now target.now target_outcome.now asset position))
-            result self.new }
+        ensures { Serves real self.old (Op.Call (Call.Claim call.now)) result self.new }
     {
-        let answer = self.claim_due(
-            guarantor,
-            guarantor_outcome,
-            target,
-            target_outcome,
-            asset,
-            position,
-        );
-        self.pay(*guarantor, *target, asset, answer);
+        let answer = self.claim_due(call);
+        self.pay(call.guarantor, call.target, call.asset, answer);
         paid(answer)
     }
 
     /// What a transfer pays, or the first refusal.
-    fn transfer_due(
-        &self,
-        channel: &Name,
-        outcome: &Outcome,
-        asset: u32,
-        index: u8,
-    ) -> Result<Due, Refusal>
-        ensures answer { result ≡ replies.transfer real (row_or_blank (row_in self.now.rows channel.now)) self.now.now
-            (amount_of_item self.now.items channel.now asset) (amount_held self.now.funds channel.now asset)
-            channel.now outcome.now asset index }
-        ensures held { IfOk result (λ due. due.amount ≤ amount_held self.now.funds channel.now asset) }
+    fn transfer_due(&self, call: &TransferCall) -> Result<Due, Refusal>
+        ensures answer { result ≡ transfer_answer real self.now call.now }
+        ensures held { IfOk result (λ due. due.amount ≤ amount_held self.now.funds call.now.channel call.now.asset) }
         ensures fits { IfOk result
-            (λ due. amount_of_item self.now.items channel.now asset due.place + due.amount < 2 ^ 64) }
+            (λ due. amount_of_item self.now.items call.now.channel call.now.asset due.place + due.amount < 2 ^ 64) }
     {
-        let row = self.rows.get(channel);
+        let row = self.rows.get(&call.channel);
         if is_unfinished(row, self.time) {
-            return Err(Refusal::NotFinal(*channel));
+            return Err(Refusal::NotFinal(call.channel));
         }
-        if ends_otherwise(row, outcome) {
-            return Err(Refusal::WrongOutcome(*channel));
+        if ends_otherwise(row, &call.outcome) {
+            return Err(Refusal::WrongOutcome(call.channel));
         }
-        let held = self.funds.held(channel, asset);
-        transfer_due(&self.items, held, channel, outcome, asset, index)
+        let held = self.funds.held(&call.channel, call.asset);
+        transfer_due(
+            &self.items,
+            held,
+            &call.channel,
+            &call.outcome,
+            call.asset,
+            call.index,
+        )
     }
 
     /// What a claim pays, or the first refusal.
-    fn claim_due(
-        &self,
-        guarantor: &Name,
-        guarantor_outcome: &Outcome,
-        target: &Name,
-        target_outcome: &Outcome,
-        asset: u32,
-        position: u8,
-    ) -> Result<Due, Refusal>
-        ensures answer { result ≡ replies.claim real (row_or_blank (row_in self.now.rows guarantor.now))
-            (row_or_blank (row_in self.now.rows target.now)) self.now.now
-            (amount_of_item self.now.items target.now asset) (amount_held self.now.funds guarantor.now asset)
-            guarantor.now guarantor_outcome.now target.now target_outcome.now asset position }
-        ensures held { IfOk result (λ due. due.amount ≤ amount_held self.now.funds guarantor.now asset) }
+    fn claim_due(&self, call: &ClaimCall) -> Result<Due, Refusal>
+        ensures answer { result ≡ claim_answer real self.now call.now }
+        ensures held { IfOk result (λ due. due.amount ≤ amount_held self.now.funds call.now.guarantor call.now.asset) }
         ensures fits { IfOk result
-            (λ due. amount_of_item self.now.items target.now asset due.place + due.amount < 2 ^ 64) }
+            (λ due. amount_of_item self.now.items call.now.target call.now.asset due.place + due.amount < 2 ^ 64) }
     {
-        let row = self.rows.get(guarantor);
-        let target_row = self.rows.get(target);
+        let row = self.rows.get(&call.guarantor);
+        let target_row = self.rows.get(&call.target);
         if is_unfinished(row, self.time) {
-            return Err(Refusal::NotFinal(*guarantor));
+            return Err(Refusal::NotFinal(call.guarantor));
         }
         if is_unfinished(target_row, self.time) {
-            return Err(Refusal::NotFinal(*target));
+            return Err(Refusal::NotFinal(call.target));
         }
-        if ends_otherwise(row, guarantor_outcome) {
-            return Err(Refusal::WrongOutcome(*guarantor));
+        if ends_otherwise(row, &call.guarantor_outcome) {
+            return Err(Refusal::WrongOutcome(call.guarantor));
         }
-        if ends_otherwise(target_row, target_outcome) {
-            return Err(Refusal::WrongOutcome(*target));
+        if ends_otherwise(target_row, &call.target_outcome) {
+            return Err(Refusal::WrongOutcome(call.target));
         }
-        let held = self.funds.held(guarantor, asset);
+        let held = self.funds.held(&call.guarantor, call.asset);
         claim_due(
             &self.items,
             held,
-            guarantor_outcome,
-            target,
-            target_outcome,
-            asset,
-            position,
+            &call.guarantor_outcome,
+            &call.target,
+            &call.target_outcome,
+            call.asset,
+            call.position,
         )
     }
 

@@ -1,4 +1,4 @@
-//! What the calls on a channel's row answer. Their signatures are verified, unless that was done and `verified` tells
+//! What the calls on a channel's row answer. Their signatures are verified, unless that was done and `verified` says
 //! which of them do.
 
 ghost use Rattle.std.specs.Prelude.{◌≡◌, ◌≤◌, ◌<◌, ◌^◌, IfOk};
@@ -13,48 +13,46 @@ ghost use Rattle.adjudicator.specs.Checked.{AreKnown};
 use crate::challenge_answers::{refute, refute_with, respond, respond_with};
 use crate::opening::{challenge, challenge_with};
 use crate::supported::{checkpoint, checkpoint_with, conclude, conclude_with};
-use call_history::{Refusal, Row};
-use channel_values::{Chain, Fixed, Signed, State};
+use call_history::{ChallengeCall, Refusal, RespondCall, Row};
+use channel_values::{Chain, Fixed, Signed};
 
 #[tactic(auto, using(crate::proofs::Checking::one_more))]
 pub(crate) fn to_challenge(
     row: Option<&Row>,
     now: u64,
-    chain: &Chain,
-    challenger: u8,
-    signature: &[u8],
+    call: &ChallengeCall,
     verified: Option<&[bool]>,
 ) -> Result<Row, Refusal>
     requires soon { now ≤ 2 ^ 62 }
-    requires known { AreKnown (challenge_values real chain.now challenger signature.now)
+    requires known { AreKnown (challenge_values real call.now.chain call.now.challenger call.now.signature)
         (option_map (λ m. m.now) verified) }
     ensures answer { result ≡ replies.challenge real (row_or_blank (option_map (λ m. m.now) row.entry)) now
-        chain.now challenger signature.now }
+        call.now.chain call.now.challenger call.now.signature }
     ensures small { IfOk result (λ new. new.turn < 2 ^ 48) }
 {
+    let chain = &call.chain;
+    let signature = call.signature.as_slice();
     match verified {
-        Some(verified) => challenge_with(row, now, chain, challenger, signature, verified),
-        None => challenge(row, now, chain, challenger, signature),
+        Some(verified) => challenge_with(row, now, chain, call.challenger, signature, verified),
+        None => challenge(row, now, chain, call.challenger, signature),
     }
 }
 
 pub(crate) fn to_respond(
     row: Option<&Row>,
     now: u64,
-    fixed: &Fixed,
-    from: &State,
-    next: &Signed,
+    call: &RespondCall,
     verified: Option<&[bool]>,
 ) -> Result<Row, Refusal>
     requires small { (row_or_blank (option_map (λ m. m.now) row)).turn < 2 ^ 48 }
-    requires known { AreKnown (answer_values real fixed.now next.now) (option_map (λ m. m.now) verified) }
+    requires known { AreKnown (answer_values real call.now.fixed call.now.next) (option_map (λ m. m.now) verified) }
     ensures answer { result ≡ replies.respond real (row_or_blank (option_map (λ m. m.now) row.entry)) now
-        fixed.now from.now next.now }
+        call.now.fixed call.now.from call.now.next }
     ensures small { IfOk result (λ new. new.turn < 2 ^ 48) }
 {
     match verified {
-        Some(verified) => respond_with(row, now, fixed, from, next, verified),
-        None => respond(row, now, fixed, from, next),
+        Some(verified) => respond_with(row, now, &call.fixed, &call.from, &call.next, verified),
+        None => respond(row, now, &call.fixed, &call.from, &call.next),
     }
 }
 

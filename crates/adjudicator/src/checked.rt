@@ -45,25 +45,25 @@ fn check<R: Threads + Sync>(rt: &R, alloc: Global, op: &Op) -> Result<Vec<bool>,
     ensures { IfOk result (λ v. v.items ≡ values_of real op.now) }
 {
     match op {
-        Op::Call(
-            Call::Challenge {
-                chain,
-                challenger,
-                signature,
-            },
-        ) => {
-            let mut verified = check_signatures(rt, alloc, chain)?;
-            let signed = is_challenge_signed(chain, *challenger, signature.as_slice());
+        Op::Call(Call::Challenge(challenge)) => {
+            let mut verified = check_signatures(rt, alloc, &challenge.chain)?;
+            let signed = is_challenge_signed(
+                &challenge.chain,
+                challenge.challenger,
+                challenge.signature.as_slice(),
+            );
             verified.push(signed)?;
             Ok(verified)
         }
-        Op::Call(Call::Respond { fixed, next, .. }) => one(alloc, is_signed_well(fixed, next)),
+        Op::Call(Call::Respond(respond)) => {
+            one(alloc, is_signed_well(&respond.fixed, &respond.next))
+        }
         Op::Call(Call::Refute { fixed, next }) => one(alloc, is_signed_well(fixed, next)),
         Op::Call(Call::Checkpoint { chain }) => check_signatures(rt, alloc, chain),
         Op::Call(Call::Conclude { chain }) => check_signatures(rt, alloc, chain),
-        Op::Call(Call::Deposit { .. }) => Ok(Vec::new(alloc)),
-        Op::Call(Call::Transfer { .. }) => Ok(Vec::new(alloc)),
-        Op::Call(Call::Claim { .. }) => Ok(Vec::new(alloc)),
+        Op::Call(Call::Deposit(_)) => Ok(Vec::new(alloc)),
+        Op::Call(Call::Transfer(_)) => Ok(Vec::new(alloc)),
+        Op::Call(Call::Claim(_)) => Ok(Vec::new(alloc)),
         Op::Time(_) => Ok(Vec::new(alloc)),
     }
 }

@@ -2,11 +2,11 @@
 
 use crate::adjudicator::Adjudicator;
 use crate::checked::CheckedOp;
-use call_history::{Entry, Op, Reply, copy_entry};
+use call_history::{Entry, Op, Reply};
 use shared_object::OneThread;
 
 impl OneThread for Adjudicator {
-    ghost use Rattle.std.specs.Prelude.{ℕ, List, refl};
+    ghost use Rattle.std.specs.Prelude.{refl};
     ghost use Rattle.call_history.specs.History.{newest_first};
     ghost use Rattle.support_rules.specs.Real.{real};
     ghost use Rattle.adjudicator.specs.Standing.{StandsFor};
@@ -60,7 +60,7 @@ impl OneThread for Adjudicator {
     }
 
     fn copy(entry: &Entry) -> Result<Entry, shared_object::NoMemory> {
-        match copy_entry(entry) {
+        match entry.copy() {
             Ok(copy) => Ok(copy),
             Err(_) => Err(shared_object::NoMemory),
         }

@@ -1,7 +1,7 @@
 //! Challenges with wrong chains: what they answer, and what they answer once their signatures were checked.
 
 use adjudicator::{Adjudicator, CheckedOp};
-use call_history::{Call, Op, Refusal, Reply};
+use call_history::{Call, ChallengeCall, Op, Refusal, Reply};
 use channel_values::{
     AssetOutcome, Chain, Dest, Fixed, Item, Listed, Mark, Outcome, Shape, State, StepFault,
     SupportFault,
@@ -52,11 +52,11 @@ fn challenge(alloc: Global, parts: &[(u64, u64)]) -> Result<Op, Fail> {
         states: Listed::make(states),
         marks: Listed::make(marks),
     };
-    Ok(Op::Call(Call::Challenge {
+    Ok(Op::Call(Call::Challenge(ChallengeCall {
         chain,
         challenger: 0,
         signature: Listed::make(Vec::new(alloc)),
-    }))
+    })))
 }
 
 /// The reply to the challenge.

@@ -5,4 +5,5 @@ use Rattle.channel_values.specs.Places.{no_item, amount_at}
 
 abbrev pub lowered : List Item → ℕ → ℕ → List Item
 lowered items index amount =
-    slice_set items index (record { to = (slice_index_or items index no_item).to; amount = amount_at items index - amount })
+    slice_set items index
+    (record { to = (slice_index_or items index no_item).to; amount = amount_at items index - amount })

@@ -33,7 +33,8 @@ abbrev pub AreSmall : List Flow → Type 0
 AreSmall flows = sum_by (λ flow. flow.amount) flows ≤ 18446744073709551615 * length flows
 
 -- what was received: who received it, by channel and by person, and by all persons
-pub record AreReceipts (flows : List Flow) (pairs : List Pair) (channels persons : List (Key × ℕ)) (paid : List (ℕ × ℕ)) : Type 0 where
+pub record AreReceipts (flows : List Flow) (pairs : List Pair) (channels persons : List (Key × ℕ))
+    (paid : List (ℕ × ℕ)) : Type 0 where
   pub pairs_are : pairs ≡ receivers_of flows
   pub to_channels : (k : Key) → amount_in same_key channels k ≡ into flows (Channel k.0) k.1
   pub to_persons : (k : Key) → amount_in same_key persons k ≡ into flows (Person k.0) k.1

@@ -120,7 +120,7 @@ impl Holdings {
         ensures value { result ≡ amount_deposited self.now asset }
         ensures conserved { AreConserved self.now }
     {
-        // That a map's keys are distinct, its length tells.
+        // That a map's keys are distinct, its length says.
         let _held = self.held.len();
         let _paid = self.paid.len();
         amount(&self.deposited, &asset)

@@ -1,4 +1,4 @@
--- What a sink is to a run: the bytes that it holds, where it tells them.
+-- What a sink is to a run: the bytes that it holds, where it shows them.
 use Rattle.std.specs.Prelude.{◌≡◌, ◌≤◌, ◌<◌, ℕ, List, ◌++◌, length, take, Option}
 use Rattle.std.specs.Io.KnownBytes.{Keeps, Appends}
 use Rattle.byte_streams.specs.declared.sink.Gave.{Gave}

@@ -1,4 +1,4 @@
--- What a source is to a reader: the bytes that are left, where it tells them, and a count of faults.
+-- What a source is to a reader: the bytes that are left, where it shows them, and a count of faults.
 use Rattle.std.specs.Prelude.{◌≡◌, ◌≤◌, ◌<◌, ◌+◌, ◌-◌, ◌^◌, ℕ, min, List, length, take, Option}
 use Rattle.std.specs.Io.KnownBytes.{Keeps, Consumes, IsAtEnd}
 use Rattle.byte_streams.specs.declared.source.Took.{Took}

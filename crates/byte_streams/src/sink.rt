@@ -17,7 +17,7 @@ pub enum Gave {
 
 /// Where bytes go.
 pub trait Sink {
-    /// The bytes that were put, where the sink tells them.
+    /// The bytes that were written, where the sink shows them.
     ghost held: { Self → Option (List ℕ) };
 
     /// How often it has failed.
@@ -45,7 +45,7 @@ impl fmt::Display for SinkFailed {
 
 impl Error for SinkFailed {}
 
-/// Puts the text piece by piece.
+/// Writes the text piece by piece.
 pub fn put_all<K: Sink>(sink: &mut K, text: &[u8]) -> Result<(), SinkFailed>
     ensures ok { OnOk result (Appends (K.held sink.old) (K.held sink.new) text.now) }
     ensures part { OnErr result (AppendsPart (K.held sink.old) (K.held sink.new) text.now) }

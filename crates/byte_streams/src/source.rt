@@ -22,7 +22,7 @@ pub enum Took {
 
 /// Where bytes come from.
 pub trait Source {
-    /// The bytes that are left, where the source tells them.
+    /// The bytes that are left, where the source shows them.
     ghost remaining: { Self → Option (List ℕ) };
 
     /// How often it has failed.
@@ -83,7 +83,7 @@ pub fn read_all<S: Source>(alloc: Global, source: &mut S) -> Result<Vec<u8>, Rea
     ensures too_long { IsErrOf result ReadEnd.TooLong → (taken : List ℕ)
         × Consumes (S.remaining source.old) (S.remaining source.new) taken × (READ_LIMIT < length taken) }
 
-    // For want of memory the source is somewhere behind its start.
+    // For want of memory the source is somewhere past its start.
     ensures no_memory { IsErrOf result ReadEnd.NoMemory → (taken : List ℕ)
         × Consumes (S.remaining source.old) (S.remaining source.new) taken }
 {

@@ -3,8 +3,8 @@
 use crate::source::{Source, Took};
 use std::io::Read;
 
-/// A reader of the system, with a count of its faults. It tells the bytes that its reader tells:
-/// standard input tells none.
+/// A reader of the system, with a count of its faults. It shows the bytes that its reader shows:
+/// standard input shows none.
 #[derive(Drop)]
 pub struct StdSource<R: Read + Drop> {
     pub reader: R,

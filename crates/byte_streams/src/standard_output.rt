@@ -3,8 +3,8 @@
 use crate::sink::{Gave, Sink};
 use std::io::Write;
 
-/// A writer of the system, with a count of its faults. It tells the bytes that its writer tells:
-/// standard output tells none.
+/// A writer of the system, with a count of its faults. It shows the bytes that its writer shows:
+/// standard output shows none.
 #[derive(Drop)]
 pub struct StdSink<W: Write + Drop> {
     pub writer: W,

@@ -8,7 +8,7 @@ use crate::sink::{Gave, Sink};
 use channel_values::NoMemory;
 use std::alloc::Global;
 
-/// Takes all bytes, keeps none and tells none.
+/// Takes all bytes, keeps none and shows none.
 #[derive(Drop)]
 pub struct CalmSink;
 

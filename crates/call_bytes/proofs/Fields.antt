@@ -1,20 +1,20 @@
--- What is read behind a tag, and what a number stands for.
-use Rattle.std.proofs.Common.{◌≡◌, ℕ, Bool, true, cond, eqb, List, [], ◌∷◌, Option, Some, None, Result, Ok, sym, ap, subst, ◌∙◌, inl, inr}
+-- What is read after a tag, and what a number stands for.
+use Rattle.std.proofs.Common.{◌≡◌, ℕ, true, cond, eqb, List, [], ◌∷◌, Option, Some, None, Ok, sym, ap, subst, ◌∙◌, inl, inr}
 use Rattle.std.proofs.lemmas.Bool.{eqb-true}
 use Rattle.channel_values.proofs.Fields.{ok_is, Takes}
 use Rattle.channel_values.proofs.Takes.{chosen}
 use Rattle.call_bytes.specs.Reading.{or_bad}
 
--- a tag that was read, with what was read behind it
+-- a tag that was read, with what was read after it
 pub tagged : (tag : ℕ) (bytes text rest : List ℕ) → Takes bytes text rest → Takes (tag ∷ bytes) (tag ∷ text) rest
 tagged tag bytes text rest t = record { parts = ap (λ (w : List ℕ). tag ∷ w) t.parts; rest_fits = t.rest_fits }
 
--- what is taken behind a tag that is known by a test
+-- what is taken after a tag that is known by a test
 pub behind : {X : Type 0} (spell : X → List ℕ) (Is : X → Type 0) (tag known : ℕ) (bytes : List ℕ) (x : X × List ℕ) → eqb tag known ≡ true
     → Takes (known ∷ bytes) (spell x.0) x.1 × Is x.0 → Takes (tag ∷ bytes) (spell x.0) x.1 × Is x.0
 behind spell Is tag known bytes x e t = subst (λ (k : ℕ). Takes (k ∷ bytes) (spell x.0) x.1 × Is x.0) (sym (eqb-true tag known e)) t
 
--- behind a byte that was taken
+-- after a byte that was taken
 pub after_byte : (bytes text after rest : List ℕ) (tag : ℕ) → Takes bytes (tag ∷ []) after → Takes (tag ∷ after) text rest → Takes bytes text rest
 after_byte bytes text after rest tag first then = record { parts = first.parts ∙ then.parts; rest_fits = then.rest_fits }
 

@@ -1,7 +1,7 @@
 -- Replies: what is read is spelled so and fits, and what is spelled is read.
-use Rattle.std.proofs.Common.{◌≡◌, ℕ, ◌^◌, ◌<◌, ◌≤◌, ◌-◌, ◌&&◌, ◌||◌, not, Bool, true, false, cond, eqb, ltb, List, [], ◌∷◌, ◌++◌, length, Option, Some, None, Result, Ok, Err, refl, sym, ap, subst, ◌∙◌, append_assoc, arith, lit<, inl, inr, ◌↔◌}
+use Rattle.std.proofs.Common.{◌≡◌, ℕ, ◌^◌, ◌<◌, ◌-◌, ◌&&◌, ◌||◌, not, Bool, true, false, eqb, ltb, List, [], ◌∷◌, ◌++◌, length, Option, Some, None, Result, Ok, refl, sym, ap, subst, ◌∙◌, append_assoc, lit<, inl, inr, ◌↔◌}
 use Rattle.std.proofs.lemmas.Bool.{eqb-true}
-use Rattle.std.specs.Int.{w64, to_be_bytes}
+use Rattle.std.specs.Int.{w64}
 use Rattle.std.specs.Prelude.{is_some}
 use Rattle.channel_values.specs.declared.fault.ByteFault.{ByteFault}
 use Rattle.channel_values.specs.declared.fault.StepFault.{StepFault}
@@ -20,7 +20,7 @@ use Rattle.call_history.specs.declared.refusal.Reply.{Reply}
 use Rattle.call_history.specs.declared.refusal.Reply.TheVariants.{Held, Until, Opened, Concluded, Paid, Now, No}
 use Rattle.call_bytes.specs.Numbers.{step_number, step_of, bare_of, stepping_of, support_of, plain_of, numbered_of, named_of, accepted_of}
 use Rattle.call_bytes.specs.Spelling.{long, support, refusal, reply}
-use Rattle.call_bytes.specs.Limits.{IsLong, IsSupportFault, IsRefusal, IsReply}
+use Rattle.call_bytes.specs.Limits.{IsSupportFault, IsRefusal, IsReply}
 use Rattle.call_bytes.specs.Reading.{or_bad, step_at, support_at, unsupported_at, bad_step_at, numbered_at, named_at, kept_at, refusal_at, refused_at, accepted_at, told_at, reply_at}
 use Rattle.call_bytes.proofs.Fields.{tagged, behind, after_byte, or_bad_ok, some_is, none_is, pick}
 
@@ -66,7 +66,7 @@ step_read whole f rest = rw (step_again f) refl
 
 -- ---- faults of chains
 
--- what a fault is spelled as, behind a tag, a place and a step's number
+-- what a fault is spelled as, after a tag, a place and a step's number
 abbrev SupportIs : (place step : ℕ) → ℕ → SupportFault → Type 0
 SupportIs place step tag f = ((eqb tag 1 && not (eqb place 0)) ≡ false) → (support f ≡ tag ∷ (long place ++ (step ∷ []))) × IsSupportFault f
 

@@ -1,6 +1,5 @@
 -- The numbers by which replies, refusals and faults are told apart.
 use Rattle.std.specs.Prelude.{ℕ, ◌==◌, List, Option, Some, None, if◌then◌else◌}
-use Rattle.std.specs.Option.{option_map}
 use Rattle.channel_values.specs.declared.fault.StepFault.{StepFault}
 use Rattle.channel_values.specs.declared.fault.StepFault.TheVariants as steps
 use Rattle.channel_values.specs.declared.fault.SupportFault.{SupportFault}

@@ -12,7 +12,7 @@ use Rattle.call_history.specs.declared.refusal.Reply.{Reply}
 use Rattle.call_history.specs.declared.refusal.Reply.TheVariants.{No}
 use Rattle.call_bytes.specs.Numbers.{step_of, support_of, plain_of, numbered_of, named_of, accepted_of}
 
--- what a number stands for, if it stands for something, with the bytes behind it
+-- what a number stands for, if it stands for something, with the bytes after it
 abbrev pub or_bad : {A : Type 0} → (place : ℕ) → Option A → List ℕ → Result (A × List ℕ) ByteFault
 or_bad place None rest = Err (faults.BadTag place)
 or_bad place (Some x) rest = Ok (x, rest)
@@ -54,7 +54,7 @@ named_at whole place tag bytes = do
   name ← name_at whole bytes
   or_bad place (named_of tag name.0) name.1
 
--- what a refusal keeps, behind a tag that stands at a place
+-- what a refusal keeps, after a tag that stands at a place
 abbrev pub kept_at : (whole place tag : ℕ) → List ℕ → Result (Refusal × List ℕ) ByteFault
 kept_at whole place tag bytes =
     if tag == 2 then unsupported_at whole bytes

@@ -7,7 +7,7 @@ ghost use Rattle.call_history.specs.Limits.{IsCall, IsMessage, KeepsCall};
 ghost use Rattle.call_history.specs.Reading.{deposit_at, challenge_at, respond_at, refute_at, checkpoint_at, conclude_at, transfer_at, claim_at, call_at, message_at, call_of, message_of};
 ghost use Rattle.call_history.specs.declared.call.Call.{Call as AnyCall};
 
-use call_history::Call;
+use call_history::{Call, ChallengeCall, ClaimCall, DepositCall, RespondCall, TransferCall};
 use channel_values::{
     ByteFault, Name, Signed, ended, place_of, take_byte, take_chain, take_fixed, take_name,
     take_outcome, take_signature, take_signed, take_state, take_u32, take_u64,
@@ -22,13 +22,13 @@ fn take_deposit(whole: usize, bytes: &[u8]) -> Result<(Call, &[u8]), ByteFault>
     let (asset, rest) = take_u32(whole, rest)?;
     let (expected, rest) = take_u64(whole, rest)?;
     let (amount, rest) = take_u64(whole, rest)?;
-    let call = Call::Deposit {
+    let deposit = DepositCall {
         channel,
         asset,
         expected,
         amount,
     };
-    Ok((call, rest))
+    Ok((Call::Deposit(deposit), rest))
 }
 
 #[tactic(auto, unfolding(call_history::specs::Reading::challenge_at))]
@@ -38,12 +38,12 @@ fn take_challenge(alloc: Global, whole: usize, bytes: &[u8]) -> Result<(Call, &[
     let (chain, rest) = take_chain(alloc, whole, bytes)?;
     let (challenger, rest) = take_byte(whole, rest)?;
     let (signature, rest) = take_signature(alloc, whole, rest)?;
-    let call = Call::Challenge {
+    let challenge = ChallengeCall {
         chain,
         challenger,
         signature,
     };
-    Ok((call, rest))
+    Ok((Call::Challenge(challenge), rest))
 }
 
 #[tactic(auto, unfolding(call_history::specs::Reading::respond_at))]
@@ -53,7 +53,8 @@ fn take_respond(alloc: Global, whole: usize, bytes: &[u8]) -> Result<(Call, &[u8
     let (fixed, rest) = take_fixed(alloc, whole, bytes)?;
     let (from, rest) = take_state(alloc, whole, rest)?;
     let (next, rest) = take_signed(alloc, whole, rest)?;
-    Ok((Call::Respond { fixed, from, next }, rest))
+    let respond = RespondCall { fixed, from, next };
+    Ok((Call::Respond(respond), rest))
 }
 
 #[tactic(auto, unfolding(call_history::specs::Reading::refute_at))]
@@ -89,13 +90,13 @@ fn take_transfer(alloc: Global, whole: usize, bytes: &[u8]) -> Result<(Call, &[u
     let (outcome, rest) = take_outcome(alloc, whole, rest)?;
     let (asset, rest) = take_u32(whole, rest)?;
     let (index, rest) = take_byte(whole, rest)?;
-    let call = Call::Transfer {
+    let transfer = TransferCall {
         channel,
         outcome,
         asset,
         index,
     };
-    Ok((call, rest))
+    Ok((Call::Transfer(transfer), rest))
 }
 
 #[tactic(auto, unfolding(call_history::specs::Reading::claim_at))]
@@ -108,7 +109,7 @@ fn take_claim(alloc: Global, whole: usize, bytes: &[u8]) -> Result<(Call, &[u8])
     let (target_outcome, rest) = take_outcome(alloc, whole, rest)?;
     let (asset, rest) = take_u32(whole, rest)?;
     let (position, rest) = take_byte(whole, rest)?;
-    let call = Call::Claim {
+    let claim = ClaimCall {
         guarantor,
         guarantor_outcome,
         target,
@@ -116,7 +117,7 @@ fn take_claim(alloc: Global, whole: usize, bytes: &[u8]) -> Result<(Call, &[u8])
         asset,
         position,
     };
-    Ok((call, rest))
+    Ok((Call::Claim(claim), rest))
 }
 
 /// A call, and the bytes after it; a fault's place is counted in `whole` bytes, of which `bytes` are the last.

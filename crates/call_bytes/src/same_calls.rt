@@ -6,7 +6,7 @@ ghost use Rattle.std.specs.Str.{bytes_eq};
 ghost use Rattle.call_history.specs.Same as same;
 ghost use Rattle.call_history.specs.declared.call.Call.TheVariants as calls;
 
-use call_history::{Call, Op};
+use call_history::{Call, ChallengeCall, ClaimCall, DepositCall, Op, RespondCall, TransferCall};
 use channel_values::{Chain, Fixed, Mark, Name, Outcome, Signed, State};
 
 fn same_fixed(a: &Fixed, b: &Fixed) -> bool
@@ -71,42 +71,42 @@ fn same_chain(a: &Chain, b: &Chain) -> bool
         && same_marks(a.marks.as_slice(), b.marks.as_slice())
 }
 
-fn is_deposit(call: &Call, channel: &Name, asset: u32, expected: u64, amount: u64) -> bool
-    ensures { result ≡ same.same_call (calls.Deposit channel.now asset expected amount) call.now }
+fn is_deposit(call: &Call, deposit: &DepositCall) -> bool
+    ensures { result ≡ same.same_call (calls.Deposit deposit.now) call.now }
 {
     match call {
-        Call::Deposit {
-            channel: name,
-            asset: of,
-            expected: least,
-            amount: brought,
-        } => *channel == *name && asset == *of && expected == *least && amount == *brought,
+        Call::Deposit(other) => {
+            deposit.channel == other.channel
+                && deposit.asset == other.asset
+                && deposit.expected == other.expected
+                && deposit.amount == other.amount
+        }
         _ => false,
     }
 }
 
-fn is_challenge(call: &Call, chain: &Chain, challenger: u8, signature: &[u8]) -> bool
-    ensures { result ≡ same.same_call (calls.Challenge chain.now challenger signature.now) call.now }
+fn is_challenge(call: &Call, challenge: &ChallengeCall) -> bool
+    ensures { result ≡ same.same_call (calls.Challenge challenge.now) call.now }
 {
     match call {
-        Call::Challenge {
-            chain: other,
-            challenger: by,
-            signature: own,
-        } => same_chain(chain, other) && challenger == *by && signature == own.as_slice(),
+        Call::Challenge(other) => {
+            same_chain(&challenge.chain, &other.chain)
+                && challenge.challenger == other.challenger
+                && challenge.signature.as_slice() == other.signature.as_slice()
+        }
         _ => false,
     }
 }
 
-fn is_respond(call: &Call, fixed: &Fixed, from: &State, next: &Signed) -> bool
-    ensures { result ≡ same.same_call (calls.Respond fixed.now from.now next.now) call.now }
+fn is_respond(call: &Call, respond: &RespondCall) -> bool
+    ensures { result ≡ same.same_call (calls.Respond respond.now) call.now }
 {
     match call {
-        Call::Respond {
-            fixed: other,
-            from: start,
-            next: end,
-        } => same_fixed(fixed, other) && same_state(from, start) && same_signed(next, end),
+        Call::Respond(other) => {
+            same_fixed(&respond.fixed, &other.fixed)
+                && same_state(&respond.from, &other.from)
+                && same_signed(&respond.next, &other.next)
+        }
         _ => false,
     }
 }
@@ -148,47 +148,38 @@ fn same_ending(a: &Name, outcome: &Outcome, b: &Name, other: &Outcome) -> bool
     *a == *b && same_outcome(outcome, other)
 }
 
-fn is_transfer(call: &Call, channel: &Name, outcome: &Outcome, asset: u32, index: u8) -> bool
-    ensures { result ≡ same.same_call (calls.Transfer channel.now outcome.now asset index) call.now }
+fn is_transfer(call: &Call, transfer: &TransferCall) -> bool
+    ensures { result ≡ same.same_call (calls.Transfer transfer.now) call.now }
 {
     match call {
-        Call::Transfer {
-            channel: name,
-            outcome: other,
-            asset: of,
-            index: place,
-        } => *channel == *name && same_outcome(outcome, other) && asset == *of && index == *place,
+        Call::Transfer(other) => {
+            transfer.channel == other.channel
+                && same_outcome(&transfer.outcome, &other.outcome)
+                && transfer.asset == other.asset
+                && transfer.index == other.index
+        }
         _ => false,
     }
 }
 
-/// The guarantor and the target come each with the outcome that it ended with.
-fn is_claim(
-    call: &Call,
-    guarantor: (&Name, &Outcome),
-    target: (&Name, &Outcome),
-    asset: u32,
-    position: u8,
-) -> bool
-    ensures { result
-        ≡ same.same_call
-        (calls.Claim guarantor.entry.0.now guarantor.entry.1.now target.entry.0.now target.entry.1.now asset position)
-        call.now }
+fn same_claim(a: &ClaimCall, b: &ClaimCall) -> bool
+    ensures { result ≡ same.same_call (calls.Claim a.now) (calls.Claim b.now) }
+{
+    same_ending(
+        &a.guarantor,
+        &a.guarantor_outcome,
+        &b.guarantor,
+        &b.guarantor_outcome,
+    ) && same_ending(&a.target, &a.target_outcome, &b.target, &b.target_outcome)
+        && a.asset == b.asset
+        && a.position == b.position
+}
+
+fn is_claim(call: &Call, claim: &ClaimCall) -> bool
+    ensures { result ≡ same.same_call (calls.Claim claim.now) call.now }
 {
     match call {
-        Call::Claim {
-            guarantor: payer,
-            guarantor_outcome: promise,
-            target: owner,
-            target_outcome: outcome,
-            asset: of,
-            position: place,
-        } => {
-            same_ending(guarantor.0, guarantor.1, payer, promise)
-                && same_ending(target.0, target.1, owner, outcome)
-                && asset == *of
-                && position == *place
-        }
+        Call::Claim(other) => same_claim(claim, other),
         _ => false,
     }
 }
@@ -198,41 +189,14 @@ pub fn same_call(a: &Call, b: &Call) -> bool
     ensures { result ≡ same.same_call a.now b.now }
 {
     match a {
-        Call::Deposit {
-            channel,
-            asset,
-            expected,
-            amount,
-        } => is_deposit(b, channel, *asset, *expected, *amount),
-        Call::Challenge {
-            chain,
-            challenger,
-            signature,
-        } => is_challenge(b, chain, *challenger, signature.as_slice()),
-        Call::Respond { fixed, from, next } => is_respond(b, fixed, from, next),
+        Call::Deposit(deposit) => is_deposit(b, deposit),
+        Call::Challenge(challenge) => is_challenge(b, challenge),
+        Call::Respond(respond) => is_respond(b, respond),
         Call::Refute { fixed, next } => is_refute(b, fixed, next),
         Call::Checkpoint { chain } => is_checkpoint(b, chain),
         Call::Conclude { chain } => is_conclude(b, chain),
-        Call::Transfer {
-            channel,
-            outcome,
-            asset,
-            index,
-        } => is_transfer(b, channel, outcome, *asset, *index),
-        Call::Claim {
-            guarantor,
-            guarantor_outcome,
-            target,
-            target_outcome,
-            asset,
-            position,
-        } => is_claim(
-            b,
-            (guarantor, guarantor_outcome),
-            (target, target_outcome),
-            *asset,
-            *position,
-        ),
+        Call::Transfer(transfer) => is_transfer(b, transfer),
+        Call::Claim(claim) => is_claim(b, claim),
     }
 }
 

@@ -1,18 +1,18 @@
 //! The canonical bytes of calls and messages.
 
-ghost use Rattle.std.specs.Prelude.{◌≡◌, ◌≤◌, ◌++◌, ◌∷◌, [], length, OnOk, OnErr};
+ghost use Rattle.std.specs.Prelude.{◌≡◌, ◌++◌, ◌∷◌, [], OnOk, OnErr};
 ghost use Rattle.std.specs.Int.{w32, w64, to_be_bytes};
-ghost use Rattle.channel_values.specs.Outcomes.{AreBytes, IsName, IsOutcome};
-ghost use Rattle.channel_values.specs.Parts.{IsFixed, IsState};
+ghost use Rattle.channel_values.specs.Outcomes.{IsName, IsOutcome};
+ghost use Rattle.channel_values.specs.Parts.{IsFixed};
 ghost use Rattle.channel_values.specs.Chains.{IsSigned, IsChain, KeepsLimits};
-ghost use Rattle.channel_values.specs.Spelling.{outcome as spell, fixed as spell_fixed, state as spell_state, signed as spell_signed, chain as spell_chain, sized};
+ghost use Rattle.channel_values.specs.Spelling.{outcome as spell, fixed as spell_fixed, signed as spell_signed, chain as spell_chain};
 ghost use Rattle.call_history.specs.Spelling.{call, message};
 ghost use Rattle.call_history.specs.Limits.{IsCall, IsMessage, KeepsCall, IsShort};
+ghost use Rattle.call_history.specs.declared.call.Call.TheVariants as calls;
 
-use call_history::Call;
+use call_history::{Call, ChallengeCall, ClaimCall, DepositCall, RespondCall, TransferCall};
 use channel_values::{
-    Chain, Fixed, Name, NoMemory, Outcome, Signed, State, put_name, put_sized, write_chain,
-    write_signed,
+    Chain, Fixed, Name, NoMemory, Outcome, Signed, put_name, put_sized, write_chain, write_signed,
 };
 
 /// An asset, and what is expected and brought of it.
@@ -26,20 +26,14 @@ fn put_amounts(out: &mut Vec<u8>, asset: u32, expected: u64, amount: u64) -> Res
     Ok(())
 }
 
-fn put_deposit(
-    out: &mut Vec<u8>,
-    channel: &Name,
-    asset: u32,
-    expected: u64,
-    amount: u64,
-) -> Result<(), NoMemory>
-    ensures put { OnOk result (out.new.items ≡ out.old.items
-        ++ (1 ∷ (channel.now ++ (to_be_bytes w32 asset ++ (to_be_bytes w64 expected ++ to_be_bytes w64 amount))))) }
-    ensures fits { OnOk result (IsName channel.now) }
+#[tactic(auto, unfolding(call_history::specs::Spelling::call))]
+fn put_deposit(out: &mut Vec<u8>, deposit: &DepositCall) -> Result<(), NoMemory>
+    ensures put { OnOk result (out.new.items ≡ out.old.items ++ call (calls.Deposit deposit.now)) }
+    ensures fits { OnOk result (IsCall (calls.Deposit deposit.now)) }
 {
     out.push(1)?;
-    put_name(out, channel)?;
-    put_amounts(out, asset, expected, amount)
+    put_name(out, &deposit.channel)?;
+    put_amounts(out, deposit.asset, deposit.expected, deposit.amount)
 }
 
 /// A channel's name, and its outcome.
@@ -61,23 +55,17 @@ fn put_place(out: &mut Vec<u8>, asset: u32, place: u8) -> Result<(), NoMemory>
     Ok(())
 }
 
-fn put_transfer(
-    out: &mut Vec<u8>,
-    channel: &Name,
-    outcome: &Outcome,
-    asset: u32,
-    index: u8,
-) -> Result<(), NoMemory>
-    ensures put { OnOk result (out.new.items ≡ out.old.items
-        ++ (7 ∷ (channel.now ++ (spell outcome.now ++ (to_be_bytes w32 asset ++ (index ∷ [])))))) }
-    ensures fits { OnOk result (IsName channel.now × IsOutcome outcome.now) }
+#[tactic(auto, unfolding(call_history::specs::Spelling::call))]
+fn put_transfer(out: &mut Vec<u8>, transfer: &TransferCall) -> Result<(), NoMemory>
+    ensures put { OnOk result (out.new.items ≡ out.old.items ++ call (calls.Transfer transfer.now)) }
+    ensures fits { OnOk result (IsCall (calls.Transfer transfer.now)) }
 {
     out.push(7)?;
-    put_ending(out, channel, outcome)?;
-    put_place(out, asset, index)
+    put_ending(out, &transfer.channel, &transfer.outcome)?;
+    put_place(out, transfer.asset, transfer.index)
 }
 
-/// A chain behind a call's tag.
+/// A chain after a call's tag.
 #[tactic(auto, unfolding(channel_values::specs::Spelling::chain))]
 fn put_chain(out: &mut Vec<u8>, tag: u8, chain: &Chain) -> Result<(), NoMemory>
     requires { KeepsLimits chain.now }
@@ -88,38 +76,27 @@ fn put_chain(out: &mut Vec<u8>, tag: u8, chain: &Chain) -> Result<(), NoMemory>
     write_chain(chain, out)
 }
 
-fn put_challenge(
-    out: &mut Vec<u8>,
-    chain: &Chain,
-    challenger: u8,
-    signature: &[u8],
-) -> Result<(), NoMemory>
-    requires keeps { KeepsLimits chain.now }
-    requires short { length signature.now ≤ 9004 }
-    ensures put { OnOk result (out.new.items ≡ out.old.items
-        ++ (2 ∷ (spell_chain chain.now ++ (challenger ∷ sized signature.now)))) }
-    ensures fits { OnOk result (IsChain chain.now × AreBytes signature.now) }
+#[tactic(auto, unfolding(call_history::specs::Spelling::call))]
+fn put_challenge(out: &mut Vec<u8>, challenge: &ChallengeCall) -> Result<(), NoMemory>
+    requires { KeepsCall (calls.Challenge challenge.now) }
+    ensures put { OnOk result (out.new.items ≡ out.old.items ++ call (calls.Challenge challenge.now)) }
+    ensures fits { OnOk result (IsCall (calls.Challenge challenge.now)) }
 {
-    put_chain(out, 2, chain)?;
-    out.push(challenger)?;
-    put_sized(out, signature)
+    put_chain(out, 2, &challenge.chain)?;
+    out.push(challenge.challenger)?;
+    put_sized(out, challenge.signature.as_slice())
 }
 
-fn put_respond(
-    out: &mut Vec<u8>,
-    fixed: &Fixed,
-    from: &State,
-    next: &Signed,
-) -> Result<(), NoMemory>
-    requires { IsShort next.now }
-    ensures put { OnOk result (out.new.items ≡ out.old.items
-        ++ (3 ∷ (spell_fixed fixed.now ++ (spell_state from.now ++ spell_signed next.now)))) }
-    ensures fits { OnOk result (IsFixed fixed.now × IsState from.now × IsSigned next.now) }
+#[tactic(auto, unfolding(call_history::specs::Spelling::call))]
+fn put_respond(out: &mut Vec<u8>, respond: &RespondCall) -> Result<(), NoMemory>
+    requires { KeepsCall (calls.Respond respond.now) }
+    ensures put { OnOk result (out.new.items ≡ out.old.items ++ call (calls.Respond respond.now)) }
+    ensures fits { OnOk result (IsCall (calls.Respond respond.now)) }
 {
     out.push(3)?;
-    out.extend_from_slice(fixed.bytes())?;
-    out.extend_from_slice(from.bytes())?;
-    write_signed(next, out)
+    out.extend_from_slice(respond.fixed.bytes())?;
+    out.extend_from_slice(respond.from.bytes())?;
+    write_signed(&respond.next, out)
 }
 
 fn put_refute(out: &mut Vec<u8>, fixed: &Fixed, next: &Signed) -> Result<(), NoMemory>
@@ -133,24 +110,15 @@ fn put_refute(out: &mut Vec<u8>, fixed: &Fixed, next: &Signed) -> Result<(), NoM
     write_signed(next, out)
 }
 
-/// The guarantor and the target come each with the outcome that it ended with.
-fn put_claim(
-    out: &mut Vec<u8>,
-    guarantor: (&Name, &Outcome),
-    target: (&Name, &Outcome),
-    asset: u32,
-    position: u8,
-) -> Result<(), NoMemory>
-    ensures put { OnOk result (out.new.items ≡ out.old.items
-        ++ (8 ∷ (guarantor.entry.0.now ++ (spell guarantor.entry.1.now
-        ++ (target.entry.0.now ++ (spell target.entry.1.now ++ (to_be_bytes w32 asset ++ (position ∷ [])))))))) }
-    ensures fits { OnOk result (IsName guarantor.entry.0.now × IsOutcome guarantor.entry.1.now
-        × IsName target.entry.0.now × IsOutcome target.entry.1.now) }
+#[tactic(auto, unfolding(call_history::specs::Spelling::call))]
+fn put_claim(out: &mut Vec<u8>, claim: &ClaimCall) -> Result<(), NoMemory>
+    ensures put { OnOk result (out.new.items ≡ out.old.items ++ call (calls.Claim claim.now)) }
+    ensures fits { OnOk result (IsCall (calls.Claim claim.now)) }
 {
     out.push(8)?;
-    put_ending(out, guarantor.0, guarantor.1)?;
-    put_ending(out, target.0, target.1)?;
-    put_place(out, asset, position)
+    put_ending(out, &claim.guarantor, &claim.guarantor_outcome)?;
+    put_ending(out, &claim.target, &claim.target_outcome)?;
+    put_place(out, claim.asset, claim.position)
 }
 
 /// Appends the one spelling; where there is no memory, a part of it may stay.
@@ -161,41 +129,14 @@ fn put_call(out: &mut Vec<u8>, value: &Call) -> Result<(), NoMemory>
     ensures fits { OnOk result (IsCall value.now) }
 {
     match value {
-        Call::Deposit {
-            channel,
-            asset,
-            expected,
-            amount,
-        } => put_deposit(out, channel, *asset, *expected, *amount),
-        Call::Challenge {
-            chain,
-            challenger,
-            signature,
-        } => put_challenge(out, chain, *challenger, signature.as_slice()),
-        Call::Respond { fixed, from, next } => put_respond(out, fixed, from, next),
+        Call::Deposit(deposit) => put_deposit(out, deposit),
+        Call::Challenge(challenge) => put_challenge(out, challenge),
+        Call::Respond(respond) => put_respond(out, respond),
         Call::Refute { fixed, next } => put_refute(out, fixed, next),
         Call::Checkpoint { chain } => put_chain(out, 5, chain),
         Call::Conclude { chain } => put_chain(out, 6, chain),
-        Call::Transfer {
-            channel,
-            outcome,
-            asset,
-            index,
-        } => put_transfer(out, channel, outcome, *asset, *index),
-        Call::Claim {
-            guarantor,
-            guarantor_outcome,
-            target,
-            target_outcome,
-            asset,
-            position,
-        } => put_claim(
-            out,
-            (guarantor, guarantor_outcome),
-            (target, target_outcome),
-            *asset,
-            *position,
-        ),
+        Call::Transfer(transfer) => put_transfer(out, transfer),
+        Call::Claim(claim) => put_claim(out, claim),
     }
 }
 

@@ -14,6 +14,7 @@ use Rattle.channel_values.proofs.States.{sized_takes, sized_again, state_takes, 
 use Rattle.channel_values.proofs.Fixeds.{fixed_takes, fixed_valid_again}
 use Rattle.channel_values.proofs.Chains.{signed_takes, signed_valid_again, chain_takes, chain_valid_again, limits_kept}
 use Rattle.channel_values.proofs.Format.{IsFormat}
+use Rattle.call_history.specs.Calls.{make_deposit, make_challenge, make_respond, make_transfer, make_claim}
 use Rattle.call_history.specs.Spelling.{Message, call, message}
 use Rattle.call_history.specs.Limits.{IsCall, IsMessage, KeepsCall}
 use Rattle.call_history.specs.Reading.{deposit_at, challenge_at, respond_at, refute_at, checkpoint_at, conclude_at, transfer_at, claim_at, fields_at, call_at, message_at}
@@ -47,11 +48,11 @@ message_format = record { takes = message_takes; again = message_again }
 
 -- ---- the fields of calls
 
--- a tag that was read, with what was read behind it
+-- a tag that was read, with what was read after it
 tagged : (tag : ℕ) (bytes text rest : List ℕ) → Takes bytes text rest → Takes (tag ∷ bytes) (tag ∷ text) rest
 tagged tag bytes text rest t = record { parts = ap (λ (w : List ℕ). tag ∷ w) t.parts; rest_fits = t.rest_fits }
 
--- what the fields behind a tag are read as
+-- what the fields after a tag are read as
 abbrev FieldsTake : (ℕ → List ℕ → Result (Call × List ℕ) ByteFault) → ℕ → Type 0
 FieldsTake at tag = (whole : ℕ) (bytes : List ℕ) (x : Call × List ℕ) → AreBytes bytes → at whole bytes ≡ Ok x → Takes (tag ∷ bytes) (call x.0) x.1 × IsCall x.0
 
@@ -69,7 +70,7 @@ deposit_takes whole bytes x fits e =
     let e23 = Takes-then b.0.1 (to_be_bytes w64 c.0.0) c.0.1 (to_be_bytes w64 d.0.0) d.0.1 t2.0 t3.0 in
     let e13 = Takes-then a.0.1 (to_be_bytes w32 b.0.0) b.0.1 (to_be_bytes w64 c.0.0 ++ to_be_bytes w64 d.0.0) d.0.1 t1.0 e23 in
     let e03 = Takes-then bytes a.0.0 a.0.1 (to_be_bytes w32 b.0.0 ++ (to_be_bytes w64 c.0.0 ++ to_be_bytes w64 d.0.0)) d.0.1 t0.0 e13 in
-    let made : Call = Deposit a.0.0 b.0.0 c.0.0 d.0.0 in
+    let made : Call = make_deposit a.0.0 b.0.0 c.0.0 d.0.0 in
     subst (λ (y : Call × List ℕ). Takes (1 ∷ bytes) (call y.0) y.1 × IsCall y.0) (ok_is (made, d.0.1) x d.2) (tagged 1 bytes _ d.0.1 e03, (t0.1, t1.1, t2.1, t3.1))
 
 challenge_takes : FieldsTake challenge_at 2
@@ -83,7 +84,7 @@ challenge_takes whole bytes x fits e =
     let t2 = sized_takes whole 9004 b.0.1 c.0 t1.0.rest_fits (lit< tt) c.1 in
     let e12 = Takes-then a.0.1 (b.0.0 ∷ []) b.0.1 (sized c.0.0) c.0.1 t1.0 t2.0 in
     let e02 = Takes-then bytes (chain a.0.0) a.0.1 (b.0.0 ∷ sized c.0.0) c.0.1 t0.0 e12 in
-    let made : Call = Challenge a.0.0 b.0.0 c.0.0 in
+    let made : Call = make_challenge a.0.0 b.0.0 c.0.0 in
     subst (λ (y : Call × List ℕ). Takes (2 ∷ bytes) (call y.0) y.1 × IsCall y.0) (ok_is (made, c.0.1) x c.2) (tagged 2 bytes _ c.0.1 e02, (t0.1, t1.1, (t2.1, t2.2)))
 
 respond_takes : FieldsTake respond_at 3
@@ -97,7 +98,7 @@ respond_takes whole bytes x fits e =
     let t2 = signed_takes whole b.0.1 c.0 t1.0.rest_fits c.1 in
     let e12 = Takes-then a.0.1 (state b.0.0) b.0.1 (signed c.0.0) c.0.1 t1.0 t2.0 in
     let e02 = Takes-then bytes (fixed a.0.0) a.0.1 (state b.0.0 ++ signed c.0.0) c.0.1 t0.0 e12 in
-    let made : Call = Respond a.0.0 b.0.0 c.0.0 in
+    let made : Call = make_respond a.0.0 b.0.0 c.0.0 in
     subst (λ (y : Call × List ℕ). Takes (3 ∷ bytes) (call y.0) y.1 × IsCall y.0) (ok_is (made, c.0.1) x c.2) (tagged 3 bytes _ c.0.1 e02, (t0.1, t1.1, t2.1))
 
 refute_takes : FieldsTake refute_at 4
@@ -141,7 +142,7 @@ transfer_takes whole bytes x fits e =
     let e23 = Takes-then b.0.1 (to_be_bytes w32 c.0.0) c.0.1 (d.0.0 ∷ []) d.0.1 t2.0 t3.0 in
     let e13 = Takes-then a.0.1 (outcome b.0.0) b.0.1 (to_be_bytes w32 c.0.0 ++ (d.0.0 ∷ [])) d.0.1 t1.0 e23 in
     let e03 = Takes-then bytes a.0.0 a.0.1 (outcome b.0.0 ++ (to_be_bytes w32 c.0.0 ++ (d.0.0 ∷ []))) d.0.1 t0.0 e13 in
-    let made : Call = Transfer a.0.0 b.0.0 c.0.0 d.0.0 in
+    let made : Call = make_transfer a.0.0 b.0.0 c.0.0 d.0.0 in
     subst (λ (y : Call × List ℕ). Takes (7 ∷ bytes) (call y.0) y.1 × IsCall y.0) (ok_is (made, d.0.1) x d.2) (tagged 7 bytes _ d.0.1 e03, (t0.1, t1.1, t2.1, t3.1))
 
 claim_takes : FieldsTake claim_at 8
@@ -164,12 +165,12 @@ claim_takes whole bytes x fits e =
     let e25 = Takes-then b.0.1 c.0.0 c.0.1 (outcome d.0.0 ++ (to_be_bytes w32 f.0.0 ++ (g.0.0 ∷ []))) g.0.1 t2.0 e35 in
     let e15 = Takes-then a.0.1 (outcome b.0.0) b.0.1 (c.0.0 ++ (outcome d.0.0 ++ (to_be_bytes w32 f.0.0 ++ (g.0.0 ∷ [])))) g.0.1 t1.0 e25 in
     let e05 = Takes-then bytes a.0.0 a.0.1 (outcome b.0.0 ++ (c.0.0 ++ (outcome d.0.0 ++ (to_be_bytes w32 f.0.0 ++ (g.0.0 ∷ []))))) g.0.1 t0.0 e15 in
-    let made : Call = Claim a.0.0 b.0.0 c.0.0 d.0.0 f.0.0 g.0.0 in
+    let made : Call = make_claim a.0.0 b.0.0 c.0.0 d.0.0 f.0.0 g.0.0 in
     subst (λ (y : Call × List ℕ). Takes (8 ∷ bytes) (call y.0) y.1 × IsCall y.0) (ok_is (made, g.0.1) x g.2) (tagged 8 bytes _ g.0.1 e05, (t0.1, t1.1, t2.1, t3.1, t4.1, t5.1))
 
 -- ---- calls
 
--- the fields behind this tag
+-- the fields after this tag
 abbrev TakesBehind : ℕ → List ℕ → Call × List ℕ → Type 0
 TakesBehind tag bytes x = Takes (tag ∷ bytes) (call x.0) x.1 × IsCall x.0
 
@@ -217,35 +218,36 @@ sized_valid whole bytes rest le = again_valid _ bytes rest (length bytes ≤ 900
 
 call_again : (whole : ℕ) (c : Call) (rest : List ℕ) → IsCall c → call_at whole (call c ++ rest) ≡ Ok (c, rest)
 unfolding call_at call deposit_at challenge_at respond_at refute_at checkpoint_at conclude_at transfer_at claim_at
-call_again whole (Deposit channel asset expected amount) rest valid =
-    let paid : List ℕ = to_be_bytes w64 amount ++ rest in
-    let hoped : List ℕ = to_be_bytes w64 expected ++ paid in
-    let after : List ℕ = to_be_bytes w32 asset ++ hoped in
-    let regrouped : (channel ++ (to_be_bytes w32 asset ++ (to_be_bytes w64 expected ++ to_be_bytes w64 amount))) ++ rest ≡ channel ++ after =
-    append_assoc channel (to_be_bytes w32 asset ++ (to_be_bytes w64 expected ++ to_be_bytes w64 amount)) rest
-    ∙ ap (λ (w : List ℕ). channel ++ w) (append_assoc (to_be_bytes w32 asset) (to_be_bytes w64 expected ++ to_be_bytes w64 amount) rest
-    ∙ ap (λ (w : List ℕ). to_be_bytes w32 asset ++ w) (append_assoc (to_be_bytes w64 expected) (to_be_bytes w64 amount) rest)) in
-    subst (λ (w : List ℕ). deposit_at whole w ≡ Ok (Deposit channel asset expected amount, rest)) (sym regrouped)
-    (bind_again _ _ (channel, after) _ (name_again whole channel after valid.0.0)
-    (bind_again _ _ (asset, hoped) _ (number_again whole w32 (2 ^ 32) wide32 asset hoped valid.1)
-    (bind_again _ _ (expected, paid) _ (number_again whole w64 (2 ^ 64) wide64 expected paid valid.2)
-    (bind_again _ _ (amount, rest) _ (number_again whole w64 (2 ^ 64) wide64 amount rest valid.3) refl))))
-call_again whole (Challenge c challenger signature) rest valid =
-    let own : List ℕ = sized signature ++ rest in
-    let after : List ℕ = challenger ∷ own in
-    let regrouped : (chain c ++ (challenger ∷ sized signature)) ++ rest ≡ chain c ++ after = append_assoc (chain c) (challenger ∷ sized signature) rest in
-    subst (λ (w : List ℕ). challenge_at whole w ≡ Ok (Challenge c challenger signature, rest)) (sym regrouped)
-    (bind_again _ _ (c, after) _ (chain_valid_again whole c after valid.0)
-    (bind_again _ _ (signature, rest) _ (sized_valid whole signature rest valid.2.0) refl))
-call_again whole (Respond f from next) rest valid =
-    let last : List ℕ = signed next ++ rest in
-    let after : List ℕ = state from ++ last in
-    let regrouped : (fixed f ++ (state from ++ signed next)) ++ rest ≡ fixed f ++ after =
-    append_assoc (fixed f) (state from ++ signed next) rest ∙ ap (λ (w : List ℕ). fixed f ++ w) (append_assoc (state from) (signed next) rest) in
-    subst (λ (w : List ℕ). respond_at whole w ≡ Ok (Respond f from next, rest)) (sym regrouped)
-    (bind_again _ _ (f, after) _ (fixed_valid_again whole f after valid.0)
-    (bind_again _ _ (from, last) _ (state_valid_again whole from last valid.1)
-    (bind_again _ _ (next, rest) _ (signed_valid_again whole next rest valid.2) refl)))
+call_again whole (Deposit d) rest valid =
+    let numbers : List ℕ = to_be_bytes w64 d.expected ++ to_be_bytes w64 d.amount in
+    let paid : List ℕ = to_be_bytes w64 d.amount ++ rest in
+    let hoped : List ℕ = to_be_bytes w64 d.expected ++ paid in
+    let after : List ℕ = to_be_bytes w32 d.asset ++ hoped in
+    let regrouped : (d.channel ++ (to_be_bytes w32 d.asset ++ numbers)) ++ rest ≡ d.channel ++ after =
+    append_assoc d.channel (to_be_bytes w32 d.asset ++ numbers) rest
+    ∙ ap (λ (w : List ℕ). d.channel ++ w) (append_assoc (to_be_bytes w32 d.asset) numbers rest
+    ∙ ap (λ (w : List ℕ). to_be_bytes w32 d.asset ++ w) (append_assoc (to_be_bytes w64 d.expected) (to_be_bytes w64 d.amount) rest)) in
+    subst (λ (w : List ℕ). deposit_at whole w ≡ Ok (Deposit d, rest)) (sym regrouped)
+    (bind_again _ _ (d.channel, after) _ (name_again whole d.channel after valid.0.0)
+    (bind_again _ _ (d.asset, hoped) _ (number_again whole w32 (2 ^ 32) wide32 d.asset hoped valid.1)
+    (bind_again _ _ (d.expected, paid) _ (number_again whole w64 (2 ^ 64) wide64 d.expected paid valid.2)
+    (bind_again _ _ (d.amount, rest) _ (number_again whole w64 (2 ^ 64) wide64 d.amount rest valid.3) refl))))
+call_again whole (Challenge k) rest valid =
+    let own : List ℕ = sized k.signature ++ rest in
+    let after : List ℕ = k.challenger ∷ own in
+    let regrouped : (chain k.chain ++ (k.challenger ∷ sized k.signature)) ++ rest ≡ chain k.chain ++ after = append_assoc (chain k.chain) (k.challenger ∷ sized k.signature) rest in
+    subst (λ (w : List ℕ). challenge_at whole w ≡ Ok (Challenge k, rest)) (sym regrouped)
+    (bind_again _ _ (k.chain, after) _ (chain_valid_again whole k.chain after valid.0)
+    (bind_again _ _ (k.signature, rest) _ (sized_valid whole k.signature rest valid.2.0) refl))
+call_again whole (Respond k) rest valid =
+    let last : List ℕ = signed k.next ++ rest in
+    let after : List ℕ = state k.from ++ last in
+    let regrouped : (fixed k.fixed ++ (state k.from ++ signed k.next)) ++ rest ≡ fixed k.fixed ++ after =
+    append_assoc (fixed k.fixed) (state k.from ++ signed k.next) rest ∙ ap (λ (w : List ℕ). fixed k.fixed ++ w) (append_assoc (state k.from) (signed k.next) rest) in
+    subst (λ (w : List ℕ). respond_at whole w ≡ Ok (Respond k, rest)) (sym regrouped)
+    (bind_again _ _ (k.fixed, after) _ (fixed_valid_again whole k.fixed after valid.0)
+    (bind_again _ _ (k.from, last) _ (state_valid_again whole k.from last valid.1)
+    (bind_again _ _ (k.next, rest) _ (signed_valid_again whole k.next rest valid.2) refl)))
 call_again whole (Refute f next) rest valid =
     let after : List ℕ = signed next ++ rest in
     subst (λ (w : List ℕ). refute_at whole w ≡ Ok (Refute f next, rest)) (sym (append_assoc (fixed f) (signed next) rest))
@@ -253,50 +255,53 @@ call_again whole (Refute f next) rest valid =
     (bind_again _ _ (next, rest) _ (signed_valid_again whole next rest valid.1) refl))
 call_again whole (Checkpoint c) rest valid = bind_again _ _ (c, rest) _ (chain_valid_again whole c rest valid) refl
 call_again whole (Conclude c) rest valid = bind_again _ _ (c, rest) _ (chain_valid_again whole c rest valid) refl
-call_again whole (Transfer channel o asset index) rest valid =
-    let last : List ℕ = index ∷ rest in
-    let amounts : List ℕ = to_be_bytes w32 asset ++ last in
-    let after : List ℕ = outcome o ++ amounts in
-    let regrouped : (channel ++ (outcome o ++ (to_be_bytes w32 asset ++ (index ∷ [])))) ++ rest ≡ channel ++ after =
-    append_assoc channel (outcome o ++ (to_be_bytes w32 asset ++ (index ∷ []))) rest
-    ∙ ap (λ (w : List ℕ). channel ++ w) (append_assoc (outcome o) (to_be_bytes w32 asset ++ (index ∷ [])) rest
-    ∙ ap (λ (w : List ℕ). outcome o ++ w) (append_assoc (to_be_bytes w32 asset) (index ∷ []) rest)) in
-    subst (λ (w : List ℕ). transfer_at whole w ≡ Ok (Transfer channel o asset index, rest)) (sym regrouped)
-    (bind_again _ _ (channel, after) _ (name_again whole channel after valid.0.0)
-    (bind_again _ _ (o, amounts) _ (outcome_valid_again whole o amounts valid.1)
-    (bind_again _ _ (asset, last) _ (number_again whole w32 (2 ^ 32) wide32 asset last valid.2) refl)))
-call_again whole (Claim guarantor promise target o asset position) rest valid =
-    let last : List ℕ = position ∷ rest in
-    let amounts : List ℕ = to_be_bytes w32 asset ++ last in
-    let ends : List ℕ = outcome o ++ amounts in
-    let names : List ℕ = target ++ ends in
-    let after : List ℕ = outcome promise ++ names in
-    let regrouped : (guarantor ++ (outcome promise ++ (target ++ (outcome o ++ (to_be_bytes w32 asset ++ (position ∷ [])))))) ++ rest ≡ guarantor ++ after =
-    append_assoc guarantor (outcome promise ++ (target ++ (outcome o ++ (to_be_bytes w32 asset ++ (position ∷ []))))) rest
-    ∙ ap (λ (w : List ℕ). guarantor ++ w) (append_assoc (outcome promise) (target ++ (outcome o ++ (to_be_bytes w32 asset ++ (position ∷ [])))) rest
-    ∙ ap (λ (w : List ℕ). outcome promise ++ w) (append_assoc target (outcome o ++ (to_be_bytes w32 asset ++ (position ∷ []))) rest
-    ∙ ap (λ (w : List ℕ). target ++ w) (append_assoc (outcome o) (to_be_bytes w32 asset ++ (position ∷ [])) rest
-    ∙ ap (λ (w : List ℕ). outcome o ++ w) (append_assoc (to_be_bytes w32 asset) (position ∷ []) rest)))) in
-    subst (λ (w : List ℕ). claim_at whole w ≡ Ok (Claim guarantor promise target o asset position, rest)) (sym regrouped)
-    (bind_again _ _ (guarantor, after) _ (name_again whole guarantor after valid.0.0)
-    (bind_again _ _ (promise, names) _ (outcome_valid_again whole promise names valid.1)
-    (bind_again _ _ (target, ends) _ (name_again whole target ends valid.2.0)
-    (bind_again _ _ (o, amounts) _ (outcome_valid_again whole o amounts valid.3)
-    (bind_again _ _ (asset, last) _ (number_again whole w32 (2 ^ 32) wide32 asset last valid.4) refl)))))
+call_again whole (Transfer k) rest valid =
+    let numbers : List ℕ = to_be_bytes w32 k.asset ++ (k.index ∷ []) in
+    let last : List ℕ = k.index ∷ rest in
+    let amounts : List ℕ = to_be_bytes w32 k.asset ++ last in
+    let after : List ℕ = outcome k.outcome ++ amounts in
+    let regrouped : (k.channel ++ (outcome k.outcome ++ numbers)) ++ rest ≡ k.channel ++ after =
+    append_assoc k.channel (outcome k.outcome ++ numbers) rest
+    ∙ ap (λ (w : List ℕ). k.channel ++ w) (append_assoc (outcome k.outcome) numbers rest
+    ∙ ap (λ (w : List ℕ). outcome k.outcome ++ w) (append_assoc (to_be_bytes w32 k.asset) (k.index ∷ []) rest)) in
+    subst (λ (w : List ℕ). transfer_at whole w ≡ Ok (Transfer k, rest)) (sym regrouped)
+    (bind_again _ _ (k.channel, after) _ (name_again whole k.channel after valid.0.0)
+    (bind_again _ _ (k.outcome, amounts) _ (outcome_valid_again whole k.outcome amounts valid.1)
+    (bind_again _ _ (k.asset, last) _ (number_again whole w32 (2 ^ 32) wide32 k.asset last valid.2) refl)))
+call_again whole (Claim k) rest valid =
+    let numbers : List ℕ = to_be_bytes w32 k.asset ++ (k.position ∷ []) in
+    let ended : List ℕ = outcome k.target_outcome ++ numbers in
+    let last : List ℕ = k.position ∷ rest in
+    let amounts : List ℕ = to_be_bytes w32 k.asset ++ last in
+    let ends : List ℕ = outcome k.target_outcome ++ amounts in
+    let names : List ℕ = k.target ++ ends in
+    let after : List ℕ = outcome k.guarantor_outcome ++ names in
+    let regrouped : (k.guarantor ++ (outcome k.guarantor_outcome ++ (k.target ++ ended))) ++ rest ≡ k.guarantor ++ after =
+    append_assoc k.guarantor (outcome k.guarantor_outcome ++ (k.target ++ ended)) rest
+    ∙ ap (λ (w : List ℕ). k.guarantor ++ w) (append_assoc (outcome k.guarantor_outcome) (k.target ++ ended) rest
+    ∙ ap (λ (w : List ℕ). outcome k.guarantor_outcome ++ w) (append_assoc k.target ended rest
+    ∙ ap (λ (w : List ℕ). k.target ++ w) (append_assoc (outcome k.target_outcome) numbers rest
+    ∙ ap (λ (w : List ℕ). outcome k.target_outcome ++ w) (append_assoc (to_be_bytes w32 k.asset) (k.position ∷ []) rest)))) in
+    subst (λ (w : List ℕ). claim_at whole w ≡ Ok (Claim k, rest)) (sym regrouped)
+    (bind_again _ _ (k.guarantor, after) _ (name_again whole k.guarantor after valid.0.0)
+    (bind_again _ _ (k.guarantor_outcome, names) _ (outcome_valid_again whole k.guarantor_outcome names valid.1)
+    (bind_again _ _ (k.target, ends) _ (name_again whole k.target ends valid.2.0)
+    (bind_again _ _ (k.target_outcome, amounts) _ (outcome_valid_again whole k.target_outcome amounts valid.3)
+    (bind_again _ _ (k.asset, last) _ (number_again whole w32 (2 ^ 32) wide32 k.asset last valid.4) refl)))))
 
 pub call_format : IsFormat call_at call IsCall
 call_format = record { takes = call_takes; again = call_again }
 
 -- a call that is read may be written
 pub call_keeps : (c : Call) → IsCall c → KeepsCall c
-call_keeps (Deposit channel asset expected amount) valid = tt
-call_keeps (Challenge c challenger signature) valid = (limits_kept c valid.0, valid.2.0)
-call_keeps (Respond f from next) valid = valid.2.1.0
+call_keeps (Deposit d) valid = tt
+call_keeps (Challenge k) valid = (limits_kept k.chain valid.0, valid.2.0)
+call_keeps (Respond k) valid = valid.2.1.0
 call_keeps (Refute f next) valid = valid.1.1.0
 call_keeps (Checkpoint c) valid = limits_kept c valid
 call_keeps (Conclude c) valid = limits_kept c valid
-call_keeps (Transfer channel o asset index) valid = tt
-call_keeps (Claim guarantor promise target o asset position) valid = tt
+call_keeps (Transfer k) valid = tt
+call_keeps (Claim k) valid = tt
 
 pub is_kept : (bytes : List ℕ) (r : Result Call ByteFault) → IfOk r (λ c. IsCall c × (bytes ≡ call c)) → IfOk r KeepsCall
 is_kept bytes (Ok c) found = call_keeps c found.0

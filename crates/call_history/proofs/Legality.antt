@@ -98,29 +98,30 @@ due_told_at_most (Err refusal) h = record { is = tt }
 
 -- a reply to an op pays at most what its payer holds
 abbrev IsBacked : List Entry → Op → Reply → Type 0
-IsBacked h (ops.Call (Transfer channel outcome asset index)) reply = PaysAtMost (held_of h channel asset) reply
-IsBacked h (ops.Call (Claim guarantor promise target outcome asset position)) reply = PaysAtMost (held_of h guarantor asset) reply
+IsBacked h (ops.Call (Transfer k)) reply = PaysAtMost (held_of h k.channel k.asset) reply
+IsBacked h (ops.Call (Claim k)) reply = PaysAtMost (held_of h k.guarantor k.asset) reply
 IsBacked h _ reply = PaysAtMost 0 reply
 
 pub reply_backed : (r : Rules) (h : List Entry) (op : Op) → IsBacked h op (reply_to r h op)
 unfolding reply_to
-reply_backed r h (ops.Call (Deposit channel asset expected amount)) = told_at_most Held _ (λ n. record { is = tt })
-reply_backed r h (ops.Call (Challenge chain who signature)) = told_at_most (λ (new : Row). Until (now_of h + chain.fixed.duration)) _ (λ n. record { is = tt })
-reply_backed r h (ops.Call (Respond fixed from next)) = told_at_most (λ (new : Row). Opened new.turn) _ (λ n. record { is = tt })
+reply_backed r h (ops.Call (Deposit d)) = told_at_most Held _ (λ n. record { is = tt })
+reply_backed r h (ops.Call (Challenge k)) = told_at_most (λ (new : Row). Until (now_of h + k.chain.fixed.duration)) _ (λ n. record { is = tt })
+reply_backed r h (ops.Call (Respond k)) = told_at_most (λ (new : Row). Opened new.turn) _ (λ n. record { is = tt })
 reply_backed r h (ops.Call (Refute fixed next)) = told_at_most (λ (new : Row). Opened new.turn) _ (λ n. record { is = tt })
 reply_backed r h (ops.Call (Checkpoint chain)) = told_at_most (λ (new : Row). Opened new.turn) _ (λ n. record { is = tt })
 reply_backed r h (ops.Call (Conclude chain)) = told_at_most (λ (new : Row). Concluded new.turn) _ (λ n. record { is = tt })
-reply_backed r h (ops.Call (Transfer channel outcome asset index)) =
-    let held = held_of h channel asset in
-    due_told_at_most _ (transfer_backed r (row r channel h) (now_of h) (paid_of h channel asset) held channel outcome asset index)
-reply_backed r h (ops.Call (Claim guarantor promise target outcome asset position)) =
-    let held = held_of h guarantor asset in
-    due_told_at_most _ (claim_backed r (row r guarantor h) (row r target h) (now_of h) (paid_of h target asset) held guarantor promise target outcome asset position)
+reply_backed r h (ops.Call (Transfer k)) =
+    let held = held_of h k.channel k.asset in
+    due_told_at_most _ (transfer_backed r (row r k.channel h) (now_of h) (paid_of h k.channel k.asset) held k.channel k.outcome k.asset k.index)
+reply_backed r h (ops.Call (Claim k)) =
+    let held = held_of h k.guarantor k.asset in
+    let paid = paid_of h k.target k.asset in
+    due_told_at_most _ (claim_backed r (row r k.guarantor h) (row r k.target h) (now_of h) paid held k.guarantor k.guarantor_outcome k.target k.target_outcome k.asset k.position)
 reply_backed r h (ops.Time t) = told_at_most Now _ (λ n. record { is = tt })
 
 held_by : (h : List Entry) (op : Op) (amount : ℕ) → IsBacked h op (Paid amount) → IsHeldBy h amount (payer_of op)
-held_by h (ops.Call (Transfer channel outcome asset index)) n b = b.is
-held_by h (ops.Call (Claim guarantor promise target outcome asset position)) n b = b.is
+held_by h (ops.Call (Transfer k)) n b = b.is
+held_by h (ops.Call (Claim k)) n b = b.is
 held_by h _ n b = tt
 
 pub pays_what_is_held : (r : Rules) (h : List Entry) → PaysWhatIsHeld r h
@@ -172,9 +173,9 @@ covered_to flows from None asset n c h = c
 covered_to flows from (Some to) asset n c h = covered_more flows _ c h
 
 covered_entry : (h : List Entry) (op : Op) (reply : Reply) → AreCovered (flows_of h) → IsBacked h op reply → AreCovered (flow_of op reply ++ flows_of h)
-covered_entry h (ops.Call (Deposit channel asset expected amount)) (Held n) c b = covered_to (flows_of h) None (Some (Channel channel)) asset amount c tt
-covered_entry h (ops.Call (Transfer channel outcome asset index)) (Paid n) c b = covered_to (flows_of h) (Some channel) _ asset n c b.is
-covered_entry h (ops.Call (Claim guarantor promise target outcome asset position)) (Paid n) c b = covered_to (flows_of h) (Some guarantor) _ asset n c b.is
+covered_entry h (ops.Call (Deposit d)) (Held n) c b = covered_to (flows_of h) None (Some (Channel d.channel)) d.asset d.amount c tt
+covered_entry h (ops.Call (Transfer k)) (Paid n) c b = covered_to (flows_of h) (Some k.channel) _ k.asset n c b.is
+covered_entry h (ops.Call (Claim k)) (Paid n) c b = covered_to (flows_of h) (Some k.guarantor) _ k.asset n c b.is
 covered_entry h op reply c b = c
 
 -- in a legal history no channel pays out more than it received
@@ -191,9 +192,9 @@ inner_fits flows source (Some to) kind n asset h = omega (arith, h, sum_by-cons 
 -- a reply leaves what was deposited of an asset within the largest amount
 reply_fits : (r : Rules) (h : List Entry) (op : Op) (reply : Reply) (asset : ℕ) → reply ≡ reply_to r h op → deposited_of h asset < 2 ^ 64 → deposited_in (flow_of op reply ++ flows_of h) asset < 2 ^ 64
 unfolding reply_to
-reply_fits r h (ops.Call (Deposit channel kind expected amount)) (Held n) asset is before = grind (arith, common_steps)
-reply_fits r h (ops.Call (Transfer channel outcome kind index)) (Paid n) asset is before = inner_fits (flows_of h) channel _ kind n asset before
-reply_fits r h (ops.Call (Claim guarantor promise target outcome kind position)) (Paid n) asset is before = inner_fits (flows_of h) guarantor _ kind n asset before
+reply_fits r h (ops.Call (Deposit d)) (Held n) asset is before = grind (arith, common_steps)
+reply_fits r h (ops.Call (Transfer k)) (Paid n) asset is before = inner_fits (flows_of h) k.channel _ k.asset n asset before
+reply_fits r h (ops.Call (Claim k)) (Paid n) asset is before = inner_fits (flows_of h) k.guarantor _ k.asset n asset before
 reply_fits r h op reply asset is before = before
 
 -- in a legal history what was deposited of each asset is at most the largest amount

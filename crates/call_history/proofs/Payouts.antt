@@ -275,29 +275,31 @@ claim_ok r row of now paid held guarantor promise target outcome asset position 
 
 pub transfer_lowers : (r : Rules) (h : List Entry) → TransferLowersBoth r h
 unfolding reply_to
-transfer_lowers r h number by channel outcome asset index amount e =
-    let paid = paid_of h channel asset in
-    let held = held_of h channel asset in
-    let to = item_dest (shape_in outcome asset) index in
-    let entry : Entry = record { number = number; by = by; op = ops.Call (Transfer channel outcome asset index); reply = Paid amount } in
-    let t = told_due (replies.transfer r (row r channel h) (now_of h) paid held channel outcome asset index) amount e in
-    let due = transfer_ok r (row r channel h) (now_of h) paid held channel outcome asset index t.due t.is in
-    subst (λ (n : ℕ). LowersBoth h entry channel channel outcome asset to n) t.amount_is
-    (lowers h entry channel channel outcome asset to index t.due
-    (ap (λ (n : ℕ). flow_to (Some channel) to asset n) (sym t.amount_is))
-    (ap (λ (n : ℕ). record { channel = channel; asset = asset; place = index; amount = n } ∷ []) (sym t.amount_is)) due)
+transfer_lowers r h number by k amount e =
+    let paid = paid_of h k.channel k.asset in
+    let held = held_of h k.channel k.asset in
+    let to = item_dest (shape_in k.outcome k.asset) k.index in
+    let entry : Entry = record { number = number; by = by; op = ops.Call (Transfer k); reply = Paid amount } in
+    let t = told_due (replies.transfer r (row r k.channel h) (now_of h) paid held k.channel k.outcome k.asset k.index) amount e in
+    let due = transfer_ok r (row r k.channel h) (now_of h) paid held k.channel k.outcome k.asset k.index t.due t.is in
+    subst (λ (n : ℕ). LowersBoth h entry k.channel k.channel k.outcome k.asset to n) t.amount_is
+    (lowers h entry k.channel k.channel k.outcome k.asset to k.index t.due
+    (ap (λ (n : ℕ). flow_to (Some k.channel) to k.asset n) (sym t.amount_is))
+    (ap (λ (n : ℕ). record { channel = k.channel; asset = k.asset; place = k.index; amount = n } ∷ []) (sym t.amount_is)) due)
 
 pub claim_lowers : (r : Rules) (h : List Entry) → ClaimLowersBoth r h
 unfolding reply_to
-claim_lowers r h number by guarantor promise target outcome asset position amount e =
-    let paid = paid_of h target asset in
-    let held = held_of h guarantor asset in
-    let to = listed_dest (shape_in promise asset) position in
-    let place = place_in (shape_in outcome asset) to in
-    let entry : Entry = record { number = number; by = by; op = ops.Call (Claim guarantor promise target outcome asset position); reply = Paid amount } in
-    let t = told_due (replies.claim r (row r guarantor h) (row r target h) (now_of h) paid held guarantor promise target outcome asset position) amount e in
-    let due = claim_ok r (row r guarantor h) (row r target h) (now_of h) paid held guarantor promise target outcome asset position t.due t.is in
-    subst (λ (n : ℕ). LowersBoth h entry guarantor target outcome asset to n) t.amount_is
-    (lowers h entry guarantor target outcome asset to place t.due
-    (ap (λ (n : ℕ). flow_to (Some guarantor) to asset n) (sym t.amount_is))
-    (ap (λ (n : ℕ). record { channel = target; asset = asset; place = place; amount = n } ∷ []) (sym t.amount_is)) due)
+claim_lowers r h number by k amount e =
+    let paid = paid_of h k.target k.asset in
+    let held = held_of h k.guarantor k.asset in
+    let guarantor_row = row r k.guarantor h in
+    let target_row = row r k.target h in
+    let to = listed_dest (shape_in k.guarantor_outcome k.asset) k.position in
+    let place = place_in (shape_in k.target_outcome k.asset) to in
+    let entry : Entry = record { number = number; by = by; op = ops.Call (Claim k); reply = Paid amount } in
+    let t = told_due (replies.claim r guarantor_row target_row (now_of h) paid held k.guarantor k.guarantor_outcome k.target k.target_outcome k.asset k.position) amount e in
+    let due = claim_ok r guarantor_row target_row (now_of h) paid held k.guarantor k.guarantor_outcome k.target k.target_outcome k.asset k.position t.due t.is in
+    subst (λ (n : ℕ). LowersBoth h entry k.guarantor k.target k.target_outcome k.asset to n) t.amount_is
+    (lowers h entry k.guarantor k.target k.target_outcome k.asset to place t.due
+    (ap (λ (n : ℕ). flow_to (Some k.guarantor) to k.asset n) (sym t.amount_is))
+    (ap (λ (n : ℕ). record { channel = k.target; asset = k.asset; place = place; amount = n } ∷ []) (sym t.amount_is)) due)

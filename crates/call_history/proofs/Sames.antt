@@ -15,6 +15,11 @@ use Rattle.channel_values.proofs.Format.{spelled_once}
 use Rattle.channel_values.proofs.Formats.{fixed_format, state_format, outcome_format}
 use Rattle.call_history.proofs.Names.{same_bytes, bytes_eq_self}
 use Rattle.call_history.specs.declared.call.Call.{Call}
+use Rattle.call_history.specs.declared.call.DepositCall.{DepositCall}
+use Rattle.call_history.specs.declared.call.ChallengeCall.{ChallengeCall}
+use Rattle.call_history.specs.declared.call.RespondCall.{RespondCall}
+use Rattle.call_history.specs.declared.call.TransferCall.{TransferCall}
+use Rattle.call_history.specs.declared.call.ClaimCall.{ClaimCall}
 use Rattle.call_history.specs.declared.call.Call.TheVariants.{Deposit, Challenge, Respond, Refute, Checkpoint, Conclude, Transfer, Claim}
 use Rattle.call_history.specs.declared.call.Op.{Op}
 use Rattle.call_history.specs.declared.call.Op.TheVariants as ops
@@ -96,54 +101,78 @@ chain-same a b v w vs ws h =
     let m : a.marks ≡ b.marks = marks-same a.marks b.marks (and-right (pointwise same_state a.states b.states) (pointwise same_mark a.marks b.marks) lists) in
     ap (λ (x : FixedParts). chained x a.states a.marks) f ∙ (ap (λ (x : List StateParts). chained b.fixed x a.marks) s ∙ ap (chained b.fixed b.states) m)
 
+deposit-same : (a b : DepositCall) → same_call (Deposit a) (Deposit b) ≡ true → a ≡ b
+deposit-same a b h =
+    let rest = and-right (bytes_eq a.channel b.channel) ((a.asset == b.asset) && ((a.expected == b.expected) && (a.amount == b.amount))) h in
+    let last = and-right (a.asset == b.asset) ((a.expected == b.expected) && (a.amount == b.amount)) rest in
+    let name : a.channel ≡ b.channel = same_bytes a.channel b.channel (and-left (bytes_eq a.channel b.channel) ((a.asset == b.asset) && ((a.expected == b.expected) && (a.amount == b.amount))) h) in
+    let p : a.asset ≡ b.asset = number-same a.asset b.asset (and-left (a.asset == b.asset) ((a.expected == b.expected) && (a.amount == b.amount)) rest) in
+    let q : a.expected ≡ b.expected = number-same a.expected b.expected (and-left (a.expected == b.expected) (a.amount == b.amount) last) in
+    let s : a.amount ≡ b.amount = number-same a.amount b.amount (and-right (a.expected == b.expected) (a.amount == b.amount) last) in
+    ap (λ (z : List ℕ). record a { channel = z }) name ∙ (ap (λ (z : ℕ). record a { channel = b.channel; asset = z }) p
+    ∙ (ap (λ (z : ℕ). record b { expected = z; amount = a.amount }) q ∙ ap (λ (z : ℕ). record b { amount = z }) s))
+
+challenge-same : (a b : ChallengeCall) → HasValidParts (Challenge a) → HasValidParts (Challenge b) → same_call (Challenge a) (Challenge b) ≡ true → a ≡ b
+challenge-same a b v w h =
+    let rest = and-right (same_chain a.chain b.chain) ((a.challenger == b.challenger) && bytes_eq a.signature b.signature) h in
+    let c : a.chain ≡ b.chain = chain-same a.chain b.chain v.0 w.0 v.1 w.1 (and-left (same_chain a.chain b.chain) ((a.challenger == b.challenger) && bytes_eq a.signature b.signature) h) in
+    let p : a.challenger ≡ b.challenger = number-same a.challenger b.challenger (and-left (a.challenger == b.challenger) (bytes_eq a.signature b.signature) rest) in
+    let s : a.signature ≡ b.signature = same_bytes a.signature b.signature (and-right (a.challenger == b.challenger) (bytes_eq a.signature b.signature) rest) in
+    ap (λ (z : Chain). record a { chain = z }) c ∙ (ap (λ (z : ℕ). record b { challenger = z; signature = a.signature }) p ∙ ap (λ (z : List ℕ). record b { signature = z }) s)
+
+respond-same : (a b : RespondCall) → HasValidParts (Respond a) → HasValidParts (Respond b) → same_call (Respond a) (Respond b) ≡ true → a ≡ b
+respond-same a b v w h =
+    let rest = and-right (same_fixed a.fixed b.fixed) (same_state a.from b.from && same_signed a.next b.next) h in
+    let c : a.fixed ≡ b.fixed = fixed-same a.fixed b.fixed v.0 w.0 (and-left (same_fixed a.fixed b.fixed) (same_state a.from b.from && same_signed a.next b.next) h) in
+    let p : a.from ≡ b.from = state-same a.from b.from v.1 w.1 (and-left (same_state a.from b.from) (same_signed a.next b.next) rest) in
+    let q : a.next ≡ b.next = signed-same a.next b.next v.2 w.2 (and-right (same_state a.from b.from) (same_signed a.next b.next) rest) in
+    ap (λ (z : FixedParts). record a { fixed = z }) c ∙ (ap (λ (z : StateParts). record b { from = z; next = a.next }) p ∙ ap (λ (z : Signed). record b { next = z }) q)
+
+transfer-same : (a b : TransferCall) → IsOutcome a.outcome → IsOutcome b.outcome → same_call (Transfer a) (Transfer b) ≡ true → a ≡ b
+transfer-same a b v w h =
+    let rest = and-right (bytes_eq a.channel b.channel) (same_outcome a.outcome b.outcome && ((a.asset == b.asset) && (a.index == b.index))) h in
+    let last = and-right (same_outcome a.outcome b.outcome) ((a.asset == b.asset) && (a.index == b.index)) rest in
+    let name : a.channel ≡ b.channel = same_bytes a.channel b.channel (and-left (bytes_eq a.channel b.channel) (same_outcome a.outcome b.outcome && ((a.asset == b.asset) && (a.index == b.index))) h) in
+    let q : a.outcome ≡ b.outcome = outcome-same a.outcome b.outcome v w (and-left (same_outcome a.outcome b.outcome) ((a.asset == b.asset) && (a.index == b.index)) rest) in
+    let s : a.asset ≡ b.asset = number-same a.asset b.asset (and-left (a.asset == b.asset) (a.index == b.index) last) in
+    let t : a.index ≡ b.index = number-same a.index b.index (and-right (a.asset == b.asset) (a.index == b.index) last) in
+    ap (λ (z : List ℕ). record a { channel = z }) name ∙ (ap (λ (z : List AssetOutcome). record a { channel = b.channel; outcome = z }) q
+    ∙ (ap (λ (z : ℕ). record b { asset = z; index = a.index }) s ∙ ap (λ (z : ℕ). record b { index = z }) t))
+
+claim-same : (a b : ClaimCall) → HasValidParts (Claim a) → HasValidParts (Claim b) → same_call (Claim a) (Claim b) ≡ true → a ≡ b
+claim-same a b v w h =
+    let payers = bytes_eq a.guarantor b.guarantor && same_outcome a.guarantor_outcome b.guarantor_outcome in
+    let owners = bytes_eq a.target b.target && same_outcome a.target_outcome b.target_outcome in
+    let numbers = (a.asset == b.asset) && (a.position == b.position) in
+    let payer = and-left payers (owners && numbers) h in
+    let rest = and-right payers (owners && numbers) h in
+    let owner = and-left owners numbers rest in
+    let last = and-right owners numbers rest in
+    let e0 : a.guarantor ≡ b.guarantor = same_bytes a.guarantor b.guarantor (and-left (bytes_eq a.guarantor b.guarantor) (same_outcome a.guarantor_outcome b.guarantor_outcome) payer) in
+    let e1 : a.guarantor_outcome ≡ b.guarantor_outcome =
+    outcome-same a.guarantor_outcome b.guarantor_outcome v.0 w.0 (and-right (bytes_eq a.guarantor b.guarantor) (same_outcome a.guarantor_outcome b.guarantor_outcome) payer) in
+    let e2 : a.target ≡ b.target = same_bytes a.target b.target (and-left (bytes_eq a.target b.target) (same_outcome a.target_outcome b.target_outcome) owner) in
+    let e3 : a.target_outcome ≡ b.target_outcome =
+    outcome-same a.target_outcome b.target_outcome v.1 w.1 (and-right (bytes_eq a.target b.target) (same_outcome a.target_outcome b.target_outcome) owner) in
+    let e4 : a.asset ≡ b.asset = number-same a.asset b.asset (and-left (a.asset == b.asset) (a.position == b.position) last) in
+    let e5 : a.position ≡ b.position = number-same a.position b.position (and-right (a.asset == b.asset) (a.position == b.position) last) in
+    ap (λ (z : List ℕ). record a { guarantor = z }) e0 ∙ (ap (λ (z : List AssetOutcome). record a { guarantor = b.guarantor; guarantor_outcome = z }) e1
+    ∙ (ap (λ (z : List ℕ). record b { target = z; target_outcome = a.target_outcome; asset = a.asset; position = a.position }) e2
+    ∙ (ap (λ (z : List AssetOutcome). record b { target_outcome = z; asset = a.asset; position = a.position }) e3
+    ∙ (ap (λ (z : ℕ). record b { asset = z; position = a.position }) e4 ∙ ap (λ (z : ℕ). record b { position = z }) e5))))
+
 pub call-same : (a b : Call) → HasValidParts a → HasValidParts b → same_call a b ≡ true → a ≡ b
-call-same (Deposit c a e x) (Deposit d b f y) v w h =
-    let rest = and-right (bytes_eq c d) ((a == b) && ((e == f) && (x == y))) h in
-    let last = and-right (a == b) ((e == f) && (x == y)) rest in
-    let name : c ≡ d = same_bytes c d (and-left (bytes_eq c d) ((a == b) && ((e == f) && (x == y))) h) in
-    let p : a ≡ b = number-same a b (and-left (a == b) ((e == f) && (x == y)) rest) in
-    let q : e ≡ f = number-same e f (and-left (e == f) (x == y) last) in
-    let s : x ≡ y = number-same x y (and-right (e == f) (x == y) last) in
-    ap (λ (z : List ℕ). Deposit z a e x) name ∙ (ap (λ (z : ℕ). Deposit d z e x) p ∙ (ap (λ (z : ℕ). Deposit d b z x) q ∙ ap (λ (z : ℕ). Deposit d b f z) s))
-call-same (Challenge a i x) (Challenge b j y) v w h =
-    let rest = and-right (same_chain a b) ((i == j) && bytes_eq x y) h in
-    let c : a ≡ b = chain-same a b v.0 w.0 v.1 w.1 (and-left (same_chain a b) ((i == j) && bytes_eq x y) h) in
-    let p : i ≡ j = number-same i j (and-left (i == j) (bytes_eq x y) rest) in
-    let s : x ≡ y = same_bytes x y (and-right (i == j) (bytes_eq x y) rest) in
-    ap (λ (z : Chain). Challenge z i x) c ∙ (ap (λ (z : ℕ). Challenge b z x) p ∙ ap (λ (z : List ℕ). Challenge b j z) s)
-call-same (Respond f s x) (Respond g t y) v w h =
-    let rest = and-right (same_fixed f g) (same_state s t && same_signed x y) h in
-    let c : f ≡ g = fixed-same f g v.0 w.0 (and-left (same_fixed f g) (same_state s t && same_signed x y) h) in
-    let p : s ≡ t = state-same s t v.1 w.1 (and-left (same_state s t) (same_signed x y) rest) in
-    let q : x ≡ y = signed-same x y v.2 w.2 (and-right (same_state s t) (same_signed x y) rest) in
-    ap (λ (z : FixedParts). Respond z s x) c ∙ (ap (λ (z : StateParts). Respond g z x) p ∙ ap (λ (z : Signed). Respond g t z) q)
+call-same (Deposit a) (Deposit b) v w h = ap (λ (z : DepositCall). Deposit z) (deposit-same a b h)
+call-same (Challenge a) (Challenge b) v w h = ap (λ (z : ChallengeCall). Challenge z) (challenge-same a b v w h)
+call-same (Respond a) (Respond b) v w h = ap (λ (z : RespondCall). Respond z) (respond-same a b v w h)
 call-same (Refute f x) (Refute g y) v w h =
     let c : f ≡ g = fixed-same f g v.0 w.0 (and-left (same_fixed f g) (same_signed x y) h) in
     let q : x ≡ y = signed-same x y v.1 w.1 (and-right (same_fixed f g) (same_signed x y) h) in
     ap (λ (z : FixedParts). Refute z x) c ∙ ap (λ (z : Signed). Refute g z) q
 call-same (Checkpoint a) (Checkpoint b) v w h = let c : a ≡ b = chain-same a b v.0 w.0 v.1 w.1 h in ap (λ (z : Chain). Checkpoint z) c
 call-same (Conclude a) (Conclude b) v w h = let c : a ≡ b = chain-same a b v.0 w.0 v.1 w.1 h in ap (λ (z : Chain). Conclude z) c
-call-same (Transfer c o a i) (Transfer d p b j) v w h =
-    let rest = and-right (bytes_eq c d) (same_outcome o p && ((a == b) && (i == j))) h in
-    let last = and-right (same_outcome o p) ((a == b) && (i == j)) rest in
-    let name : c ≡ d = same_bytes c d (and-left (bytes_eq c d) (same_outcome o p && ((a == b) && (i == j))) h) in
-    let q : o ≡ p = outcome-same o p v w (and-left (same_outcome o p) ((a == b) && (i == j)) rest) in
-    let s : a ≡ b = number-same a b (and-left (a == b) (i == j) last) in
-    let t : i ≡ j = number-same i j (and-right (a == b) (i == j) last) in
-    ap (λ (z : List ℕ). Transfer z o a i) name ∙ (ap (λ (z : List AssetOutcome). Transfer d z a i) q ∙ (ap (λ (z : ℕ). Transfer d p z i) s ∙ ap (λ (z : ℕ). Transfer d p b z) t))
-call-same (Claim g p c o a i) (Claim k q d n b j) v w h =
-    let payer = and-left (bytes_eq g k && same_outcome p q) ((bytes_eq c d && same_outcome o n) && ((a == b) && (i == j))) h in
-    let rest = and-right (bytes_eq g k && same_outcome p q) ((bytes_eq c d && same_outcome o n) && ((a == b) && (i == j))) h in
-    let owner = and-left (bytes_eq c d && same_outcome o n) ((a == b) && (i == j)) rest in
-    let last = and-right (bytes_eq c d && same_outcome o n) ((a == b) && (i == j)) rest in
-    let e0 : g ≡ k = same_bytes g k (and-left (bytes_eq g k) (same_outcome p q) payer) in
-    let e1 : p ≡ q = outcome-same p q v.0 w.0 (and-right (bytes_eq g k) (same_outcome p q) payer) in
-    let e2 : c ≡ d = same_bytes c d (and-left (bytes_eq c d) (same_outcome o n) owner) in
-    let e3 : o ≡ n = outcome-same o n v.1 w.1 (and-right (bytes_eq c d) (same_outcome o n) owner) in
-    let e4 : a ≡ b = number-same a b (and-left (a == b) (i == j) last) in
-    let e5 : i ≡ j = number-same i j (and-right (a == b) (i == j) last) in
-    ap (λ (z : List ℕ). Claim z p c o a i) e0 ∙ (ap (λ (z : List AssetOutcome). Claim k z c o a i) e1 ∙ (ap (λ (z : List ℕ). Claim k q z o a i) e2
-    ∙ (ap (λ (z : List AssetOutcome). Claim k q d z a i) e3 ∙ (ap (λ (z : ℕ). Claim k q d n z i) e4 ∙ ap (λ (z : ℕ). Claim k q d n b z) e5))))
+call-same (Transfer a) (Transfer b) v w h = ap (λ (z : TransferCall). Transfer z) (transfer-same a b v w h)
+call-same (Claim a) (Claim b) v w h = ap (λ (z : ClaimCall). Claim z) (claim-same a b v w h)
 call-same _ _ v w h = never h
 
 -- ---- a call has the bytes that it has
@@ -175,20 +204,26 @@ ending-self : (c : List ℕ) (o : List AssetOutcome) → (bytes_eq c c && same_o
 ending-self c o = and-both (bytes_eq c c) (same_outcome o o) (bytes_eq_self c) (bytes_eq_self (outcome o))
 
 pub call-self : (a : Call) → same_call a a ≡ true
-call-self (Deposit c a e x) = and-both (bytes_eq c c) ((a == a) && ((e == e) && (x == x))) (bytes_eq_self c) (and-both (a == a) ((e == e) && (x == x)) (number-self a) (numbers-self e x))
-call-self (Challenge a i x) =
-    and-both (same_chain a a) ((i == i) && bytes_eq x x) (chain-self a) (and-both (i == i) (bytes_eq x x) (number-self i) (bytes_eq_self x))
-call-self (Respond g s x) =
-    and-both (same_fixed g g) (same_state s s && same_signed x x) (bytes_eq_self (fixed g)) (and-both (same_state s s) (same_signed x x) (bytes_eq_self (state s)) (signed-self x))
+call-self (Deposit d) =
+    and-both (bytes_eq d.channel d.channel) ((d.asset == d.asset) && ((d.expected == d.expected) && (d.amount == d.amount))) (bytes_eq_self d.channel)
+    (and-both (d.asset == d.asset) ((d.expected == d.expected) && (d.amount == d.amount)) (number-self d.asset) (numbers-self d.expected d.amount))
+call-self (Challenge k) =
+    and-both (same_chain k.chain k.chain) ((k.challenger == k.challenger) && bytes_eq k.signature k.signature) (chain-self k.chain)
+    (and-both (k.challenger == k.challenger) (bytes_eq k.signature k.signature) (number-self k.challenger) (bytes_eq_self k.signature))
+call-self (Respond k) =
+    and-both (same_fixed k.fixed k.fixed) (same_state k.from k.from && same_signed k.next k.next) (bytes_eq_self (fixed k.fixed))
+    (and-both (same_state k.from k.from) (same_signed k.next k.next) (bytes_eq_self (state k.from)) (signed-self k.next))
 call-self (Refute g x) = and-both (same_fixed g g) (same_signed x x) (bytes_eq_self (fixed g)) (signed-self x)
 call-self (Checkpoint a) = chain-self a
 call-self (Conclude a) = chain-self a
-call-self (Transfer c o a i) =
-    and-both (bytes_eq c c) (same_outcome o o && ((a == a) && (i == i))) (bytes_eq_self c)
-    (and-both (same_outcome o o) ((a == a) && (i == i)) (bytes_eq_self (outcome o)) (numbers-self a i))
-call-self (Claim g p c o a i) =
-    and-both (bytes_eq g g && same_outcome p p) ((bytes_eq c c && same_outcome o o) && ((a == a) && (i == i))) (ending-self g p)
-    (and-both (bytes_eq c c && same_outcome o o) ((a == a) && (i == i)) (ending-self c o) (numbers-self a i))
+call-self (Transfer k) =
+    and-both (bytes_eq k.channel k.channel) (same_outcome k.outcome k.outcome && ((k.asset == k.asset) && (k.index == k.index))) (bytes_eq_self k.channel)
+    (and-both (same_outcome k.outcome k.outcome) ((k.asset == k.asset) && (k.index == k.index)) (bytes_eq_self (outcome k.outcome)) (numbers-self k.asset k.index))
+call-self (Claim k) =
+    let owners = bytes_eq k.target k.target && same_outcome k.target_outcome k.target_outcome in
+    let numbers = (k.asset == k.asset) && (k.position == k.position) in
+    and-both (bytes_eq k.guarantor k.guarantor && same_outcome k.guarantor_outcome k.guarantor_outcome) (owners && numbers) (ending-self k.guarantor k.guarantor_outcome)
+    (and-both owners numbers (ending-self k.target k.target_outcome) (numbers-self k.asset k.position))
 
 pub same-calls-one : SameCallsAreOne
 same-calls-one a b v w = (call-same a b v w, λ e. subst (λ (c : Call). same_call a c ≡ true) e (call-self a))

@@ -1,4 +1,4 @@
--- What an entry of a legal history tells of a row is so.
+-- What an entry of a legal history says of a row is so.
 use Rattle.std.proofs.Common.{◌≡◌, ℕ, ◌+◌, List, true, false, Some, None, refl, sym, ◌∙◌, ap}
 use Rattle.std.specs.Prelude.{Option, Result, Ok, Err}
 use Rattle.channel_values.specs.Parts.{FixedParts}
@@ -42,19 +42,20 @@ concluded_told : (now : ℕ) (op : Op) (new : Row) (x : Result Row Refusal) → 
 concluded_told now op new (Ok row) ends answers accepted = ap (λ (t : Row). Some (t.turn, Some now)) answers.is ∙ ap (λ (d : Option ℕ). Some (new.turn, d)) (sym ends)
 concluded_told now op new (Err refusal) ends answers accepted = absurd cc
 
--- the reply to a turning call tells the row that it makes
+-- the reply to a turning call describes the row that it makes
 pub reply_tells : (r : Rules) (h : List Entry) (op : Op) (f : FixedParts) → fixed_of op ≡ Some f → is_accepted (reply_to r h op) ≡ true
     → told_row (now_of h) op (reply_to r h op) ≡ row_told (turned r (now_of h) op (row r (r.named f) h))
 unfolding reply_to
-reply_tells r h (ops.Call (Challenge chain who signature)) f names accepted =
-    until_told (now_of h) (now_of h + chain.fixed.duration) (top_turn chain.states) (ops.Call (Challenge chain who signature)) (after_challenge r (now_of h) chain who)
-    (challenge r (row r (r.named chain.fixed) h) (now_of h) chain who signature) refl accepted
-reply_tells r h (ops.Call (Respond fixed from next)) f names accepted =
-    opened_told (now_of h) (ops.Call (Respond fixed from next)) (after_turn next.state.turn (row r (r.named fixed) h)) (respond r (row r (r.named fixed) h) (now_of h) fixed from next) refl
-    (respond_row r (row r (r.named fixed) h) (now_of h) fixed from next (is_signed_well r fixed next)) accepted
-    ∙ ap (λ n. row_told (after_turn next.state.turn (row r (r.named n) h))) (same names)
+reply_tells r h (ops.Call (Challenge k)) f names accepted =
+    until_told (now_of h) (now_of h + k.chain.fixed.duration) (top_turn k.chain.states) (ops.Call (Challenge k)) (after_challenge r (now_of h) k.chain k.challenger)
+    (challenge r (row r (r.named k.chain.fixed) h) (now_of h) k.chain k.challenger k.signature) refl accepted
+reply_tells r h (ops.Call (Respond k)) f names accepted =
+    let old : Row = row r (r.named k.fixed) h in
+    opened_told (now_of h) (ops.Call (Respond k)) (after_turn k.next.state.turn old) (respond r old (now_of h) k.fixed k.from k.next) refl
+    (respond_row r old (now_of h) k.fixed k.from k.next (is_signed_well r k.fixed k.next)) accepted
+    ∙ ap (λ n. row_told (after_turn k.next.state.turn (row r (r.named n) h))) (same names)
   where
-    same : Some fixed ≡ Some f → fixed ≡ f
+    same : Some k.fixed ≡ Some f → k.fixed ≡ f
     same e = cc
 reply_tells r h (ops.Call (Refute fixed next)) f names accepted =
     opened_told (now_of h) (ops.Call (Refute fixed next)) (after_refute (row r (r.named fixed) h)) (refute r (row r (r.named fixed) h) (now_of h) fixed next) refl
@@ -79,7 +80,7 @@ reply_tells r h (ops.Call (Conclude chain)) f names accepted =
     same e = cc
 reply_tells r h _ f names accepted = absurd cc
 
--- a refusal tells nothing of a row
+-- a refusal says nothing of a row
 pub refused_tells : (now : ℕ) (op : Op) (reply : Reply) → is_accepted reply ≡ false → told_row now op reply ≡ None
 refused_tells now op (No refusal) refused = refl
 refused_tells now op _ refused = absurd cc

@@ -82,7 +82,7 @@ mode r channel h = mode_at (row r channel h).deadline (now_of h)
 
 -- the outcome of the last accepted challenge or conclude
 abbrev pub settles : Op → Option (List AssetOutcome) → Option (List AssetOutcome)
-settles (ops.Call (Challenge chain who signature)) before = Some (top_outcome chain.states)
+settles (ops.Call (Challenge k)) before = Some (top_outcome k.chain.states)
 settles (ops.Call (Conclude chain)) before = Some (top_outcome chain.states)
 settles _ before = before
 
@@ -108,11 +108,11 @@ flow_to from (Some to) asset amount = record { from = from; to = to; asset = ass
 
 -- the flow of an accepted call: what a transfer and a claim pay, their replies say
 abbrev pub flow_of : Op → Reply → List Flow
-flow_of (ops.Call (Deposit channel asset expected amount)) (Held n) = flow_to None (Some (Channel channel)) asset amount
-flow_of (ops.Call (Transfer channel outcome asset index)) (Paid n) =
-    flow_to (Some channel) (item_dest (shape_in outcome asset) index) asset n
-flow_of (ops.Call (Claim guarantor promise target outcome asset position)) (Paid n) =
-    flow_to (Some guarantor) (listed_dest (shape_in promise asset) position) asset n
+flow_of (ops.Call (Deposit d)) (Held n) = flow_to None (Some (Channel d.channel)) d.asset d.amount
+flow_of (ops.Call (Transfer k)) (Paid n) =
+    flow_to (Some k.channel) (item_dest (shape_in k.outcome k.asset) k.index) k.asset n
+flow_of (ops.Call (Claim k)) (Paid n) =
+    flow_to (Some k.guarantor) (listed_dest (shape_in k.guarantor_outcome k.asset) k.position) k.asset n
 flow_of _ _ = []
 
 -- the flows of entries, in the order of these
@@ -139,13 +139,14 @@ place_in _ _ = 0
 
 -- what an accepted transfer pays of an item of its channel, and an accepted claim of an item of its target
 abbrev pub payment_of : Op → Reply → List Payment
-payment_of (ops.Call (Transfer channel outcome asset index)) (Paid n) =
-    record { channel = channel; asset = asset; place = index; amount = n } ∷ []
-payment_of (ops.Call (Claim guarantor promise target outcome asset position)) (Paid n) =
+payment_of (ops.Call (Transfer k)) (Paid n) =
+    record { channel = k.channel; asset = k.asset; place = k.index; amount = n } ∷ []
+payment_of (ops.Call (Claim k)) (Paid n) =
     record {
-      channel = target;
-      asset = asset;
-      place = place_in (shape_in outcome asset) (listed_dest (shape_in promise asset) position);
+      channel = k.target;
+      asset = k.asset;
+      place =
+          place_in (shape_in k.target_outcome k.asset) (listed_dest (shape_in k.guarantor_outcome k.asset) k.position);
       amount = n;
     } ∷ []
 payment_of _ _ = []
@@ -169,27 +170,27 @@ row_of_fixed r fixed h = row r (r.named fixed) h
 
 -- what each call answers after a history
 abbrev pub call_reply : Rules → List Entry → Call → Reply
-call_reply r h (Deposit channel asset expected amount) =
-    told Held (replies.deposit (held_of h channel asset) (deposited_of h asset) expected amount)
-call_reply r h (Challenge chain who signature) =
-    told (λ new. Until (now_of h + chain.fixed.duration))
-    (replies.challenge r (row_of_fixed r chain.fixed h) (now_of h) chain who signature)
-call_reply r h (Respond fixed from next) =
-    told (λ new. Opened new.turn) (replies.respond r (row_of_fixed r fixed h) (now_of h) fixed from next)
+call_reply r h (Deposit d) =
+    told Held (replies.deposit (held_of h d.channel d.asset) (deposited_of h d.asset) d.expected d.amount)
+call_reply r h (Challenge k) =
+    told (λ new. Until (now_of h + k.chain.fixed.duration))
+    (replies.challenge r (row_of_fixed r k.chain.fixed h) (now_of h) k.chain k.challenger k.signature)
+call_reply r h (Respond k) =
+    told (λ new. Opened new.turn) (replies.respond r (row_of_fixed r k.fixed h) (now_of h) k.fixed k.from k.next)
 call_reply r h (Refute fixed next) =
     told (λ new. Opened new.turn) (replies.refute r (row_of_fixed r fixed h) (now_of h) fixed next)
 call_reply r h (Checkpoint chain) =
     told (λ new. Opened new.turn) (replies.checkpoint r (row_of_fixed r chain.fixed h) (now_of h) chain)
 call_reply r h (Conclude chain) =
     told (λ new. Concluded new.turn) (replies.conclude r (row_of_fixed r chain.fixed h) (now_of h) chain)
-call_reply r h (Transfer channel outcome asset index) =
+call_reply r h (Transfer k) =
     told (λ due. Paid due.amount)
-    (replies.transfer r (row r channel h) (now_of h) (paid_of h channel asset) (held_of h channel asset) channel outcome
-    asset index)
-call_reply r h (Claim guarantor promise target outcome asset position) =
+    (replies.transfer r (row r k.channel h) (now_of h) (paid_of h k.channel k.asset) (held_of h k.channel k.asset)
+    k.channel k.outcome k.asset k.index)
+call_reply r h (Claim k) =
     told (λ due. Paid due.amount)
-    (replies.claim r (row r guarantor h) (row r target h) (now_of h) (paid_of h target asset) (held_of h guarantor asset)
-    guarantor promise target outcome asset position)
+    (replies.claim r (row r k.guarantor h) (row r k.target h) (now_of h) (paid_of h k.target k.asset)
+    (held_of h k.guarantor k.asset) k.guarantor k.guarantor_outcome k.target k.target_outcome k.asset k.position)
 
 unfoldable pub reply_to : Rules → List Entry → Op → Reply
 reply_to r h (ops.Call call) = call_reply r h call
@@ -213,8 +214,8 @@ pub record IsWithinDeposits (h : List Entry) : Type 0 where
 
 -- the channel that pays in an op, and the asset
 abbrev pub payer_of : Op → Option (List ℕ × ℕ)
-payer_of (ops.Call (Transfer channel outcome asset index)) = Some (channel, asset)
-payer_of (ops.Call (Claim guarantor promise target outcome asset position)) = Some (guarantor, asset)
+payer_of (ops.Call (Transfer k)) = Some (k.channel, k.asset)
+payer_of (ops.Call (Claim k)) = Some (k.guarantor, k.asset)
 payer_of _ = None
 
 abbrev pub IsHeldBy : List Entry → ℕ → Option (List ℕ × ℕ) → Type 0

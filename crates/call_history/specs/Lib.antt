@@ -7,6 +7,7 @@ pub mod Dues
 pub mod Rest
 pub mod Replies
 pub mod History
+pub mod Calls
 pub mod Payouts
 pub mod Spelling
 pub mod Limits

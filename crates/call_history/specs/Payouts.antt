@@ -8,6 +8,8 @@ use Rattle.channel_values.specs.Rules.{Rules}
 use Rattle.call_history.specs.Dues.{shape_in}
 use Rattle.call_history.specs.Rest.{rest_outcome, lower_outcome, left_of}
 use Rattle.call_history.specs.History.{item_dest, listed_dest, held_of, paid_of, reply_to}
+use Rattle.call_history.specs.declared.call.TransferCall.{TransferCall}
+use Rattle.call_history.specs.declared.call.ClaimCall.{ClaimCall}
 use Rattle.call_history.specs.declared.call.Call.TheVariants.{Transfer, Claim}
 use Rattle.call_history.specs.declared.call.Op.TheVariants as ops
 use Rattle.call_history.specs.declared.entry.Entry.{Entry}
@@ -33,22 +35,14 @@ pub record LowersBoth (h : List Entry) (e : Entry) (payer owner : List ℕ) (out
 
 abbrev pub TransferLowersBoth : Rules → List Entry → Type 0
 TransferLowersBoth r h =
-    (number by : ℕ) (channel : List ℕ) (outcome : List AssetOutcome) (asset index amount : ℕ)
-    → reply_to r h (ops.Call (Transfer channel outcome asset index)) ≡ Paid amount
-    → LowersBoth h
-    (record { number = number; by = by; op = ops.Call (Transfer channel outcome asset index); reply = Paid amount })
-    channel channel outcome asset (item_dest (shape_in outcome asset) index) amount
+    (number by : ℕ) (k : TransferCall) (amount : ℕ)
+    → reply_to r h (ops.Call (Transfer k)) ≡ Paid amount
+    → LowersBoth h (record { number = number; by = by; op = ops.Call (Transfer k); reply = Paid amount })
+    k.channel k.channel k.outcome k.asset (item_dest (shape_in k.outcome k.asset) k.index) amount
 
 abbrev pub ClaimLowersBoth : Rules → List Entry → Type 0
 ClaimLowersBoth r h =
-    (number by : ℕ) (guarantor : List ℕ) (promise : List AssetOutcome) (target : List ℕ)
-    (outcome : List AssetOutcome) (asset position amount : ℕ)
-    → reply_to r h (ops.Call (Claim guarantor promise target outcome asset position)) ≡ Paid amount
-    → LowersBoth h
-    (record {
-      number = number;
-      by = by;
-      op = ops.Call (Claim guarantor promise target outcome asset position);
-      reply = Paid amount;
-    })
-    guarantor target outcome asset (listed_dest (shape_in promise asset) position) amount
+    (number by : ℕ) (k : ClaimCall) (amount : ℕ)
+    → reply_to r h (ops.Call (Claim k)) ≡ Paid amount
+    → LowersBoth h (record { number = number; by = by; op = ops.Call (Claim k); reply = Paid amount })
+    k.guarantor k.target k.target_outcome k.asset (listed_dest (shape_in k.guarantor_outcome k.asset) k.position) amount

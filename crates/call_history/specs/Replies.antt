@@ -67,7 +67,8 @@ conclude_with r row now chain verified =
 
 abbrev pub challenge : Rules → Row → ℕ → Chain → ℕ → List ℕ → Result Row Refusal
 challenge r row now chain who signature =
-    challenge_with r row now chain who (verified_marks r chain) (signs_challenge r chain.fixed chain.states who signature)
+    challenge_with r row now chain who (verified_marks r chain)
+    (signs_challenge r chain.fixed chain.states who signature)
 
 abbrev pub respond : Rules → Row → ℕ → FixedParts → StateParts → Signed → Result Row Refusal
 respond r row now fixed from next = respond_with r row now fixed from next (is_signed_well r fixed next)

@@ -57,8 +57,8 @@ after_conclude r now chain row =
 
 -- the fixed part of a turning call
 abbrev pub fixed_of : Op → Option FixedParts
-fixed_of (ops.Call (Challenge chain who signature)) = Some chain.fixed
-fixed_of (ops.Call (Respond fixed from next)) = Some fixed
+fixed_of (ops.Call (Challenge k)) = Some k.chain.fixed
+fixed_of (ops.Call (Respond k)) = Some k.fixed
 fixed_of (ops.Call (Refute fixed next)) = Some fixed
 fixed_of (ops.Call (Checkpoint chain)) = Some chain.fixed
 fixed_of (ops.Call (Conclude chain)) = Some chain.fixed
@@ -66,8 +66,8 @@ fixed_of _ = None
 
 -- the row after an accepted turning call, from the time and the row before it
 abbrev pub turned : Rules → ℕ → Op → Row → Row
-turned r now (ops.Call (Challenge chain who signature)) row = after_challenge r now chain who
-turned r now (ops.Call (Respond fixed from next)) row = after_turn next.state.turn row
+turned r now (ops.Call (Challenge k)) row = after_challenge r now k.chain k.challenger
+turned r now (ops.Call (Respond k)) row = after_turn k.next.state.turn row
 turned r now (ops.Call (Refute fixed next)) row = after_refute row
 turned r now (ops.Call (Checkpoint chain)) row = after_turn (top_turn chain.states) row
 turned r now (ops.Call (Conclude chain)) row = after_conclude r now chain row

@@ -35,15 +35,23 @@ same_chain a b =
     same_fixed a.fixed b.fixed && (pointwise same_state a.states b.states && pointwise same_mark a.marks b.marks)
 
 abbrev pub same_call : Call → Call → Bool
-same_call (Deposit c a e x) (Deposit d b f y) = bytes_eq c d && ((a == b) && ((e == f) && (x == y)))
-same_call (Challenge a i x) (Challenge b j y) = same_chain a b && ((i == j) && bytes_eq x y)
-same_call (Respond f s x) (Respond g t y) = same_fixed f g && (same_state s t && same_signed x y)
+same_call (Deposit a) (Deposit b) =
+    bytes_eq a.channel b.channel
+    && ((a.asset == b.asset) && ((a.expected == b.expected) && (a.amount == b.amount)))
+same_call (Challenge a) (Challenge b) =
+    same_chain a.chain b.chain && ((a.challenger == b.challenger) && bytes_eq a.signature b.signature)
+same_call (Respond a) (Respond b) =
+    same_fixed a.fixed b.fixed && (same_state a.from b.from && same_signed a.next b.next)
 same_call (Refute f x) (Refute g y) = same_fixed f g && same_signed x y
 same_call (Checkpoint a) (Checkpoint b) = same_chain a b
 same_call (Conclude a) (Conclude b) = same_chain a b
-same_call (Transfer c o a i) (Transfer d p b j) = bytes_eq c d && (same_outcome o p && ((a == b) && (i == j)))
-same_call (Claim g p c o a i) (Claim h q d n b j) =
-    (bytes_eq g h && same_outcome p q) && ((bytes_eq c d && same_outcome o n) && ((a == b) && (i == j)))
+same_call (Transfer a) (Transfer b) =
+    bytes_eq a.channel b.channel
+    && (same_outcome a.outcome b.outcome && ((a.asset == b.asset) && (a.index == b.index)))
+same_call (Claim a) (Claim b) =
+    (bytes_eq a.guarantor b.guarantor && same_outcome a.guarantor_outcome b.guarantor_outcome)
+    && ((bytes_eq a.target b.target && same_outcome a.target_outcome b.target_outcome)
+    && ((a.asset == b.asset) && (a.position == b.position)))
 same_call _ _ = false
 
 -- the op is this call
@@ -55,14 +63,14 @@ is_op call (ops.Time t) = false
 
 -- a call's fixed part, states and outcomes are such
 abbrev pub HasValidParts : Call → Type 0
-HasValidParts (Deposit channel asset expected amount) = Unit {0}
-HasValidParts (Challenge chain who signature) = IsFixed chain.fixed × AllByRecursion IsState chain.states
-HasValidParts (Respond f from next) = IsFixed f × IsState from × IsState next.state
+HasValidParts (Deposit d) = Unit {0}
+HasValidParts (Challenge k) = IsFixed k.chain.fixed × AllByRecursion IsState k.chain.states
+HasValidParts (Respond k) = IsFixed k.fixed × IsState k.from × IsState k.next.state
 HasValidParts (Refute f next) = IsFixed f × IsState next.state
 HasValidParts (Checkpoint chain) = IsFixed chain.fixed × AllByRecursion IsState chain.states
 HasValidParts (Conclude chain) = IsFixed chain.fixed × AllByRecursion IsState chain.states
-HasValidParts (Transfer channel o asset index) = IsOutcome o
-HasValidParts (Claim guarantor promise target o asset position) = IsOutcome promise × IsOutcome o
+HasValidParts (Transfer k) = IsOutcome k.outcome
+HasValidParts (Claim k) = IsOutcome k.guarantor_outcome × IsOutcome k.target_outcome
 
 -- calls of valid parts are one exactly where the test says so
 abbrev pub SameCallsAreOne : Type 0

@@ -10,7 +10,7 @@ use Rattle.call_history.specs.declared.entry.Entry.{Entry}
 
 -- the chain of a challenge, or what was there before
 abbrev pub challenge_in : Op → Marked → Marked
-challenge_in (ops.Call (Challenge chain who signature)) before = marked_of chain
+challenge_in (ops.Call (Challenge k)) before = marked_of k.chain
 challenge_in _ before = before
 
 -- the chain of the channel's last accepted challenge
@@ -21,8 +21,8 @@ challenged r channel (e ∷ past) =
 
 -- the chain that an op shows where it turns the row: a respond the challenged one with its answer, and a refute none
 abbrev pub shown_by : Rules → List ℕ → List Entry → Op → Marked
-shown_by r channel past (ops.Call (Challenge chain who signature)) = marked_of chain
-shown_by r channel past (ops.Call (Respond fixed from next)) = answered fixed next (challenged r channel past)
+shown_by r channel past (ops.Call (Challenge k)) = marked_of k.chain
+shown_by r channel past (ops.Call (Respond k)) = answered k.fixed k.next (challenged r channel past)
 shown_by r channel past (ops.Call (Checkpoint chain)) = marked_of chain
 shown_by r channel past (ops.Call (Conclude chain)) = marked_of chain
 shown_by r channel past _ = nothing

@@ -8,16 +8,18 @@ use Rattle.call_history.specs.declared.call.Call.TheVariants.{Deposit, Challenge
 
 -- tags 1 to 8
 unfoldable pub call : Call → List ℕ
-call (Deposit channel asset expected amount) =
-    1 ∷ (channel ++ (to_be_bytes w32 asset ++ (to_be_bytes w64 expected ++ to_be_bytes w64 amount)))
-call (Challenge c challenger signature) = 2 ∷ (chain c ++ (challenger ∷ sized signature))
-call (Respond f from next) = 3 ∷ (fixed f ++ (state from ++ signed next))
+call (Deposit d) =
+    1 ∷ (d.channel ++ (to_be_bytes w32 d.asset ++ (to_be_bytes w64 d.expected ++ to_be_bytes w64 d.amount)))
+call (Challenge k) = 2 ∷ (chain k.chain ++ (k.challenger ∷ sized k.signature))
+call (Respond k) = 3 ∷ (fixed k.fixed ++ (state k.from ++ signed k.next))
 call (Refute f next) = 4 ∷ (fixed f ++ signed next)
 call (Checkpoint c) = 5 ∷ chain c
 call (Conclude c) = 6 ∷ chain c
-call (Transfer channel o asset index) = 7 ∷ (channel ++ (outcome o ++ (to_be_bytes w32 asset ++ (index ∷ []))))
-call (Claim guarantor promise target o asset position) =
-    8 ∷ (guarantor ++ (outcome promise ++ (target ++ (outcome o ++ (to_be_bytes w32 asset ++ (position ∷ []))))))
+call (Transfer k) =
+    7 ∷ (k.channel ++ (outcome k.outcome ++ (to_be_bytes w32 k.asset ++ (k.index ∷ []))))
+call (Claim k) =
+    8 ∷ (k.guarantor ++ (outcome k.guarantor_outcome ++ (k.target ++ (outcome k.target_outcome
+    ++ (to_be_bytes w32 k.asset ++ (k.position ∷ []))))))
 
 -- a channel's name, and a signed state of it
 abbrev pub Message : Type 0

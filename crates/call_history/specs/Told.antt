@@ -1,4 +1,4 @@
--- What an entry tells of a row by its op and its reply alone.
+-- What an entry says of a row by its op and its reply alone.
 use Rattle.std.specs.Prelude.{ℕ, Option, Some, None}
 use Rattle.channel_values.specs.Rules.{top_turn}
 use Rattle.call_history.specs.declared.call.Call.TheVariants.{Challenge}
@@ -9,7 +9,7 @@ use Rattle.call_history.specs.declared.refusal.Reply.TheVariants.{Until, Opened,
 
 -- the turn of a challenge's chain
 abbrev pub challenged_turn : Op → ℕ
-challenged_turn (ops.Call (Challenge chain who signature)) = top_turn chain.states
+challenged_turn (ops.Call (Challenge k)) = top_turn k.chain.states
 challenged_turn _ = 0
 
 -- the recorded turn and the deadline after an accepted call on a row, from the time of the call

@@ -4,7 +4,6 @@ ghost use Rattle.std.specs.Prelude.{◌≡◌, IfOk};
 ghost use Rattle.call_history.specs.declared.event.Deed.TheVariants as deeds;
 
 use crate::call::Call;
-use crate::copying::copy_call;
 use crate::standing::Standing;
 use channel_values::{Listed, Name, NoMemory, State};
 
@@ -60,7 +59,7 @@ fn copy_calls(calls: &Listed<Call>) -> Result<Listed<Call>, NoMemory>
 {
     let mut copies = Vec::new(calls.allocator());
     for call in calls.as_slice() {
-        let copy = copy_call(call)?;
+        let copy = call.copy()?;
         copies.push(copy)?;
     }
     Ok(Listed::make(copies))
@@ -87,37 +86,41 @@ fn copy_signed_challenge(
     Ok(Deed::SignedChallenge(*channel, state, challenger, signature))
 }
 
-fn copy_deed(deed: &Deed) -> Result<Deed, NoMemory>
-    ensures { IfOk result (λ d. d ≡ deed.now) }
-{
-    match deed {
-        Deed::Commanded(step, refusal) => Ok(Deed::Commanded(*step, *refusal)),
-        Deed::Handled(bytes, refusal) => {
-            let bytes = bytes.copy()?;
-            Ok(Deed::Handled(bytes, *refusal))
-        }
-        Deed::Signed(channel, state, signature) => copy_signed(channel, state, signature),
-        Deed::SignedChallenge(channel, state, challenger, signature) => {
-            copy_signed_challenge(channel, state, *challenger, signature)
-        }
-        Deed::Called(call) => {
-            let call = copy_call(call)?;
-            Ok(Deed::Called(call))
-        }
-        Deed::Watched(place, calls) => {
-            let calls = copy_calls(calls)?;
-            Ok(Deed::Watched(*place, calls))
+impl Deed {
+    fn copy(&self) -> Result<Deed, NoMemory>
+        ensures { IfOk result (λ d. d ≡ self.now) }
+    {
+        match self {
+            Deed::Commanded(step, refusal) => Ok(Deed::Commanded(*step, *refusal)),
+            Deed::Handled(bytes, refusal) => {
+                let bytes = bytes.copy()?;
+                Ok(Deed::Handled(bytes, *refusal))
+            }
+            Deed::Signed(channel, state, signature) => copy_signed(channel, state, signature),
+            Deed::SignedChallenge(channel, state, challenger, signature) => {
+                copy_signed_challenge(channel, state, *challenger, signature)
+            }
+            Deed::Called(call) => {
+                let call = call.copy()?;
+                Ok(Deed::Called(call))
+            }
+            Deed::Watched(place, calls) => {
+                let calls = copy_calls(calls)?;
+                Ok(Deed::Watched(*place, calls))
+            }
         }
     }
 }
 
-/// A second event that equals this one.
-pub fn copy_event(event: &Event) -> Result<Event, NoMemory>
-    ensures { IfOk result (λ e. e ≡ event.now) }
-{
-    let deed = copy_deed(&event.deed)?;
-    Ok(Event {
-        seen: event.seen,
-        deed,
-    })
+impl Event {
+    /// A second event that equals this one.
+    pub fn copy(&self) -> Result<Event, NoMemory>
+        ensures { IfOk result (λ e. e ≡ self.now) }
+    {
+        let deed = self.deed.copy()?;
+        Ok(Event {
+            seen: self.seen,
+            deed,
+        })
+    }
 }

@@ -31,12 +31,10 @@ fn deposit_flow(call: &Call) -> Option<Flow>
     ensures { (n : ℕ) → option_to_list result ≡ flow_of (ops.Call call.now) (Held n) }
 {
     match call {
-        Call::Deposit {
-            channel,
-            asset,
-            amount,
-            ..
-        } => flow_to(None, Some(Dest::Channel(*channel)), *asset, *amount),
+        Call::Deposit(deposit) => {
+            let to = Dest::Channel(deposit.channel);
+            flow_to(None, Some(to), deposit.asset, deposit.amount)
+        }
         _ => None,
     }
 }
@@ -46,24 +44,15 @@ fn payout_flow(call: &Call, amount: u64) -> Option<Flow>
     ensures { option_to_list result ≡ flow_of (ops.Call call.now) (Paid amount) }
 {
     match call {
-        Call::Transfer {
-            channel,
-            outcome,
-            asset,
-            index,
-        } => {
-            let to = item_dest(shape_in(outcome, *asset), *index);
-            flow_to(Some(*channel), to, *asset, amount)
+        Call::Transfer(transfer) => {
+            let shape = shape_in(&transfer.outcome, transfer.asset);
+            let to = item_dest(shape, transfer.index);
+            flow_to(Some(transfer.channel), to, transfer.asset, amount)
         }
-        Call::Claim {
-            guarantor,
-            guarantor_outcome,
-            asset,
-            position,
-            ..
-        } => {
-            let to = listed_dest(shape_in(guarantor_outcome, *asset), *position);
-            flow_to(Some(*guarantor), to, *asset, amount)
+        Call::Claim(claim) => {
+            let shape = shape_in(&claim.guarantor_outcome, claim.asset);
+            let to = listed_dest(shape, claim.position);
+            flow_to(Some(claim.guarantor), to, claim.asset, amount)
         }
         _ => None,
     }

@@ -4,7 +4,6 @@
 mod answering;
 mod balances;
 mod call;
-mod copying;
 mod display;
 mod entry;
 mod event;
@@ -23,10 +22,9 @@ mod view;
 
 pub use answering::answered;
 pub use balances::{deposited, held, held_by_all, paid, paid_to_all};
-pub use call::{Call, Op};
-pub use copying::{copy_call, copy_entry};
+pub use call::{Call, ChallengeCall, ClaimCall, DepositCall, Op, RespondCall, TransferCall};
 pub use entry::Entry;
-pub use event::{Deed, Event, NodeRefusal, copy_event};
+pub use event::{Deed, Event, NodeRefusal};
 pub use flows::flow_of;
 pub use funds::{Due, Flow, Payment};
 pub use held_chain::{HeldChain, Known, Place};

@@ -1,4 +1,4 @@
-//! What an entry tells of the time and of a row, by its op and its reply alone.
+//! What an entry says of the time and of a row, by its op and its reply alone.
 
 ghost use Rattle.std.specs.Prelude.{◌≡◌};
 ghost use Rattle.std.specs.Option.{option_map};
@@ -52,9 +52,10 @@ pub fn fixed_of(op: &Op) -> Option<&Fixed>
 {
     match op {
         Op::Call(call) => match call {
-            Call::Challenge { chain, .. } | Call::Checkpoint { chain } | Call::Conclude { chain } =>
-                Some(&chain.fixed),
-            Call::Respond { fixed, .. } | Call::Refute { fixed, .. } => Some(fixed),
+            Call::Challenge(challenge) => Some(&challenge.chain.fixed),
+            Call::Checkpoint { chain } | Call::Conclude { chain } => Some(&chain.fixed),
+            Call::Respond(respond) => Some(&respond.fixed),
+            Call::Refute { fixed, .. } => Some(fixed),
             _ => None,
         },
         Op::Time(_) => None,
@@ -65,7 +66,7 @@ fn challenged_turn(op: &Op) -> u64
     ensures { result ≡ challenged_turn op.now }
 {
     match op {
-        Op::Call(Call::Challenge { chain, .. }) => top_turn(chain.states.as_slice()),
+        Op::Call(Call::Challenge(challenge)) => top_turn(challenge.chain.states.as_slice()),
         _ => 0,
     }
 }

@@ -48,27 +48,23 @@ pub fn parts_are_valid(call: &Call)
     ensures { HasValidParts call.now }
 {
     match call {
-        Call::Challenge { chain, .. } => chain_is_valid(chain),
+        Call::Challenge(challenge) => chain_is_valid(&challenge.chain),
         Call::Checkpoint { chain } => chain_is_valid(chain),
         Call::Conclude { chain } => chain_is_valid(chain),
-        Call::Respond { fixed, from, next } => {
-            fixed_is_valid(fixed);
-            state_is_valid(from);
-            state_is_valid(&next.state);
+        Call::Respond(respond) => {
+            fixed_is_valid(&respond.fixed);
+            state_is_valid(&respond.from);
+            state_is_valid(&respond.next.state);
         }
         Call::Refute { fixed, next } => {
             fixed_is_valid(fixed);
             state_is_valid(&next.state);
         }
-        Call::Transfer { outcome, .. } => outcome_is_valid(outcome),
-        Call::Claim {
-            guarantor_outcome,
-            target_outcome,
-            ..
-        } => {
-            outcome_is_valid(guarantor_outcome);
-            outcome_is_valid(target_outcome);
+        Call::Transfer(transfer) => outcome_is_valid(&transfer.outcome),
+        Call::Claim(claim) => {
+            outcome_is_valid(&claim.guarantor_outcome);
+            outcome_is_valid(&claim.target_outcome);
         }
-        Call::Deposit { .. } => {}
+        Call::Deposit(_) => {}
     }
 }

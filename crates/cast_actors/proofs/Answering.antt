@@ -23,14 +23,14 @@ responding s f None = tt
 responding s f (Some from) = if_signed s f from (next_state s.used f from)
 
 answering : (s : Signing) (op : Op) → IsWithinLimits (answer_to s op)
-answering s (ops.Call (Challenge chain who signature)) = responding s chain.fixed (newest chain.states)
-answering s (ops.Call (Deposit channel asset expected amount)) = tt
-answering s (ops.Call (Respond f from next)) = tt
+answering s (ops.Call (Challenge k)) = responding s k.chain.fixed (newest k.chain.states)
+answering s (ops.Call (Deposit d)) = tt
+answering s (ops.Call (Respond k)) = tt
 answering s (ops.Call (Refute f next)) = tt
 answering s (ops.Call (Checkpoint chain)) = tt
 answering s (ops.Call (Conclude chain)) = tt
-answering s (ops.Call (Transfer channel o asset index)) = tt
-answering s (ops.Call (Claim guarantor promise target o asset position)) = tt
+answering s (ops.Call (Transfer k)) = tt
+answering s (ops.Call (Claim k)) = tt
 answering s (ops.Time to) = tt
 
 if_found : (s : Signing) (o : Option Entry) → IsWithinLimits (answer_if s o)

@@ -19,18 +19,18 @@ marks_keep [] e = tt
 marks_keep (m ∷ ms) e = (leb-true _ _ (and_parts _ _ e).0, marks_keep ms (and_parts _ _ e).1)
 
 keeps : (op : Op) → is_challenge op ≡ true → IsWithinLimits (entering op)
-keeps (ops.Call (Challenge chain who signature)) e =
+keeps (ops.Call (Challenge k)) e =
     let few = and_parts _ _ e in
     let more = and_parts _ _ few.1 in
     let ends = and_parts _ _ more.1 in
-    (record { states = leb-true _ _ few.0; marks = leb-true _ _ more.0; signatures = marks_keep chain.marks ends.0 }, leb-true _ _ ends.1)
-keeps (ops.Call (Deposit channel asset expected amount)) e = tt
-keeps (ops.Call (Respond f from next)) e = absurd (true≢false (sym e))
+    (record { states = leb-true _ _ few.0; marks = leb-true _ _ more.0; signatures = marks_keep k.chain.marks ends.0 }, leb-true _ _ ends.1)
+keeps (ops.Call (Deposit d)) e = tt
+keeps (ops.Call (Respond k)) e = absurd (true≢false (sym e))
 keeps (ops.Call (Refute f next)) e = absurd (true≢false (sym e))
 keeps (ops.Call (Checkpoint chain)) e = absurd (true≢false (sym e))
 keeps (ops.Call (Conclude chain)) e = absurd (true≢false (sym e))
-keeps (ops.Call (Transfer channel o asset index)) e = tt
-keeps (ops.Call (Claim guarantor promise target o asset position)) e = tt
+keeps (ops.Call (Transfer k)) e = tt
+keeps (ops.Call (Claim k)) e = tt
 keeps (ops.Time to) e = tt
 
 step : (e : Entry) (rest : Option Entry) (b : Bool) → is_challenge e.op ≡ b → IsWithinLimits (entering_if rest) → IsWithinLimits (entering_if (cond b (Some e) rest))

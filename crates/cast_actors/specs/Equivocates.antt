@@ -15,7 +15,8 @@ use Rattle.channel_values.specs.Messages.{message_of_state}
 use Rattle.channel_values.specs.Amounts.{amt, has}
 use Rattle.channel_values.specs.Rows.{mover}
 use Rattle.channel_values.specs.Rules.{people, newest}
-use Rattle.call_history.specs.declared.call.Call.TheVariants.{Challenge, Respond}
+use Rattle.call_history.specs.Calls.{make_respond}
+use Rattle.call_history.specs.declared.call.Call.TheVariants.{Challenge}
 use Rattle.call_history.specs.declared.call.Op.{Op}
 use Rattle.call_history.specs.declared.call.Op.TheVariants as ops
 use Rattle.call_history.specs.declared.entry.Entry.{Entry}
@@ -35,8 +36,8 @@ moves_next key f (Some s) = bytes_eq (slice_index_or f.keys (mover (people f) (s
 
 -- an accepted challenge on a payment channel, whose next mover has the key
 abbrev pub is_answerable : List ℕ → Reply → Op → Bool
-is_answerable key reply (ops.Call (Challenge chain who signature)) =
-    is_accepted reply && (chain.fixed.app == 1 && moves_next key chain.fixed (newest chain.states))
+is_answerable key reply (ops.Call (Challenge k)) =
+    is_accepted reply && (k.chain.fixed.app == 1 && moves_next key k.chain.fixed (newest k.chain.states))
 is_answerable key reply _ = false
 
 -- ---- the two answers
@@ -82,7 +83,7 @@ signed_by s f next = record { state = next; signature = made_bytes s.seed s.id s
 
 -- it enters it as an answer
 abbrev pub entering : Signing → FixedParts → StateParts → StateParts → Act
-entering s f from next = Enter (Respond f from (signed_by s f next))
+entering s f from next = Enter (make_respond f from (signed_by s f next))
 
 abbrev pub entering_if : Signing → FixedParts → StateParts → Option StateParts → Act
 entering_if s f from None = Rest
@@ -93,7 +94,7 @@ responds s f None = Rest
 responds s f (Some from) = entering_if s f from (next_state s.used f from)
 
 abbrev pub answer_to : Signing → Op → Act
-answer_to s (ops.Call (Challenge chain who signature)) = responds s chain.fixed (newest chain.states)
+answer_to s (ops.Call (Challenge k)) = responds s k.chain.fixed (newest k.chain.states)
 answer_to s _ = Rest
 
 abbrev pub answer_if : Signing → Option Entry → Act

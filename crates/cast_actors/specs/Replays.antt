@@ -13,8 +13,9 @@ is_short signature = nat_le (length signature) 9004
 
 -- a challenge that keeps the limits
 abbrev pub is_challenge : Op → Bool
-is_challenge (ops.Call (Challenge chain who signature)) =
-    nat_le (length chain.states) 4 && (nat_le (length chain.marks) 4 && (list_all (λ m. is_short m.signature) chain.marks && is_short signature))
+is_challenge (ops.Call (Challenge k)) =
+    nat_le (length k.chain.states) 4 && (nat_le (length k.chain.marks) 4
+    && (list_all (λ m. is_short m.signature) k.chain.marks && is_short k.signature))
 is_challenge _ = false
 
 abbrev pub entering : Op → Act

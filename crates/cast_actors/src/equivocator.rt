@@ -9,7 +9,7 @@ ghost use Rattle.script_steps.specs.Digests.{fresh};
 ghost use Rattle.lms_signatures.specs.Made.{made_bytes};
 ghost use Rattle.cast_actors.specs.Equivocates as equivocates;
 
-use call_history::{Call, Entry, Op, newest};
+use call_history::{Call, Entry, Op, RespondCall, newest};
 use channel_values::{
     AssetOutcome, Dest, Fixed, Key, Listed, NoMemory, Shape, Signed, State, channel_name, mover_at,
     state_digest, state_message,
@@ -51,7 +51,8 @@ fn is_answerable(key: &Key, entry: &Entry) -> bool
     ensures { result ≡ equivocates.is_answerable key.now entry.now.reply entry.now.op }
 {
     match &entry.op {
-        Op::Call(Call::Challenge { chain, .. }) => {
+        Op::Call(Call::Challenge(challenge)) => {
+            let chain = &challenge.chain;
             entry.reply.is_accepted()
                 && chain.fixed.app() == 1
                 && moves_next(key, &chain.fixed, newest(chain.states.as_slice()))
@@ -194,11 +195,8 @@ impl Equivocator {
         let fixed = fixed.copy()?;
         let from = from.copy()?;
         let signature = self.signature(&message)?;
-        Ok(Act::Enter(Call::Respond {
-            fixed,
-            from,
-            next: Signed { state, signature },
-        }))
+        let next = Signed { state, signature };
+        Ok(Act::Enter(Call::Respond(RespondCall { fixed, from, next })))
     }
 
     /// Its answer to a challenge of a state, if there is one.
@@ -226,7 +224,8 @@ impl Equivocator {
         ensures kept { OnErr result (self.new.signer ≡ self.old.signer) }
     {
         match op {
-            Op::Call(Call::Challenge { chain, .. }) => {
+            Op::Call(Call::Challenge(challenge)) => {
+                let chain = &challenge.chain;
                 let act = self.responding(&chain.fixed, newest(chain.states.as_slice()))?;
                 Ok(act)
             }

@@ -6,7 +6,7 @@ ghost use Rattle.std.specs.Option.{option_copied};
 ghost use Rattle.cast_actors.specs.Replays.{is_short, is_challenge, replayed};
 ghost use Rattle.network_rounds.specs.declared.actor.Act.TheVariants as acts;
 
-use call_history::{Call, Entry, Op, copy_call};
+use call_history::{Call, Entry, Op};
 use channel_values::Mark;
 use network_rounds::{Act, Actor, Notes};
 
@@ -34,17 +34,12 @@ fn is_challenge(op: &Op) -> bool
     ensures { result ≡ is_challenge op.now }
 {
     match op {
-        Op::Call(
-            Call::Challenge {
-                chain,
-                signature,
-                ..
-            },
-        ) => {
+        Op::Call(Call::Challenge(challenge)) => {
+            let chain = &challenge.chain;
             chain.states.as_slice().len() <= 4
                 && chain.marks.as_slice().len() <= 4
                 && are_short(chain.marks.as_slice())
-                && is_short(signature.as_slice())
+                && is_short(challenge.signature.as_slice())
         }
         _ => false,
     }
@@ -63,7 +58,7 @@ impl Replayer {
     {
         match oldest_challenge(seen.entries.as_slice()) {
             Some(entry) => match &entry.op {
-                Op::Call(call) => match copy_call(call) {
+                Op::Call(call) => match call.copy() {
                     Ok(call) => Act::Enter(call),
                     Err(_) => Act::NoMemory,
                 },

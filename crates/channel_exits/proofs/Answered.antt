@@ -21,7 +21,7 @@ use Rattle.call_history.specs.Refusing.{told}
 use Rattle.call_history.specs.Rest.{less_paid, lower_at, rest_outcome}
 use Rattle.call_history.specs.Replies as replies
 use Rattle.call_history.specs.History.{Legal, is_accepted, now_of, row, mode, settled, item_dest, listed_dest, place_in, flow_to, flow_of, flows_of, held_of, paid_of, payment_of, reply_to}
-use Rattle.call_history.specs.declared.call.Call.TheVariants.{Transfer, Claim}
+use Rattle.call_history.specs.Calls.{make_transfer, make_claim}
 use Rattle.call_history.specs.declared.call.Op.{Op}
 use Rattle.call_history.specs.declared.call.Op.TheVariants as ops
 use Rattle.call_history.specs.declared.entry.Entry.{Entry}
@@ -193,13 +193,13 @@ module _ (r : Rules) (e : Entry) (h : List Entry) (front : List Line) (fs : List
 
   -- ---- a transfer
 
-  transfer_reply : (f : List ℕ) (o : List AssetOutcome) (index : ℕ) → e.op ≡ ops.Call (Transfer f o a index) →
+  transfer_reply : (f : List ℕ) (o : List AssetOutcome) (index : ℕ) → e.op ≡ ops.Call (make_transfer f o a index) →
       e.reply ≡ told (λ (d : Due). Paid d.amount) (replies.transfer r (row r f h) (now_of h) (paid_of h f a) (held_of h f a) f o a index)
   unfolding reply_to
   transfer_reply f o index is = subst (λ (op : Op). e.reply ≡ reply_to r h op) is legal.2
 
   module _ (f : List ℕ) (o : List AssetOutcome) (d : Dest) (final : is_final (mode r f h) ≡ true) (set : settled r f h ≡ Some o) (there : has (items_in a o) d ≡ true)
-      (ne : is_same d (Channel f) ≡ false) (is : e.op ≡ ops.Call (Transfer f o a (place_of (items_in a o) d))) where
+      (ne : is_same d (Channel f) ≡ false) (is : e.op ≡ ops.Call (make_transfer f o a (place_of (items_in a o) d))) where
     abbrev index : ℕ
     index = place_of (items_in a o) d
 
@@ -237,17 +237,17 @@ module _ (r : Rules) (e : Entry) (h : List Entry) (front : List Line) (fs : List
         to = some-eq dd.to d (sym ok.to_is ∙ (ap (λ (i : ℕ). item_dest (Some (Allocation xs)) i) at ∙ place-dest xs d has_xs))
 
         call : Op
-        call = ops.Call (Transfer f o a index)
+        call = ops.Call (make_transfer f o a index)
 
         flow : flow_of e.op e.reply ≡ record { from = Some f; to = dd.to; asset = a; amount = dd.amount } ∷ []
         flow =
             ap (λ (op : Op). flow_of op e.reply) is
-            ∙ (ap (λ (y : Reply). flow_of (ops.Call (Transfer f o a index)) y) reply
+            ∙ (ap (λ (y : Reply). flow_of (ops.Call (make_transfer f o a index)) y) reply
             ∙ (ap (λ (s : Option Shape). flow_to (Some f) (item_dest s index) a dd.amount) ok.shape_is
             ∙ ap (λ (t : Option Dest). flow_to (Some f) t a dd.amount) ok.to_is))
 
         payment : payment_of e.op e.reply ≡ record { channel = f; asset = a; place = index; amount = dd.amount } ∷ []
-        payment = ap (λ (op : Op). payment_of op e.reply) is ∙ ap (λ (y : Reply). payment_of (ops.Call (Transfer f o a index)) y) reply
+        payment = ap (λ (op : Op). payment_of op e.reply) is ∙ ap (λ (y : Reply). payment_of (ops.Call (make_transfer f o a index)) y) reply
 
         held : held_of (e ∷ h) f a ≡ held_of h f a - dd.amount
         held = held-after f dd.to dd.amount (balanced h e me f dd.to a dd.amount (covered r h legal.0) flow ok.within a) (ap (λ (y : Dest). is_same y (Channel f)) to ∙ ne)
@@ -298,14 +298,14 @@ module _ (r : Rules) (e : Entry) (h : List Entry) (front : List Line) (fs : List
 
   -- ---- a claim
 
-  claim_reply : (g : List ℕ) (p : List AssetOutcome) (j : List ℕ) (o : List AssetOutcome) (position : ℕ) → e.op ≡ ops.Call (Claim g p j o a position) →
+  claim_reply : (g : List ℕ) (p : List AssetOutcome) (j : List ℕ) (o : List AssetOutcome) (position : ℕ) → e.op ≡ ops.Call (make_claim g p j o a position) →
       e.reply ≡ told (λ (d : Due). Paid d.amount) (replies.claim r (row r g h) (row r j h) (now_of h) (paid_of h j a) (held_of h g a) g p j o a position)
   unfolding reply_to
   claim_reply g p j o position is = subst (λ (op : Op). e.reply ≡ reply_to r h op) is legal.2
 
   module _ (g j : List ℕ) (p o : List AssetOutcome) (d : Dest) (list : List Dest) (final_g : is_final (mode r g h) ≡ true) (set_g : settled r g h ≡ Some p)
       (final_j : is_final (mode r j h) ≡ true) (set_j : settled r j h ≡ Some o) (promise : shape_in p a ≡ Some (Guarantee j list)) (listed : is_listed (list_in a p) d ≡ true)
-      (there : has (items_in a o) d ≡ true) (ne : is_same d (Channel g) ≡ false) (is : e.op ≡ ops.Call (Claim g p j o a (position_of (list_in a p) d))) where
+      (there : has (items_in a o) d ≡ true) (ne : is_same d (Channel g) ≡ false) (is : e.op ≡ ops.Call (make_claim g p j o a (position_of (list_in a p) d))) where
     abbrev position : ℕ
     position = position_of (list_in a p) d
 
@@ -379,13 +379,13 @@ module _ (r : Rules) (e : Entry) (h : List Entry) (front : List Line) (fs : List
         flow : flow_of e.op e.reply ≡ record { from = Some g; to = dd.to; asset = a; amount = dd.amount } ∷ []
         flow =
             ap (λ (op : Op). flow_of op e.reply) is
-            ∙ (ap (λ (y : Reply). flow_of (ops.Call (Claim g p j o a position)) y) reply
+            ∙ (ap (λ (y : Reply). flow_of (ops.Call (make_claim g p j o a position)) y) reply
             ∙ ap (λ (t : Option Dest). flow_to (Some g) t a dd.amount) to_is)
 
         payment : payment_of e.op e.reply ≡ record { channel = j; asset = a; place = place; amount = dd.amount } ∷ []
         payment =
             ap (λ (op : Op). payment_of op e.reply) is
-            ∙ (ap (λ (y : Reply). payment_of (ops.Call (Claim g p j o a position)) y) reply
+            ∙ (ap (λ (y : Reply). payment_of (ops.Call (make_claim g p j o a position)) y) reply
             ∙ (ap (λ (s : Option Shape). record { channel = j; asset = a; place = place_in s (listed_dest (shape_in p a) position); amount = dd.amount } ∷ []) ok.shape_is
             ∙ ap (λ (t : Option Dest). record { channel = j; asset = a; place = place_in (Some (Allocation xs)) t; amount = dd.amount } ∷ []) to_is))
 

@@ -117,9 +117,9 @@ counted-in r past front (g ∷ fs) f i = go (possible r past front g) refl i (co
 -- ---- one entry
 
 no_funds : (op : Op) (reply : Reply) → moves_funds op ≡ false → (flow_of op reply ≡ []) × (payment_of op reply ≡ [])
-no_funds (ops.Call (Deposit channel asset expected amount)) reply h = cc
-no_funds (ops.Call (Transfer channel outcome asset index)) reply h = cc
-no_funds (ops.Call (Claim guarantor promise target outcome asset position)) reply h = cc
+no_funds (ops.Call (Deposit d)) reply h = cc
+no_funds (ops.Call (Transfer t)) reply h = cc
+no_funds (ops.Call (Claim k)) reply h = cc
 no_funds op reply h = (refl, refl)
 
 -- these channels are final, and chains of them are held

@@ -16,7 +16,8 @@ use Rattle.channel_values.specs.Rules.{Rules}
 use Rattle.channel_values.specs.Support.{supports}
 use Rattle.call_history.specs.History.{Legal, mode, reply_to}
 use Rattle.call_history.specs.declared.call.Call.{Call}
-use Rattle.call_history.specs.declared.call.Call.TheVariants.{Deposit, Conclude, Transfer}
+use Rattle.call_history.specs.Calls.{make_deposit, make_transfer}
+use Rattle.call_history.specs.declared.call.Call.TheVariants.{Conclude}
 use Rattle.call_history.specs.declared.call.Op.TheVariants as ops
 use Rattle.call_history.specs.declared.entry.Entry.{Entry}
 use Rattle.call_history.specs.declared.event.Deed.{Deed}
@@ -103,15 +104,15 @@ abbrev past : List Entry
 past =
     entry 3 (Conclude (chain of_channel channel_ends)) (Concluded 3)
     ∷ entry 2 (Conclude (chain of_ledger ledger_ends)) (Concluded 3)
-    ∷ entry 1 (Deposit ledger 0 0 10) (Held 10) ∷ []
+    ∷ entry 1 (make_deposit ledger 0 0 10) (Held 10) ∷ []
 
 -- the ledger pays the channel, that pays B, the ledger pays A, and the channel A
 abbrev later : List Entry
 later =
-    entry 7 (Transfer channel channel_ends 0 0) (Paid 5)
-    ∷ entry 6 (Transfer ledger ledger_ends 0 1) (Paid 4)
-    ∷ entry 5 (Transfer channel channel_ends 0 1) (Paid 1)
-    ∷ entry 4 (Transfer ledger ledger_ends 0 0) (Paid 6) ∷ []
+    entry 7 (make_transfer channel channel_ends 0 0) (Paid 5)
+    ∷ entry 6 (make_transfer ledger ledger_ends 0 1) (Paid 4)
+    ∷ entry 5 (make_transfer channel channel_ends 0 1) (Paid 1)
+    ∷ entry 4 (make_transfer ledger ledger_ends 0 0) (Paid 6) ∷ []
 
 abbrev history : List Entry
 history = later ++ past
@@ -200,10 +201,10 @@ record Known (e : Entry) : Type 0 where
   states : (f : FixedParts) (s : StateParts) → fixed_of e.op ≡ Some f → In s (states_in e.op) → IsStateThere (rules.named f, s)
   outcomes : (o : List AssetOutcome) → In o (outcomes_in e.op) → IsEndThere o
 
-deposits : (number : ℕ) (reply : Reply) → Known (entry number (Deposit ledger 0 0 10) reply)
+deposits : (number : ℕ) (reply : Reply) → Known (entry number (make_deposit ledger 0 0 10) reply)
 deposits number reply = record { fixed = λ f e. absurd (none-eq f e); states = λ f s e i. absurd i; outcomes = λ o i. absurd i }
 
-transfers : (number index : ℕ) (c : List ℕ) (o : List AssetOutcome) (reply : Reply) → IsEndThere o → Known (entry number (Transfer c o 0 index) reply)
+transfers : (number index : ℕ) (c : List ℕ) (o : List AssetOutcome) (reply : Reply) → IsEndThere o → Known (entry number (make_transfer c o 0 index) reply)
 transfers number index c o reply is = record { fixed = λ f e. absurd (none-eq f e); states = λ f s e i. absurd i; outcomes = one }
   where
     one : (p : List AssetOutcome) → In p (o ∷ []) → IsEndThere p

@@ -14,7 +14,7 @@ use Rattle.channel_values.specs.Amounts.{has}
 use Rattle.call_history.specs.Dues.{shape_in, place_of}
 use Rattle.call_history.specs.Flows.{is_among}
 use Rattle.call_history.specs.declared.call.Call.{Call}
-use Rattle.call_history.specs.declared.call.Call.TheVariants.{Transfer, Claim}
+use Rattle.call_history.specs.Calls.{make_transfer, make_claim}
 use Rattle.funding_plans.specs.declared.plan.Part.{Part}
 use Rattle.funding_plans.specs.declared.plan.Part.TheVariants.{Root, OnLedger, End, Middle}
 use Rattle.funding_plans.specs.Shapes.{items_of, list_of, items_in, list_in, is_listed, position_of}
@@ -152,10 +152,10 @@ module _ (ended : Ended) (a : ℕ) where
   -- its call
   abbrev pub IsFor : Edge → Call → Type 0
   IsFor (moving f d) c =
-      (o : List AssetOutcome) × (ended f ≡ Some o) × (has (items_in a o) d ≡ true) × (is_same d (Channel f) ≡ false) × (c ≡ Transfer f o a (place_of (items_in a o) d))
+      (o : List AssetOutcome) × (ended f ≡ Some o) × (has (items_in a o) d ≡ true) × (is_same d (Channel f) ≡ false) × (c ≡ make_transfer f o a (place_of (items_in a o) d))
   IsFor (claiming g j d) c =
       (p : List AssetOutcome) × (o : List AssetOutcome) × (ended g ≡ Some p) × (ended j ≡ Some o) × (is_listed (list_in a p) d ≡ true) × (has (items_in a o) d ≡ true)
-      × ((list : List Dest) × (shape_in p a ≡ Some (Guarantee j list))) × (is_same d (Channel g) ≡ false) × (c ≡ Claim g p j o a (position_of (list_in a p) d))
+      × ((list : List Dest) × (shape_in p a ≡ Some (Guarantee j list))) × (is_same d (Channel g) ≡ false) × (c ≡ make_claim g p j o a (position_of (list_in a p) d))
 
   -- an edge that isn't gone pays another than its payer, and is live
   -- a claim is from a guarantor of its target
@@ -186,8 +186,8 @@ module _ (ended : Ended) (a : ℕ) where
         go (inr x) =
             subst (λ (cs : List Call). Runs (moving f d ∷ []) cs)
             (sym (ap (λ (e : Option (List AssetOutcome)). transfer_if f e d a) x.1
-            ∙ ap (λ (t : Bool). cond t (Transfer f x.0 a (place_of (items_in a x.0) d) ∷ []) []) x.2))
-            (matched (moving f d) (Transfer f x.0 a (place_of (items_in a x.0) d)) (x.0, x.1, x.2, ne, refl) nothing)
+            ∙ ap (λ (t : Bool). cond t (make_transfer f x.0 a (place_of (items_in a x.0) d) ∷ []) []) x.2))
+            (matched (moving f d) (make_transfer f x.0 a (place_of (items_in a x.0) d)) (x.0, x.1, x.2, ne, refl) nothing)
 
     one-claim : (g j : List ℕ) (d : Dest) → Backs g j → is_same d (Channel g) ≡ false → Runs (claiming g j d ∷ []) (claim_for ended g j d a)
     one-claim g j d fit ne = go (classify (claiming g j d) fit)
@@ -198,8 +198,8 @@ module _ (ended : Ended) (a : ℕ) where
             subst (λ (cs : List Call). Runs (claiming g j d ∷ []) cs)
             (sym (ap (λ (e : Option (List AssetOutcome)). claim_if g e j (ended j) d a) x.2
             ∙ (ap (λ (e : Option (List AssetOutcome)). claim_if g (Some x.0) j e d a) x.3
-            ∙ ap (λ (t : Bool). cond t (Claim g x.0 j x.1 a (position_of (list_in a x.0) d) ∷ []) []) (both-true _ _ x.4 x.5))))
-            (matched (claiming g j d) (Claim g x.0 j x.1 a (position_of (list_in a x.0) d)) (x.0, x.1, x.2, x.3, x.4, x.5, x.6, ne, refl) nothing)
+            ∙ ap (λ (t : Bool). cond t (make_claim g x.0 j x.1 a (position_of (list_in a x.0) d) ∷ []) []) (both-true _ _ x.4 x.5))))
+            (matched (claiming g j d) (make_claim g x.0 j x.1 a (position_of (list_in a x.0) d)) (x.0, x.1, x.2, x.3, x.4, x.5, x.6, ne, refl) nothing)
 
     to-channels : (f : List ℕ) (names : List (List ℕ)) (items : List Item) → Runs (edges_to f names items) (flat_map (λ item. transfer_among ended f names a item.to) items)
     to-channels f names [] = nothing

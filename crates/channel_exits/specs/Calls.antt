@@ -9,7 +9,7 @@ use Rattle.channel_values.specs.Amounts.{has}
 use Rattle.channel_values.specs.Places.{place_of}
 use Rattle.call_history.specs.Flows.{is_among}
 use Rattle.call_history.specs.declared.call.Call.{Call}
-use Rattle.call_history.specs.declared.call.Call.TheVariants.{Transfer, Claim}
+use Rattle.call_history.specs.Calls.{make_transfer, make_claim}
 use Rattle.funding_plans.specs.Parts.{own_guarantor, channels, ledgers_of}
 use Rattle.funding_plans.specs.Shapes.{items_in, list_in, is_listed, position_of}
 use Rattle.funding_plans.specs.declared.plan.Part.{Part}
@@ -24,7 +24,7 @@ Ended = List ℕ → Option (List AssetOutcome)
 abbrev pub transfer_if : List ℕ → Option (List AssetOutcome) → Dest → ℕ → List Call
 transfer_if channel None to asset = []
 transfer_if channel (Some o) to asset =
-    if has (items_in asset o) to then Transfer channel o asset (place_of (items_in asset o) to) ∷ [] else []
+    if has (items_in asset o) to then make_transfer channel o asset (place_of (items_in asset o) to) ∷ [] else []
 
 -- a transfer of a destination's item of an asset
 abbrev pub transfer_to : Ended → List ℕ → Dest → ℕ → List Call
@@ -33,7 +33,7 @@ transfer_to ended channel to asset = transfer_if channel (ended channel) to asse
 abbrev pub claim_if : List ℕ → Option (List AssetOutcome) → List ℕ → Option (List AssetOutcome) → Dest → ℕ → List Call
 claim_if guarantor (Some promise) target (Some o) to asset =
     if is_listed (list_in asset promise) to && has (items_in asset o) to
-    then Claim guarantor promise target o asset (position_of (list_in asset promise) to) ∷ []
+    then make_claim guarantor promise target o asset (position_of (list_in asset promise) to) ∷ []
     else []
 claim_if guarantor _ target _ to asset = []
 

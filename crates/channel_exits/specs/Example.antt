@@ -7,7 +7,7 @@ use Rattle.channel_values.specs.declared.value.Dest.{Dest}
 use Rattle.channel_values.specs.declared.value.Dest.TheVariants.{Person, Channel}
 use Rattle.channel_values.specs.declared.value.Shape.TheVariants.{Allocation}
 use Rattle.call_history.specs.declared.call.Call.{Call}
-use Rattle.call_history.specs.declared.call.Call.TheVariants.{Transfer, Claim}
+use Rattle.call_history.specs.Calls.{make_transfer, make_claim}
 use Rattle.funding_plans.specs.declared.plan.Part.{Part}
 use Rattle.funding_plans.specs.declared.plan.Part.TheVariants.{Root, End, Middle}
 use Rattle.share_laws.specs.Books.{Counting}
@@ -28,19 +28,19 @@ of_all = of_ledger_a ∷ of_ledger_b ∷ of_guarantor_a ∷ of_guarantor_b ∷ o
 -- item of A.
 abbrev pub calls_of_a : List Call
 calls_of_a =
-    Transfer ledger_a of_ledger_a.outcome 0 2 ∷ Transfer ledger_a of_ledger_a.outcome 0 0
-    ∷ Claim guarantor_a of_guarantor_a.outcome joint of_joint.outcome 0 0
-    ∷ Transfer channel of_channel.outcome 0 0 ∷ []
+    make_transfer ledger_a of_ledger_a.outcome 0 2 ∷ make_transfer ledger_a of_ledger_a.outcome 0 0
+    ∷ make_claim guarantor_a of_guarantor_a.outcome joint of_joint.outcome 0 0
+    ∷ make_transfer channel of_channel.outcome 0 0 ∷ []
 
 -- I's: both ledgers pay their guarantors, then I; both guarantors pay the channel, then I.
 abbrev pub calls_of_i : List Call
 calls_of_i =
-    Transfer ledger_a of_ledger_a.outcome 0 2 ∷ Transfer ledger_a of_ledger_a.outcome 0 1
-    ∷ Transfer ledger_b of_ledger_b.outcome 0 2 ∷ Transfer ledger_b of_ledger_b.outcome 0 0
-    ∷ Claim guarantor_a of_guarantor_a.outcome joint of_joint.outcome 0 0
-    ∷ Claim guarantor_b of_guarantor_b.outcome joint of_joint.outcome 0 0
-    ∷ Claim guarantor_a of_guarantor_a.outcome joint of_joint.outcome 0 2
-    ∷ Claim guarantor_b of_guarantor_b.outcome joint of_joint.outcome 0 2 ∷ []
+    make_transfer ledger_a of_ledger_a.outcome 0 2 ∷ make_transfer ledger_a of_ledger_a.outcome 0 1
+    ∷ make_transfer ledger_b of_ledger_b.outcome 0 2 ∷ make_transfer ledger_b of_ledger_b.outcome 0 0
+    ∷ make_claim guarantor_a of_guarantor_a.outcome joint of_joint.outcome 0 0
+    ∷ make_claim guarantor_b of_guarantor_b.outcome joint of_joint.outcome 0 0
+    ∷ make_claim guarantor_a of_guarantor_a.outcome joint of_joint.outcome 0 2
+    ∷ make_claim guarantor_b of_guarantor_b.outcome joint of_joint.outcome 0 2 ∷ []
 
 -- ---- an item that nobody guarantees
 
@@ -64,4 +64,4 @@ pub record ExampleHolds : Type 0 where
   pub unbacked_share : share_of a 0 part held unbacked 1 ≡ 10
   pub unbacked_sound : IsSound a part unbacked
   pub unbacked_exit :
-      exit_calls (ended_in unbacked) a part ≡ Transfer ledger_a (in_asset_1 [] (Channel guarantor_a)) 1 0 ∷ []
+      exit_calls (ended_in unbacked) a part ≡ make_transfer ledger_a (in_asset_1 [] (Channel guarantor_a)) 1 0 ∷ []

@@ -7,7 +7,7 @@ ghost use Rattle.channel_exits.specs.Calls as spelled;
 ghost use Rattle.channel_exits.specs.Exits.{ended_in};
 
 use crate::views::ended_in;
-use call_history::{Call, WorldView};
+use call_history::{Call, ClaimCall, WorldView};
 use channel_values::{Dest, Name, NoMemory, Outcome};
 use funding_plans::{has, is_listed, items_in, list_in, position_of};
 
@@ -33,14 +33,14 @@ fn put_claim_of(
     if is_claimable(promise, ended, to, asset) {
         let guarantor_outcome = promise.copy()?;
         let target_outcome = ended.copy()?;
-        calls.push(Call::Claim {
+        calls.push(Call::Claim(ClaimCall {
             guarantor: *guarantor,
             guarantor_outcome,
             target: *target,
             target_outcome,
             asset,
             position: position_of(list_in(promise, asset), to),
-        })?;
+        }))?;
     }
     Ok(())
 }

@@ -9,7 +9,7 @@ ghost use Rattle.channel_exits.specs.Calls as spelled;
 ghost use Rattle.channel_exits.specs.Exits.{ended_in};
 
 use crate::views::ended_in;
-use call_history::{Call, WorldView, place_of};
+use call_history::{Call, TransferCall, WorldView, place_of};
 use channel_values::{Dest, Item, Name, NoMemory, Outcome};
 use funding_plans::{has, items_in};
 
@@ -28,12 +28,12 @@ fn put_transfer_of(
     if has(items, to) {
         let index = place_of(items, to) as u8;
         let outcome = ended.copy()?;
-        calls.push(Call::Transfer {
+        calls.push(Call::Transfer(TransferCall {
             channel: *channel,
             outcome,
             asset,
             index,
-        })?;
+        }))?;
     }
     Ok(())
 }

@@ -6,7 +6,7 @@ use Rattle.channel_values.specs.Rules.{Rules}
 use Rattle.call_history.specs.History.{Legal}
 use Rattle.call_history.specs.declared.entry.Entry.{Entry}
 use Rattle.call_history.specs.declared.call.Call.{Call}
-use Rattle.call_history.specs.declared.call.Call.TheVariants.{Challenge}
+use Rattle.call_history.specs.Calls.{make_challenge}
 use Rattle.channel_values.specs.Messages.{message_of_challenge}
 use Rattle.channel_node.specs.Giving.{spent_if, challenge_call, challenge_calls, spent_challenging}
 use Rattle.channel_node.specs.Leaving.{OwnChallenge, challenge_in}
@@ -109,7 +109,7 @@ at-most-one r s channel None n = omega arith
 at-most-one r s channel (Some c) n = go (nat_lt n.used s.limit)
   where
     call : Call
-    call = Challenge c.chain c.who (s.made n.used (message_of_challenge (r.digest channel c.state) c.who))
+    call = make_challenge c.chain c.who (s.made n.used (message_of_challenge (r.digest channel c.state) c.who))
 
     go : (b : Bool) → length (cond b (call ∷ []) []) ≤ 1
     go true = omega arith

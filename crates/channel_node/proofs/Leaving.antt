@@ -27,7 +27,7 @@ use Rattle.network.specs.declared.command.Command.{Command}
 use Rattle.network.specs.declared.command.Command.TheVariants.{Open, OpenOn, OpenVirtual, Pay, Close, Exit}
 use Rattle.channel_node.specs.Exits.{is_exit}
 
--- ---- what the journal tells
+-- ---- what the journal says
 
 abbrev pub exits : Told → Bool
 exits x = is_exit x.deed x.command

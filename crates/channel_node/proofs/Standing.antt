@@ -67,26 +67,26 @@ challenged-mode Open e = cc
 challenged-mode Challenged e = refl
 challenged-mode Final e = cc
 
--- what a view tells of an accepted call is the chain that the entry shows
+-- what a view says of an accepted call is the chain that the entry shows
 pub told-shown : (r : Rules) (past : List Entry) (e : Entry) (view : WorldView) (op : Op) (g : FixedParts) → Legal r (e ∷ past) → StandsFor r past view → is_accepted e.reply ≡ true
     → e.op ≡ op → fixed_of op ≡ Some g
     → shown_by op (view_of view.channels (r.named g)).shown ≡ showing.shown_by r (r.named g) past op
-told-shown r past e view (ops.Call (Respond fixed from next)) g legal st accepted is names =
-    subst (λ (x : FixedParts). shown_by (ops.Call (Respond fixed from next)) (view_of view.channels (r.named x)).shown ≡ answered fixed next (challenged r (r.named x) past)) (some-eq fixed g names)
-    (ap (shown_by (ops.Call (Respond fixed from next))) open_chain.1 ∙ ap (answered fixed next) open_chain.3)
+told-shown r past e view (ops.Call (Respond k)) g legal st accepted is names =
+    subst (λ (x : FixedParts). shown_by (ops.Call (Respond k)) (view_of view.channels (r.named x)).shown ≡ answered k.fixed k.next (challenged r (r.named x) past)) (some-eq k.fixed g names)
+    (ap (shown_by (ops.Call (Respond k))) open_chain.1 ∙ ap (answered k.fixed k.next) open_chain.3)
   where
-    answers : Responds r past fixed from next
-    answers = respond_ok r past fixed from next (taken r past e (Respond fixed from next) legal is accepted)
+    answers : Responds r past k.fixed k.from k.next
+    answers = respond_ok r past k.fixed k.from k.next (taken r past e (Respond k) legal is accepted)
 
-    open_chain : IsChainOf r (r.named fixed) (challenged r (r.named fixed) past) (view_of view.channels (r.named fixed)).shown
-    open_chain = (st.channels (r.named fixed)).challenged (challenged-mode (mode r (r.named fixed) past) answers.challenged)
-told-shown r past e view (ops.Call (Challenge chain who signature)) g legal st accepted is names = refl
+    open_chain : IsChainOf r (r.named k.fixed) (challenged r (r.named k.fixed) past) (view_of view.channels (r.named k.fixed)).shown
+    open_chain = (st.channels (r.named k.fixed)).challenged (challenged-mode (mode r (r.named k.fixed) past) answers.challenged)
+told-shown r past e view (ops.Call (Challenge k)) g legal st accepted is names = refl
 told-shown r past e view (ops.Call (Checkpoint chain)) g legal st accepted is names = refl
 told-shown r past e view (ops.Call (Conclude chain)) g legal st accepted is names = refl
 told-shown r past e view (ops.Call (Refute fixed next)) g legal st accepted is names = refl
-told-shown r past e view (ops.Call (Deposit channel asset expected amount)) g legal st accepted is names = refl
-told-shown r past e view (ops.Call (Transfer channel outcome asset index)) g legal st accepted is names = refl
-told-shown r past e view (ops.Call (Claim guarantor promise target outcome asset position)) g legal st accepted is names = refl
+told-shown r past e view (ops.Call (Deposit d)) g legal st accepted is names = refl
+told-shown r past e view (ops.Call (Transfer t)) g legal st accepted is names = refl
+told-shown r past e view (ops.Call (Claim k)) g legal st accepted is names = refl
 told-shown r past e view (ops.Time t) g legal st accepted is names = refl
 
 module _ (r : Rules) (key : List ℕ) (f : FixedParts) (lines : List Line) where

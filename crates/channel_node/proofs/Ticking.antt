@@ -7,7 +7,7 @@ use Rattle.channel_values.specs.Messages.{message_of_challenge}
 use Rattle.channel_values.specs.Rules.{Rules}
 use Rattle.call_history.specs.History.{Legal}
 use Rattle.call_history.specs.declared.call.Call.{Call}
-use Rattle.call_history.specs.declared.call.Call.TheVariants.{Challenge}
+use Rattle.call_history.specs.Calls.{make_challenge}
 use Rattle.call_history.specs.declared.entry.Entry.{Entry}
 use Rattle.channel_safety.proofs.Lists.{In-append_cases}
 use Rattle.channel_safety.specs.Journals.{In}
@@ -27,7 +27,7 @@ each-in P (y ∷ ys) all x (inl e) = subst P (sym e) (All-head P y ys all)
 each-in P (y ∷ ys) all x (inr i) = each-in P ys (All-tail P y ys all) x i
 
 -- a challenge is with a chain that it holds
-own-challenge : (m : Mind) (channel : List ℕ) (c : OwnChallenge) (signature : List ℕ) → challenge_in m channel ≡ Some c → IsOwnChallenge m (Challenge c.chain c.who signature)
+own-challenge : (m : Mind) (channel : List ℕ) (c : OwnChallenge) (signature : List ℕ) → challenge_in m channel ≡ Some c → IsOwnChallenge m (make_challenge c.chain c.who signature)
 own-challenge m channel c signature e =
     let from = from-held m channel c e in
     (challenges-left m channel c e, record { channel = from.k.channel; chain = from.k.chain }, held-in-chains channel m.kept from.k from.is from.full, sym from.chain)
@@ -52,7 +52,7 @@ module _ (ts : Tables) (r : Rules) (s : Signing) where
       signature : List ℕ
       signature = s.made n.used (message_of_challenge (r.digest channel c.state) c.who)
 
-      go : (b : Bool) → In call (cond b (Challenge c.chain c.who signature ∷ []) []) → IsOwnChallenge n.mind call
+      go : (b : Bool) → In call (cond b (make_challenge c.chain c.who signature ∷ []) []) → IsOwnChallenge n.mind call
       go true (inl e) = subst (IsOwnChallenge n.mind) (sym e) (own-challenge n.mind channel c signature is)
       go true (inr j) = absurd j
       go false j = absurd j

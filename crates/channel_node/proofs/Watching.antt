@@ -1,4 +1,4 @@
--- A look that a node puts into its journal is one that its rules give.
+-- A look that a node writes into its journal is one that its rules give.
 use Rattle.std.proofs.Common.{◌≡◌, ℕ, ◌≤◌, true, false, List, ◌∷◌, ◌++◌, inl, inr, length, refl, sym, ◌∙◌, ap, subst, arith}
 use Rattle.std.specs.Prelude.{None}
 use Rattle.std.specs.List.{flat_map}

@@ -7,7 +7,7 @@ use Rattle.channel_values.specs.Messages.{message_of_state, message_of_challenge
 use Rattle.channel_values.specs.Rules.{Rules}
 use Rattle.call_history.specs.Spelling.{message}
 use Rattle.call_history.specs.declared.call.Call.{Call}
-use Rattle.call_history.specs.declared.call.Call.TheVariants.{Challenge}
+use Rattle.call_history.specs.Calls.{make_challenge}
 use Rattle.call_history.specs.declared.event.NodeRefusal.{NodeRefusal}
 use Rattle.support_rules.specs.Steps.{persons}
 use Rattle.channel_store.specs.Storing.{kept_of}
@@ -74,7 +74,7 @@ spent_if s (Some wanted) n = if nat_lt n.used s.limit then None else Some n.used
 abbrev pub challenge_call : Rules → Signing → List ℕ → Option OwnChallenge → NodeOf → List Call
 challenge_call r s channel None n = []
 challenge_call r s channel (Some c) n =
-    if nat_lt n.used s.limit then Challenge c.chain c.who (s.made n.used (message_of_challenge (r.digest channel c.state) c.who)) ∷ [] else []
+    if nat_lt n.used s.limit then make_challenge c.chain c.who (s.made n.used (message_of_challenge (r.digest channel c.state) c.who)) ∷ [] else []
 
 abbrev pub challenge_calls : Rules → Signing → List (List ℕ) → NodeOf → List Call
 challenge_calls r s [] n = []

@@ -61,7 +61,7 @@ abbrev pub may_give : Tables → Mind → List Call
 may_give t m = if m.left then t.exits (facts_of m) else t.calls (facts_of m)
 
 abbrev pub IsOwnChallenge : Mind → Call → Type 0
-IsOwnChallenge m (Challenge chain who signature) = (m.left ≡ true) × (held : HeldChain) × In held (facts_of m).chains × (held.chain ≡ chain)
+IsOwnChallenge m (Challenge k) = (m.left ≡ true) × (held : HeldChain) × In held (facts_of m).chains × (held.chain ≡ k.chain)
 IsOwnChallenge m _ = ⊥
 
 abbrev pub MayCall : Tables → Mind → Call → Type 0

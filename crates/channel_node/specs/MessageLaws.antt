@@ -24,7 +24,7 @@ abbrev pub with_refused : List ℕ → NodeRefusal → NodeOf → NodeOf
 with_refused bytes refusal n =
     record n { journal = n.journal ++ record { seen = n.mind.view.count; deed = deeds.Handled bytes (Some refusal) } ∷ [] }
 
--- A node refuses these bytes, tells why, and changes nothing but that its journal says so.
+-- A node refuses these bytes, says why, and changes nothing but that its journal says so.
 pub record Refuses (t : Tables) (r : Rules) (bytes : List ℕ) (refusal : NodeRefusal) (n : NodeOf) : Type 0 where
   pub told : message_refusal t r n.mind (message_of bytes) ≡ Some refusal
   pub left : handled t r bytes n ≡ with_refused bytes refusal n

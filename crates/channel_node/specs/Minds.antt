@@ -63,8 +63,8 @@ facts_of m =
 
 -- the chain that an accepted op shows, by the newest chain that was shown before; a respond shows that with its answer
 abbrev pub shown_by : Op → Option Chain → Marked
-shown_by (ops.Call (Challenge chain who signature)) before = marked_of chain
-shown_by (ops.Call (Respond fixed from next)) (Some chain) = answered fixed next (marked_of chain)
+shown_by (ops.Call (Challenge k)) before = marked_of k.chain
+shown_by (ops.Call (Respond k)) (Some chain) = answered k.fixed k.next (marked_of chain)
 shown_by (ops.Call (Checkpoint chain)) before = marked_of chain
 shown_by (ops.Call (Conclude chain)) before = marked_of chain
 shown_by _ before = nothing

@@ -14,7 +14,7 @@ use Rattle.channel_node.specs.Places.{Told, mind_at, AreFew}
 use Rattle.channel_node.specs.Playing.{Signing, signings, pending, Plays}
 use Rattle.channel_node.specs.Nodes.{NodeOf, told_of}
 
--- A node that knows what its journal tells at the place up to which it followed the history.
+-- A node that knows what its journal says at the place up to which it followed the history.
 pub record Knows (r : Rules) (s : Signing) (h : List Entry) (n : NodeOf) : Type 0 where
   pub later : List Entry
   pub past : List Entry

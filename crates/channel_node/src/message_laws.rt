@@ -2,8 +2,8 @@
 
 ghost use Rattle.channel_node.specs.MessageLaws.{FrontsAreRefused, TrailingIsRefused, BadSignaturesAreTold, TakenOnesAreSigned};
 
-/// A node refuses each proper front of a message's bytes, and those bytes with more behind, since they aren't a message.
-/// It tells so, its journal has one more line, and nothing else changes.
+/// A node refuses each proper front of a message's bytes, and those bytes with more after them, since they aren't a
+/// message. It says so, its journal has one more line, and nothing else changes.
 pub fn broken_bytes_are_refused()
     ensures fronts { FrontsAreRefused }
     ensures trailing { TrailingIsRefused }

@@ -6,7 +6,7 @@ ghost use Rattle.std.specs.Option.{option_or};
 ghost use Rattle.channel_node.specs.Giving.{sent_if, spent_if, sent, spent, challenge_call, challenge_calls, spent_challenging, paid_sends, after_challenging, tick_gives, after_tick};
 ghost use Rattle.channel_node.specs.Leaving.{challenge_in, MayCall};
 ghost use Rattle.call_history.specs.History.{Legal};
-ghost use Rattle.call_history.specs.declared.call.Call.TheVariants as calls;
+ghost use Rattle.call_history.specs.Calls.{make_challenge};
 ghost use Rattle.call_history.specs.declared.entry.Entry.{Entry as AnEntry};
 ghost use Rattle.call_history.specs.Reading.{message_of};
 ghost use Rattle.channel_node.specs.Minds.{fresh};
@@ -18,7 +18,7 @@ ghost use Rattle.channel_node.specs.Standing.{Stands, ComesNext, Looks};
 ghost use Rattle.channel_node.specs.Answers.{IsWanted, CommandAnswers, HandleAnswers, IsPartly, SameJournal, StandsPartly, StaysFor, StaysForAll};
 
 use crate::mind::{Knowing, OwnChallenge};
-use call_history::{Call, Deed, Entry, Event, NodeRefusal, copy_call};
+use call_history::{Call, ChallengeCall, Deed, Entry, Event, NodeRefusal};
 use channel_values::{Chain, Listed, Name, NoMemory, State};
 use network::{Command, NodeFault, Outs};
 use std::alloc::Global;
@@ -144,7 +144,7 @@ impl<M: Knowing + Drop> Node<M> {
         }
     }
 
-    /// Puts a command and its event into the journal and among the commands.
+    /// Places a command and its event into the journal and among the commands.
     fn take_up(&mut self, step: u32, command: Command) -> Result<Option<NodeRefusal>, NoMemory>
         ensures refusal { IfOk result (λ refusal.
             refusal ≡ command_refusal M.tables M.rules
@@ -420,17 +420,17 @@ impl<M: Knowing + Drop> Node<M> {
 
     /// The one call of a challenge with this signature.
     fn calls_of(&self, chain: Chain, who: u8, signature: &Listed<u8>) -> Result<Vec<Call>, NoMemory>
-        ensures { IfOk result (λ given. given.items ≡ calls.Challenge chain who signature.now ∷ []) }
+        ensures { IfOk result (λ given. given.items ≡ make_challenge chain who signature.now ∷ []) }
     {
         let Ok(signature) = signature.copy() else {
             drop(chain);
             return Err(NoMemory);
         };
-        let call = Call::Challenge {
+        let call = Call::Challenge(ChallengeCall {
             chain,
             challenger: who,
             signature,
-        };
+        });
         let calls = vec![in *self.journal.allocator(); call]?;
         Ok(calls)
     }
@@ -506,13 +506,13 @@ impl<M: Knowing + Drop> Node<M> {
         Ok(())
     }
 
-    /// Puts a call into the journal.
+    /// Places a call into the journal.
     fn give(&mut self, call: &Call) -> Result<(), NoMemory>
         ensures ok { OnOk result (self.new ≡ gave_one self.old call.now) }
         ensures err { OnErr result (SameJournal self.old self.new) }
         ensures signer { self.new.signer ≡ self.old.signer }
     {
-        let copy = copy_call(call)?;
+        let copy = call.copy()?;
         self.write(Deed::Called(copy))
     }
 
@@ -529,7 +529,7 @@ impl<M: Knowing + Drop> Node<M> {
         Ok(())
     }
 
-    /// Signs its states and then its challenges, and tells all that it gives.
+    /// Signs its states and then its challenges, and says all that it gives.
     fn signed_outs(&mut self) -> Result<Outs, NoMemory>
         requires { self.old.is_lost ≡ false }
         ensures gives { IfOk result (λ outs. outs ≡ tick_gives M.tables M.rules (signing_of self.old.signer) self.old) }
@@ -606,7 +606,7 @@ impl<M: Knowing + Drop> Node<M> {
         Ok(())
     }
 
-    /// Puts a look of its watcher into the journal, which had followed `seen` entries.
+    /// Places a look of its watcher into the journal, which had followed `seen` entries.
     pub fn watch(&mut self, seen: u32, place: u32, calls: Listed<Call>) -> Result<(), NoMemory>
         ensures ok { OnOk result ((self.old.is_lost ≡ false) × (self.new ≡ watched seen place calls self.old)) }
         ensures err { OnErr result ((self.new.is_lost ≡ true) × SameJournal self.old self.new) }

@@ -322,26 +322,26 @@ module _ (r : Rules) (key : List ℕ) (F : FixedParts) (h : List Entry) (journal
         }
 
     raised : (op : Op) → e.op ≡ op → is_conclude op ≡ false → Raised past e
-    raised (ops.Call (Challenge chain who sig)) same nope =
-        let fixed : chain.fixed ≡ F = fixed-is r key F h journal on later past e chain.fixed (ops.Call (Challenge chain who sig)) is turns same refl in
-        let ok = challenge_ok r past chain who sig (taken r past e (Challenge chain who sig) legal same took) in
+    raised (ops.Call (Challenge k)) same nope =
+        let fixed : k.chain.fixed ≡ F = fixed-is r key F h journal on later past e k.chain.fixed (ops.Call (Challenge k)) is turns same refl in
+        let ok = challenge_ok r past k.chain k.challenger k.signature (taken r past e (Challenge k) legal same took) in
         let still : is_final (mode r (r.named F) past) ≡ false = subst (λ (G : FixedParts). is_final (mode r (r.named G) past) ≡ false) fixed ok.still in
-        let fresh : is_stale (mode r (r.named F) past) (row r (r.named F) past).turn (top_turn chain.states) ≡ false =
-        subst (λ (G : FixedParts). is_stale (mode r (r.named G) past) (row r (r.named G) past).turn (top_turn chain.states) ≡ false) fixed ok.fresh in
-        let t : (row r (r.named F) (e ∷ past)).turn ≡ top_turn chain.states = ap (λ (x : Row). x.turn) (new-row (ops.Call (Challenge chain who sig)) same) in
-        let up : (row r (r.named F) past).turn ≤ top_turn chain.states = fresh-up (mode r (r.named F) past) (row r (r.named F) past).turn (top_turn chain.states) fresh in
+        let fresh : is_stale (mode r (r.named F) past) (row r (r.named F) past).turn (top_turn k.chain.states) ≡ false =
+        subst (λ (G : FixedParts). is_stale (mode r (r.named G) past) (row r (r.named G) past).turn (top_turn k.chain.states) ≡ false) fixed ok.fresh in
+        let t : (row r (r.named F) (e ∷ past)).turn ≡ top_turn k.chain.states = ap (λ (x : Row). x.turn) (new-row (ops.Call (Challenge k)) same) in
+        let up : (row r (r.named F) past).turn ≤ top_turn k.chain.states = fresh-up (mode r (r.named F) past) (row r (r.named F) past).turn (top_turn k.chain.states) fresh in
         record {
           still = still;
           up = omega (arith, t, up);
-          clearing = λ opened mine. by-chain (ops.Call (Challenge chain who sig)) chain same fixed refl refl ok.supported (fresh-above (mode r (r.named F) past) (row r (r.named F) past).turn (top_turn chain.states) opened fresh);
+          clearing = λ opened mine. by-chain (ops.Call (Challenge k)) k.chain same fixed refl refl ok.supported (fresh-above (mode r (r.named F) past) (row r (r.named F) past).turn (top_turn k.chain.states) opened fresh);
         }
-    raised (ops.Call (Respond fixed before next)) same nope =
-        let fixed_is : fixed ≡ F = fixed-is r key F h journal on later past e fixed (ops.Call (Respond fixed before next)) is turns same refl in
-        let ok = respond_ok r past fixed before next (taken r past e (Respond fixed before next) legal same took) in
+    raised (ops.Call (Respond k)) same nope =
+        let fixed_is : k.fixed ≡ F = fixed-is r key F h journal on later past e k.fixed (ops.Call (Respond k)) is turns same refl in
+        let ok = respond_ok r past k.fixed k.from k.next (taken r past e (Respond k) legal same took) in
         let opened : is_challenged (mode r (r.named F) past) ≡ true = subst (λ (G : FixedParts). is_challenged (mode r (r.named G) past) ≡ true) fixed_is ok.challenged in
         let t : (row r (r.named F) (e ∷ past)).turn ≡ (row r (r.named F) past).turn + 1 =
-        ap (λ (x : Row). x.turn) (new-row (ops.Call (Respond fixed before next)) same) ∙ subst (λ (G : FixedParts). next.state.turn ≡ (row r (r.named G) past).turn + 1) fixed_is ok.turn in
-        let a : Answers r key F h journal on past e = respond-shown r key F h journal on later past e fixed before next is same turns in
+        ap (λ (x : Row). x.turn) (new-row (ops.Call (Respond k)) same) ∙ subst (λ (G : FixedParts). k.next.state.turn ≡ (row r (r.named G) past).turn + 1) fixed_is ok.turn in
+        let a : Answers r key F h journal on past e = respond-shown r key F h journal on later past e k.fixed k.from k.next is same turns in
         record {
           still = not_both (mode r (r.named F) past) opened;
           up = omega (arith, t);

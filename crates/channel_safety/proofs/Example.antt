@@ -16,7 +16,9 @@ use Rattle.channel_values.specs.Support.{supports}
 use Rattle.call_history.specs.Rows.{fixed_of}
 use Rattle.call_history.specs.History.{Legal, mode, reply_to}
 use Rattle.call_history.specs.Marked.{Marked, nothing}
+use Rattle.call_history.specs.Calls.{make_challenge}
 use Rattle.call_history.specs.declared.call.Call.TheVariants.{Challenge}
+use Rattle.call_history.specs.declared.call.Op.{Op}
 use Rattle.call_history.specs.declared.call.Op.TheVariants as ops
 use Rattle.call_history.specs.declared.refusal.Reply.TheVariants.{Until, Now}
 use Rattle.call_history.specs.declared.entry.Entry.{Entry}
@@ -80,7 +82,7 @@ abbrev chain : Chain
 chain = record { fixed = pair; states = at_turn 0 ∷ at_turn 1 ∷ []; marks = record { place = 0; signature = key_a } ∷ record { place = 1; signature = key_b } ∷ [] }
 
 abbrev challenge : Entry
-challenge = record { number = 1; by = 2; op = ops.Call (Challenge chain 1 key_b); reply = Until 10 }
+challenge = record { number = 1; by = 2; op = ops.Call (make_challenge chain 1 key_b); reply = Until 10 }
 
 abbrev time : Entry
 time = record { number = 2; by = 0; op = ops.Time 10; reply = Now 10 }
@@ -296,7 +298,7 @@ states-at-challenge f s has i v =
     (record { signed = record { line = signing; there = inr (inl refl); is = refl }; early = omega arith }))
 
 abbrev Challenges : List Entry → Entry → Type 0
-Challenges past e = (c : Chain) (who : ℕ) (signature : List ℕ) → e.op ≡ ops.Call (Challenge c who signature) → bytes_eq key_a signature ≡ true
+Challenges past e = (c : Chain) (who : ℕ) (signature : List ℕ) → e.op ≡ ops.Call (make_challenge c who signature) → bytes_eq key_a signature ≡ true
     → WasSignedBy rules journal (length past) (message_of_challenge (top_digest rules c.fixed c.states) who)
 
 -- the challenge is B's
@@ -304,7 +306,11 @@ not-by-a : (signature : List ℕ) → key_b ≡ signature → bytes_eq key_a sig
 not-by-a signature e v = clash (bytes_eq key_a key_b) (subst (λ (z : List ℕ). bytes_eq key_a z ≡ true) (sym e) v) refl
 
 challenges-at-challenge : Challenges [] challenge
-challenges-at-challenge c who signature op v = let e : key_b ≡ signature = cc in absurd (not-by-a signature e v)
+challenges-at-challenge c who signature op v = absurd (not-by-a signature (ap signature-in op) v)
+  where
+    signature-in : Op → List ℕ
+    signature-in (ops.Call (Challenge k)) = k.signature
+    signature-in _ = []
 
 no-message : (x : Line) (bytes : List ℕ) (refusal : Option NodeRefusal) → In x journal → x.deed ≡ deeds.Handled bytes refusal → ⊥
 no-message x bytes refusal i = in-journal x (λ (z : Line). z.deed ≡ deeds.Handled bytes refusal → ⊥) i (λ d. cc) (λ d. cc) (λ d. cc)

@@ -7,6 +7,7 @@ use Rattle.call_history.specs.declared.standing.Standing.TheVariants.{Challenged
 use Rattle.channel_values.specs.Rules.{Rules}
 use Rattle.call_history.specs.Rows.{fixed_of, turned}
 use Rattle.call_history.specs.History.{Legal, is_accepted, time_set, or_before, now_of, is_named, turning, row, mode}
+use Rattle.call_history.specs.Calls.{make_challenge}
 use Rattle.call_history.specs.declared.call.Call.TheVariants.{Challenge, Respond, Refute, Checkpoint, Conclude}
 use Rattle.call_history.specs.declared.call.Op.{Op}
 use Rattle.call_history.specs.declared.call.Op.TheVariants as ops
@@ -47,18 +48,18 @@ mode-not-final d now h = go (nat_le d now) refl
     go false e = le-false d now e
 
 by_op : (r : Rules) (c : List ℕ) (now : ℕ) (op : Op) (reply : Reply) (old : Row) → is_named r c (fixed_of op) ≡ true
-    → ((chain : Chain) (who : ℕ) (sig : List ℕ) → op ≡ ops.Call (Challenge chain who sig) → 0 < chain.fixed.duration)
+    → ((chain : Chain) (who : ℕ) (sig : List ℕ) → op ≡ ops.Call (make_challenge chain who sig) → 0 < chain.fixed.duration)
     → mode_at (turned r now op old).deadline (or_before (time_set op reply) now) ≡ Final → (chain : Chain) × (op ≡ ops.Call (Conclude chain))
-by_op r c now (ops.Call (Challenge chain who sig)) reply old named lasting final =
-    let l : 0 < chain.fixed.duration = lasting chain who sig refl in
-    let m = mode-final (Some (now + chain.fixed.duration)) now final in
-    let e : now + chain.fixed.duration ≡ m.0 = some-eq (now + chain.fixed.duration) m.0 m.1 in
+by_op r c now (ops.Call (Challenge k)) reply old named lasting final =
+    let l : 0 < k.chain.fixed.duration = lasting k.chain k.challenger k.signature refl in
+    let m = mode-final (Some (now + k.chain.fixed.duration)) now final in
+    let e : now + k.chain.fixed.duration ≡ m.0 = some-eq (now + k.chain.fixed.duration) m.0 m.1 in
     let b : m.0 ≤ now = m.2 in
     absurd (omega arith)
   where
     some-eq : (x y : ℕ) → Some x ≡ Some y → x ≡ y
     some-eq x y h = cc
-by_op r c now (ops.Call (Respond fixed from next)) reply old named lasting final = cc
+by_op r c now (ops.Call (Respond k)) reply old named lasting final = cc
 by_op r c now (ops.Call (Refute fixed next)) reply old named lasting final = cc
 by_op r c now (ops.Call (Checkpoint chain)) reply old named lasting final = cc
 by_op r c now (ops.Call (Conclude chain)) reply old named lasting final = (chain, refl)
@@ -77,7 +78,7 @@ by_time (Some d) (Some t) now not_yet final =
     some-eq x y h = cc
 
 pub becomes_final : (r : Rules) (c : List ℕ) (e : Entry) (past : List Entry)
-    → ((chain : Chain) (who : ℕ) (sig : List ℕ) → turning r c e ≡ true → e.op ≡ ops.Call (Challenge chain who sig) → 0 < chain.fixed.duration)
+    → ((chain : Chain) (who : ℕ) (sig : List ℕ) → turning r c e ≡ true → e.op ≡ ops.Call (make_challenge chain who sig) → 0 < chain.fixed.duration)
     → (mode r c past ≡ Final → ⊥) → mode r c (e ∷ past) ≡ Final → Concluded r c e ⊎ Expired r c e past
 becomes_final r c e past lasting not_yet final = go (turning r c e) refl
   where
@@ -102,13 +103,13 @@ pub record Running (r : Rules) (c : List ℕ) (past : List Entry) (deadline : �
   pub chain : Chain
   pub who : ℕ
   pub sig : List ℕ
-  pub op : entry.op ≡ ops.Call (Challenge chain who sig)
+  pub op : entry.op ≡ ops.Call (make_challenge chain who sig)
   pub due : deadline ≡ now_of older + chain.fixed.duration
 
 running_op : (r : Rules) (c : List ℕ) (now d : ℕ) (op : Op) (old : Row) → is_named r c (fixed_of op) ≡ true → now < d → (turned r now op old).deadline ≡ Some d
-    → (chain : Chain) × (who : ℕ) × (sig : List ℕ) × (op ≡ ops.Call (Challenge chain who sig)) × (d ≡ now + chain.fixed.duration)
-running_op r c now d (ops.Call (Challenge chain who sig)) old named less is = (chain, who, sig, refl, cc)
-running_op r c now d (ops.Call (Respond fixed from next)) old named less is = cc
+    → (chain : Chain) × (who : ℕ) × (sig : List ℕ) × (op ≡ ops.Call (make_challenge chain who sig)) × (d ≡ now + chain.fixed.duration)
+running_op r c now d (ops.Call (Challenge k)) old named less is = (k.chain, k.challenger, k.signature, refl, cc)
+running_op r c now d (ops.Call (Respond k)) old named less is = cc
 running_op r c now d (ops.Call (Refute fixed next)) old named less is = cc
 running_op r c now d (ops.Call (Checkpoint chain)) old named less is = cc
 running_op r c now d (ops.Call (Conclude chain)) old named less is = let e : now ≡ d = cc in absurd (omega arith)

@@ -7,7 +7,7 @@ use Rattle.call_history.specs.declared.entry.Entry.{Entry}
 use Rattle.channel_safety.specs.Journals.{In, Line}
 use Rattle.channel_safety.proofs.Tests.{some-eq, none-eq}
 use Rattle.channel_safety.proofs.Lists.{In-append_cases}
-use Rattle.channel_safety.specs.Races.{IsEntered, IsRound, IsPassed, NotesLater, over, AreRounds, AreTicks}
+use Rattle.channel_safety.specs.Races.{IsEntered, IsRound, NotesLater, over, AreRounds, AreTicks}
 use Rattle.channel_safety.specs.Growing.{AreTimeless, HaveSeen}
 use Rattle.channel_safety.specs.RaceLaws.{RacesBegin, RacesGoOn, RoundsEnd, RacersJoin, RoundsPass}
 use Rattle.channel_safety.proofs.RacePlaces.{tail-is, head-is, place_in}

@@ -12,7 +12,8 @@ use Rattle.call_history.specs.Rows.{fixed_of, turned}
 use Rattle.call_history.specs.History.{is_accepted, time_set, now_of, is_named, turning, row, mode, Legal, settles, settled}
 use Rattle.call_history.specs.Marked.{Marked, nothing, marked_of, chain_of, is_supported}
 use Rattle.call_history.specs.Shown.{shown_by, shown}
-use Rattle.call_history.specs.declared.call.Call.TheVariants.{Challenge, Checkpoint, Conclude}
+use Rattle.call_history.specs.Calls.{make_challenge}
+use Rattle.call_history.specs.declared.call.Call.TheVariants.{Checkpoint, Conclude}
 use Rattle.call_history.specs.declared.call.Op.{Op}
 use Rattle.call_history.specs.declared.call.Op.TheVariants as ops
 use Rattle.call_history.specs.declared.row.Row.{Row}
@@ -254,12 +255,12 @@ module _ (r : Rules) (key : List ℕ) (F : FixedParts) (h : List Entry) (journal
           m-legal = legal-suffix r (later ++ e ∷ m.mid) (m.entry ∷ m.older) (subst (Legal r) m-is on.legal)
 
           m-fixed : m.chain.fixed ≡ F
-          m-fixed = fixed-is (later ++ e ∷ m.mid) m.older m.entry m.chain.fixed (ops.Call (Challenge m.chain m.who m.sig)) m-is m.turns m.op refl
+          m-fixed = fixed-is (later ++ e ∷ m.mid) m.older m.entry m.chain.fixed (ops.Call (make_challenge m.chain m.who m.sig)) m-is m.turns m.op refl
 
           m-chain : is_supported r F (marked_of m.chain) ≡ true
           m-chain =
               subst (λ (G : FixedParts). is_supported r G (marked_of m.chain) ≡ true) m-fixed
-              (challenge_ok r m.older m.chain m.who m.sig (taken r m.older m.entry (Challenge m.chain m.who m.sig) m-legal m.op (and-left (is_accepted m.entry.reply) (is_named r (r.named F) (fixed_of m.entry.op)) m.turns))).supported
+              (challenge_ok r m.older m.chain m.who m.sig (taken r m.older m.entry (make_challenge m.chain m.who m.sig) m-legal m.op (and-left (is_accepted m.entry.reply) (is_named r (r.named F) (fixed_of m.entry.op)) m.turns))).supported
 
           shown-chain : is_supported r F (shown r (r.named F) m.older m.entry) ≡ true
           shown-chain =
@@ -473,9 +474,9 @@ safe r key h journal keeps legal honest unforged distinct valid in_time later pa
     on : Setting r key F h journal
     on = setting r key h journal keeps legal honest unforged distinct valid F (length past) channel
 
-    lasting : (chain : Chain) (who : ℕ) (sig : List ℕ) → turning r (r.named F) e ≡ true → e.op ≡ ops.Call (Challenge chain who sig) → 0 < chain.fixed.duration
+    lasting : (chain : Chain) (who : ℕ) (sig : List ℕ) → turning r (r.named F) e ≡ true → e.op ≡ ops.Call (make_challenge chain who sig) → 0 < chain.fixed.duration
     lasting chain who sig turns op =
-        subst (λ (G : FixedParts). 0 < G.duration) (sym (fixed-is r key F h journal on later past e chain.fixed (ops.Call (Challenge chain who sig)) is turns op refl))
+        subst (λ (G : FixedParts). 0 < G.duration) (sym (fixed-is r key F h journal on later past e chain.fixed (ops.Call (make_challenge chain who sig)) is turns op refl))
         (let started : 1 ≤ F.duration = (valid.fixed F (inr (channel.line, channel.there, channel.opens))).started in omega arith)
 
     go : Concluded r (r.named F) e ⊎ Expired r (r.named F) e past → SettlesWell r F e past journal

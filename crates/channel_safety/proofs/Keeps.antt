@@ -1,17 +1,16 @@
 -- What is held gets no older, and once it is final it stays so.
-use Rattle.std.proofs.Common.{◌≡◌, ℕ, ◌+◌, ◌<◌, ◌≤◌, ◌==◌, Bool, true, false, cond, ◌&&◌, ◌||◌, not, List, [], ◌∷◌, length, refl, sym, ◌∙◌, ap, subst, arith}
+use Rattle.std.proofs.Common.{◌≡◌, ℕ, ◌+◌, ◌<◌, ◌≤◌, Bool, true, false, cond, ◌&&◌, ◌||◌, not, List, refl, sym, ◌∙◌, ap, subst, arith}
 use Rattle.std.specs.Prelude.{nat_lt, Option, Some, None}
 use Rattle.channel_values.specs.Parts.{FixedParts, StateParts, IsState}
 use Rattle.channel_values.specs.declared.chain.Signed.{Signed}
 use Rattle.channel_values.specs.declared.value.AssetOutcome.{AssetOutcome}
-use Rattle.channel_values.specs.Rows.{last_of}
-use Rattle.channel_values.specs.Rules.{Rules, newest, turn_of, top_turn, is_signed_well, KeepsFinal}
-use Rattle.call_history.specs.Marked.{Marked, is_supported, answered, next_after, is_step, extends, extended, is_newer, adopted}
+use Rattle.channel_values.specs.Rules.{Rules, turn_of, top_turn, KeepsFinal}
+use Rattle.call_history.specs.Marked.{Marked, is_supported, answered, extends, extended, is_newer, adopted}
 use Rattle.channel_safety.specs.Journals.{Line, noted_in}
 use Rattle.channel_safety.specs.Held.{note, show}
 use Rattle.channel_safety.specs.Honest.{EndsWith}
-use Rattle.channel_safety.proofs.Tests.{and-left, and-right, or-right, some-eq, none-eq, is-none, eqb-true, lt-true, lt-false}
-use Rattle.channel_safety.proofs.Chains.{IsClosed, parts}
+use Rattle.channel_safety.proofs.Tests.{and-left, and-right, or-right, some-eq, lt-true, lt-false}
+use Rattle.channel_safety.proofs.Chains.{IsClosed}
 use Rattle.channel_safety.proofs.ChainsGrow.{extension}
 
 -- a chain is held, of at least this turn

@@ -12,7 +12,7 @@ use Rattle.call_history.specs.Rows.{fixed_of, turned, after_challenge}
 use Rattle.call_history.specs.History.{Legal, is_accepted, is_named, now_of, turning, row, mode}
 use Rattle.call_history.specs.Marked.{Marked, nothing, marked_of, is_supported, answered}
 use Rattle.call_history.specs.Shown.{challenge_in, challenged, shown_by, shown}
-use Rattle.call_history.specs.declared.call.Call.TheVariants.{Challenge, Respond}
+use Rattle.call_history.specs.Calls.{make_challenge, make_respond}
 use Rattle.call_history.specs.declared.call.Op.{Op}
 use Rattle.call_history.specs.declared.call.Op.TheVariants as ops
 use Rattle.call_history.specs.declared.row.Row.{Row}
@@ -54,7 +54,7 @@ module _ (r : Rules) (key : List ℕ) (F : FixedParts) (h : List Entry) (journal
     pub chain : Chain
     pub who : ℕ
     pub sig : List ℕ
-    pub op : entry.op ≡ ops.Call (Challenge chain who sig)
+    pub op : entry.op ≡ ops.Call (make_challenge chain who sig)
     pub fixed : chain.fixed ≡ F
     pub supported : is_supported r F (marked_of chain) ≡ true
     pub signed : signs_challenge r F chain.states who sig ≡ true
@@ -103,17 +103,17 @@ module _ (r : Rules) (key : List ℕ) (F : FixedParts) (h : List Entry) (journal
               m-legal = legal-suffix r (later ++ m.mid) (m.entry ∷ m.older) (subst (Legal r) m-is on.legal)
 
               m-fixed : m.chain.fixed ≡ F
-              m-fixed = fixed-is r key F h journal on (later ++ m.mid) m.older m.entry m.chain.fixed (ops.Call (Challenge m.chain m.who m.sig)) m-is m.turns m.op refl
+              m-fixed = fixed-is r key F h journal on (later ++ m.mid) m.older m.entry m.chain.fixed (ops.Call (make_challenge m.chain m.who m.sig)) m-is m.turns m.op refl
 
               ok : Challenges r m.older m.chain m.who m.sig
-              ok = challenge_ok r m.older m.chain m.who m.sig (taken r m.older m.entry (Challenge m.chain m.who m.sig) m-legal m.op (and-left (is_accepted m.entry.reply) (is_named r (r.named F) (fixed_of m.entry.op)) m.turns))
+              ok = challenge_ok r m.older m.chain m.who m.sig (taken r m.older m.entry (make_challenge m.chain m.who m.sig) m-legal m.op (and-left (is_accepted m.entry.reply) (is_named r (r.named F) (fixed_of m.entry.op)) m.turns))
 
   -- an accepted respond shows the challenged chain with its answer, which is supported, one turn on
   pub record Answers (past : List Entry) (e : Entry) : Type 0 where
     pub supported : is_supported r F (shown r (r.named F) past e) ≡ true
     pub turn : top_turn (shown r (r.named F) past e).states ≡ (row r (r.named F) past).turn + 1
 
-  pub respond-shown : (later past : List Entry) (e : Entry) (fixed : FixedParts) (before : StateParts) (next : Signed) → h ≡ later ++ e ∷ past → e.op ≡ ops.Call (Respond fixed before next) → turning r (r.named F) e ≡ true → Answers past e
+  pub respond-shown : (later past : List Entry) (e : Entry) (fixed : FixedParts) (before : StateParts) (next : Signed) → h ≡ later ++ e ∷ past → e.op ≡ ops.Call (make_respond fixed before next) → turning r (r.named F) e ≡ true → Answers past e
   respond-shown later past e fixed before next is op turns = by_open (open_one (later ++ e ∷ []) past is' (subst (λ (G : FixedParts). is_challenged (mode r (r.named G) past) ≡ true) same-fixed ok.challenged))
     where
       is' : h ≡ (later ++ e ∷ []) ++ past
@@ -123,10 +123,10 @@ module _ (r : Rules) (key : List ℕ) (F : FixedParts) (h : List Entry) (journal
       legal = legal-suffix r later (e ∷ past) (subst (Legal r) is on.legal)
 
       same-fixed : fixed ≡ F
-      same-fixed = fixed-is r key F h journal on later past e fixed (ops.Call (Respond fixed before next)) is turns op refl
+      same-fixed = fixed-is r key F h journal on later past e fixed (ops.Call (make_respond fixed before next)) is turns op refl
 
       ok : Responds r past fixed before next
-      ok = respond_ok r past fixed before next (taken r past e (Respond fixed before next) legal op (and-left (is_accepted e.reply) (is_named r (r.named F) (fixed_of e.op)) turns))
+      ok = respond_ok r past fixed before next (taken r past e (make_respond fixed before next) legal op (and-left (is_accepted e.reply) (is_named r (r.named F) (fixed_of e.op)) turns))
 
       ok' : Responds r past F before next
       ok' = subst (λ (G : FixedParts). Responds r past G before next) same-fixed ok

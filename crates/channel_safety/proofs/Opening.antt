@@ -1,5 +1,5 @@
 -- What is held is always the first round so far, each state with its mover's mark, or a supported chain.
-use Rattle.std.proofs.Common.{◌≡◌, ℕ, suc, ◌≤◌, Bool, true, false, cond, List, [], ◌∷◌, inl, inr, length, refl}
+use Rattle.std.proofs.Common.{◌≡◌, suc, ◌≤◌, Bool, true, false, cond, List, [], ◌∷◌, inl, inr, length, refl}
 use Rattle.std.specs.Prelude.{Option, Some, None}
 use Rattle.channel_values.specs.Parts.{FixedParts}
 use Rattle.channel_values.specs.declared.chain.Signed.{Signed}

@@ -17,8 +17,9 @@ use Rattle.call_history.specs.Replies as replies
 use Rattle.call_history.specs.Replies.{first_unfinished}
 use Rattle.call_history.specs.History.{is_accepted, now_of, row, mode, call_reply, reply_to, Legal}
 use Rattle.call_history.specs.Marked.{marked_of, is_supported}
+use Rattle.call_history.specs.Calls.{make_challenge, make_respond}
 use Rattle.call_history.specs.declared.call.Call.{Call}
-use Rattle.call_history.specs.declared.call.Call.TheVariants.{Challenge, Respond, Refute, Checkpoint, Conclude}
+use Rattle.call_history.specs.declared.call.Call.TheVariants.{Refute, Checkpoint, Conclude}
 use Rattle.call_history.specs.declared.call.Op.{Op}
 use Rattle.call_history.specs.declared.call.Op.TheVariants as ops
 use Rattle.call_history.specs.declared.refusal.Refusal.{Refusal}
@@ -76,7 +77,7 @@ pub record Challenges (r : Rules) (past : List Entry) (chain : Chain) (who : ℕ
   pub fresh : is_stale (mode r (r.named chain.fixed) past) (row r (r.named chain.fixed) past).turn (top_turn chain.states) ≡ false
   pub signed : signs_challenge r chain.fixed chain.states who sig ≡ true
 
-pub challenge_ok : (r : Rules) (past : List Entry) (chain : Chain) (who : ℕ) (sig : List ℕ) → is_accepted (call_reply r past (Challenge chain who sig)) ≡ true → Challenges r past chain who sig
+pub challenge_ok : (r : Rules) (past : List Entry) (chain : Chain) (who : ℕ) (sig : List ℕ) → is_accepted (call_reply r past (make_challenge chain who sig)) ≡ true → Challenges r past chain who sig
 challenge_ok r past chain who sig h =
     let old : Row = row r (r.named chain.fixed) past in
     let done : Result Row Refusal = Ok (after_challenge r (now_of past) chain who) in
@@ -116,7 +117,7 @@ pub record Responds (r : Rules) (past : List Entry) (fixed : FixedParts) (before
   pub well : is_signed_well r fixed next ≡ true
   pub step : r.step fixed before next.state ≡ None
 
-pub respond_ok : (r : Rules) (past : List Entry) (fixed : FixedParts) (before : StateParts) (next : Signed) → is_accepted (call_reply r past (Respond fixed before next)) ≡ true → Responds r past fixed before next
+pub respond_ok : (r : Rules) (past : List Entry) (fixed : FixedParts) (before : StateParts) (next : Signed) → is_accepted (call_reply r past (make_respond fixed before next)) ≡ true → Responds r past fixed before next
 respond_ok r past fixed before next h =
     let old : Row = row r (r.named fixed) past in
     let done : Result Row Refusal = Ok (after_turn next.state.turn old) in

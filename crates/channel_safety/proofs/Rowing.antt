@@ -29,7 +29,7 @@ pub refuse-false : {A : Type 0} (b : Bool) (f : Refusal) (rest : Result A Refusa
 refuse-false true f rest h = cc
 refuse-false false f rest h = refl
 
--- an accepted reply tells a value
+-- an accepted reply describes a value
 pub told-ok : {A : Type 0} (say : A → Reply) (x : Result A Refusal) → is_accepted (told say x) ≡ true → (v : A) × (x ≡ Ok v)
 told-ok say (Ok v) h = (v, refl)
 told-ok say (Err f) h = cc

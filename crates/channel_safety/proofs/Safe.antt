@@ -70,8 +70,8 @@ challenged-places r c [] legal = λ i m e. absurd (none-eq m e)
 challenged-places r c (e ∷ past) legal = go (turning r c e) refl (challenged-places r c past legal.0)
   where
     by : (op : Op) → e.op ≡ op → is_accepted e.reply ≡ true → PlacesIn (challenged r c past) → PlacesIn (challenge_in op (challenged r c past))
-    by (ops.Call (Challenge chain who sig)) is acc before =
-        supported-places r chain.fixed (marked_of chain) (challenge_ok r past chain who sig (taken r past e (Challenge chain who sig) legal is acc)).supported
+    by (ops.Call (Challenge k)) is acc before =
+        supported-places r k.chain.fixed (marked_of k.chain) (challenge_ok r past k.chain k.challenger k.signature (taken r past e (Challenge k) legal is acc)).supported
     by _ is acc before = before
 
     go : (b : Bool) → turning r c e ≡ b → PlacesIn (challenged r c past) → PlacesIn (challenged r c (e ∷ past))
@@ -88,7 +88,7 @@ from_challenge r c [] s i = absurd i
 from_challenge r c (e ∷ past) s i = go (turning r c e) refl (from_challenge r c past s)
   where
     by : (op : Op) → e.op ≡ op → is_named r c (fixed_of op) ≡ true → (InChain s (challenged r c past) → Source r c past s) → InChain s (challenge_in op (challenged r c past)) → Source r c (e ∷ past) s
-    by (ops.Call (Challenge chain who sig)) is named before j = here r c e past chain.fixed s (ops.Call (Challenge chain who sig)) is refl named j
+    by (ops.Call (Challenge k)) is named before j = here r c e past k.chain.fixed s (ops.Call (Challenge k)) is refl named j
     by _ is named before j = further r c e past s (before j)
 
     go : (b : Bool) → turning r c e ≡ b → (InChain s (challenged r c past) → Source r c past s) → Source r c (e ∷ past) s
@@ -99,12 +99,12 @@ pub from_shown : (r : Rules) (c : List ℕ) (past : List Entry) (e : Entry) (s :
 from_shown r c past e s legal i = go (turning r c e) refl
   where
     by : (op : Op) → e.op ≡ op → is_named r c (fixed_of op) ≡ true → InChain s (shown_by r c past op) → Source r c (e ∷ past) s
-    by (ops.Call (Challenge chain who sig)) is named j = here r c e past chain.fixed s (ops.Call (Challenge chain who sig)) is refl named j
-    by (ops.Call (Respond fixed from next)) is named j = either (answered-signed fixed next (challenged r c past) s (challenged-places r c past legal) j)
+    by (ops.Call (Challenge k)) is named j = here r c e past k.chain.fixed s (ops.Call (Challenge k)) is refl named j
+    by (ops.Call (Respond k)) is named j = either (answered-signed k.fixed k.next (challenged r c past) s (challenged-places r c past legal) j)
       where
-        either : (s ≡ next) ⊎ InChain s (challenged r c past) → Source r c (e ∷ past) s
-        either (inl q) = here r c e past fixed s (ops.Call (Respond fixed from next)) is refl named (inl q)
-        either (inr k) = further r c e past s (from_challenge r c past s k)
+        either : (s ≡ k.next) ⊎ InChain s (challenged r c past) → Source r c (e ∷ past) s
+        either (inl q) = here r c e past k.fixed s (ops.Call (Respond k)) is refl named (inl q)
+        either (inr q) = further r c e past s (from_challenge r c past s q)
     by (ops.Call (Checkpoint chain)) is named j = here r c e past chain.fixed s (ops.Call (Checkpoint chain)) is refl named j
     by (ops.Call (Conclude chain)) is named j = here r c e past chain.fixed s (ops.Call (Conclude chain)) is refl named j
     by _ is named j = absurd j
@@ -122,7 +122,7 @@ challenged-valid r c [] valid = λ x i. absurd i
 challenged-valid r c (e ∷ past) valid = go (turning r c e) refl (challenged-valid r c past (λ k s i j. valid k s (inr i) j))
   where
     by : (op : Op) → e.op ≡ op → AreStates (challenged r c past).states → AreStates (challenge_in op (challenged r c past)).states
-    by (ops.Call (Challenge chain who sig)) is before = λ x i. valid e x (inl refl) (subst (λ (o : Op). In x (states_in o)) (sym is) i)
+    by (ops.Call (Challenge k)) is before = λ x i. valid e x (inl refl) (subst (λ (o : Op). In x (states_in o)) (sym is) i)
     by _ is before = before
 
     go : (b : Bool) → turning r c e ≡ b → AreStates (challenged r c past).states → AreStates (challenged r c (e ∷ past)).states
@@ -136,12 +136,12 @@ shown-valid r c past e valid = go (turning r c e) refl
     in_entry op x is i = valid e x (inl refl) (subst (λ (o : Op). In x (states_in o)) (sym is) i)
 
     by : (op : Op) → e.op ≡ op → AreStates (shown_by r c past op).states
-    by (ops.Call (Challenge chain who sig)) is = λ x i. in_entry (ops.Call (Challenge chain who sig)) x is i
-    by (ops.Call (Respond fixed from next)) is = λ x i. either x (answered-states fixed next (challenged r c past) x i)
+    by (ops.Call (Challenge k)) is = λ x i. in_entry (ops.Call (Challenge k)) x is i
+    by (ops.Call (Respond k)) is = λ x i. either x (answered-states k.fixed k.next (challenged r c past) x i)
       where
-        either : (x : StateParts) → (x ≡ next.state) ⊎ In x (challenged r c past).states → IsState x
-        either x (inl q) = in_entry (ops.Call (Respond fixed from next)) x is (inr (inl q))
-        either x (inr j) = challenged-valid r c past (λ k s a b. valid k s (inr a) b) x j
+        either : (x : StateParts) → (x ≡ k.next.state) ⊎ In x (challenged r c past).states → IsState x
+        either x (inl q) = in_entry (ops.Call (Respond k)) x is (inr (inl q))
+        either x (inr j) = challenged-valid r c past (λ y s a b. valid y s (inr a) b) x j
     by (ops.Call (Checkpoint chain)) is = λ x i. in_entry (ops.Call (Checkpoint chain)) x is i
     by (ops.Call (Conclude chain)) is = λ x i. in_entry (ops.Call (Conclude chain)) x is i
     by _ is = λ x i. absurd i
@@ -282,9 +282,9 @@ marked-state-in : (states : List StateParts) (marks : List Mark) (s : Signed) �
 marked-state-in states marks s i = let f = from_mark states marks s i in In-get states f.mark.place s.state f.on
 
 pub signed-state-in : (op : Op) (s : Signed) → In s (signed_in op) → In s.state (states_in op)
-signed-state-in (ops.Call (Challenge chain who sig)) s i = marked-state-in chain.states chain.marks s i
-signed-state-in (ops.Call (Respond fixed from next)) s (inl e) = inr (inl (ap (λ (x : Signed). x.state) e))
-signed-state-in (ops.Call (Respond fixed from next)) s (inr i) = absurd i
+signed-state-in (ops.Call (Challenge k)) s i = marked-state-in k.chain.states k.chain.marks s i
+signed-state-in (ops.Call (Respond k)) s (inl e) = inr (inl (ap (λ (x : Signed). x.state) e))
+signed-state-in (ops.Call (Respond k)) s (inr i) = absurd i
 signed-state-in (ops.Call (Refute fixed next)) s (inl e) = inl (ap (λ (x : Signed). x.state) e)
 signed-state-in (ops.Call (Refute fixed next)) s (inr i) = absurd i
 signed-state-in (ops.Call (Checkpoint chain)) s i = marked-state-in chain.states chain.marks s i

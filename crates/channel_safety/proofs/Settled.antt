@@ -74,13 +74,13 @@ settled_by r c (e ∷ past) d legal h = go (turning r c e) refl (settled_by r c 
 
     by_op : turning r c e ≡ true → (op : Op) → e.op ≡ op → (turned r (now_of past) op (row r c past)).deadline ≡ Some d → is_named r c (fixed_of op) ≡ true →
         SettlesOnOccurring r c (e ∷ past)
-    by_op t (ops.Call (Challenge chain who signature)) is at n =
-        ends t (ops.Call (Challenge chain who signature)) is (top_outcome chain.states) refl refl
-        (top-in r chain.fixed chain.states chain.marks (challenge_ok r past chain who signature (taken r past e (Challenge chain who signature) legal is (accepted t))).supported)
+    by_op t (ops.Call (Challenge k)) is at n =
+        ends t (ops.Call (Challenge k)) is (top_outcome k.chain.states) refl refl
+        (top-in r k.chain.fixed k.chain.states k.chain.marks (challenge_ok r past k.chain k.challenger k.signature (taken r past e (Challenge k) legal is (accepted t))).supported)
     by_op t (ops.Call (Conclude chain)) is at n =
         ends t (ops.Call (Conclude chain)) is (top_outcome chain.states) refl refl
         (top-in r chain.fixed chain.states chain.marks (conclude_ok r past chain (taken r past e (Conclude chain) legal is (accepted t))).0)
-    by_op t (ops.Call (Respond fixed from next)) is at n = cc
+    by_op t (ops.Call (Respond k)) is at n = cc
     by_op t (ops.Call (Refute fixed next)) is at n = cc
     by_op t (ops.Call (Checkpoint chain)) is at n = cc
     by_op t op is at n = cc

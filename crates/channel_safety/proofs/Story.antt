@@ -13,6 +13,7 @@ use Rattle.channel_values.specs.Rules.{Rules}
 use Rattle.channel_values.specs.Support.{supports}
 use Rattle.call_history.specs.History.{Legal, time_set, reply_to}
 use Rattle.call_history.specs.Marked.{Marked, chain_of}
+use Rattle.call_history.specs.Calls.{make_challenge}
 use Rattle.call_history.specs.declared.call.Call.{Call}
 use Rattle.call_history.specs.declared.call.Call.TheVariants.{Challenge, Checkpoint}
 use Rattle.call_history.specs.declared.call.Op.{Op}
@@ -79,13 +80,13 @@ abbrev pub shows : Entry
 shows = entry 1 2 (ops.Call (Checkpoint (chain_of pair (by_b 1)))) (Opened 1)
 
 abbrev pub attack : Entry
-attack = entry 2 2 (ops.Call (Challenge (chain_of pair (by_b 1)) 1 key_b)) (Until 2)
+attack = entry 2 2 (ops.Call (make_challenge (chain_of pair (by_b 1)) 1 key_b)) (Until 2)
 
 abbrev pub answer : Entry
 answer = entry 3 1 (ops.Call (Checkpoint (chain_of pair (by_a 2)))) (Opened 2)
 
 abbrev pub again : Entry
-again = entry 4 2 (ops.Call (Challenge (chain_of pair (by_a 2)) 1 key_b)) (Until 2)
+again = entry 4 2 (ops.Call (make_challenge (chain_of pair (by_a 2)) 1 key_b)) (Until 2)
 
 abbrev pub first_time : Entry
 first_time = entry 5 0 (ops.Time 1) (Now 1)
@@ -214,10 +215,10 @@ stands later past m chain who signature x f s split is turns i n =
     let two = long m (subst (In m) (sym split) (In-append_right m later (m ∷ past) (inl refl))) is in omega (arith, two)
   where
     fixed-in : Op → FixedParts
-    fixed-in (ops.Call (Challenge c j sig)) = c.fixed
+    fixed-in (ops.Call (Challenge k)) = k.chain.fixed
     fixed-in _ = pair
 
-    long : (e : Entry) → In e (history story) → e.op ≡ ops.Call (Challenge chain who signature) → 2 ≤ chain.fixed.duration
+    long : (e : Entry) → In e (history story) → e.op ≡ ops.Call (make_challenge chain who signature) → 2 ≤ chain.fixed.duration
     long e j o =
         subst (λ (g : FixedParts). 2 ≤ g.duration) (ap fixed-in o)
         (all-in (λ (y : Entry). 2 ≤ (fixed-in y.op).duration) e (history story) (omega arith, (omega arith, (omega arith, (omega arith, (omega arith, (omega arith, tt)))))) j)

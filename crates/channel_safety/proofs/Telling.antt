@@ -1,5 +1,5 @@
 -- Where names and digests are hashes and no two strings have one, names tell fixed parts, and digests states and outcomes.
-use Rattle.std.proofs.Common.{◌≡◌, ℕ, List, [], ◌⊎◌, inl, inr, length, refl, sym, ap, subst, ◌∙◌}
+use Rattle.std.proofs.Common.{◌≡◌, ℕ, List, ◌⊎◌, inl, inr, length, refl, sym, ap, subst, ◌∙◌}
 use Rattle.std.specs.Prelude.{Option, Some, map, flat_map}
 use Rattle.channel_values.specs.Parts.{FixedParts, StateParts, IsState}
 use Rattle.channel_values.specs.Spelling.{fixed, state, outcome}
@@ -93,14 +93,14 @@ state-valid r h journal valid c s (in_line x i e) = (valid.signed x c s i e).1
 
 -- an op that has a state has a fixed part
 has-fixed : (op : Op) (s : StateParts) → In s (states_in op) → (f : FixedParts) × (fixed_of op ≡ Some f)
-has-fixed (ops.Call (Deposit channel asset expected amount)) s i = absurd i
-has-fixed (ops.Call (Challenge chain who signature)) s i = (chain.fixed, refl)
-has-fixed (ops.Call (Respond f from next)) s i = (f, refl)
+has-fixed (ops.Call (Deposit d)) s i = absurd i
+has-fixed (ops.Call (Challenge k)) s i = (k.chain.fixed, refl)
+has-fixed (ops.Call (Respond k)) s i = (k.fixed, refl)
 has-fixed (ops.Call (Refute f next)) s i = (f, refl)
 has-fixed (ops.Call (Checkpoint chain)) s i = (chain.fixed, refl)
 has-fixed (ops.Call (Conclude chain)) s i = (chain.fixed, refl)
-has-fixed (ops.Call (Transfer channel o asset index)) s i = absurd i
-has-fixed (ops.Call (Claim guarantor promise target o asset position)) s i = absurd i
+has-fixed (ops.Call (Transfer k)) s i = absurd i
+has-fixed (ops.Call (Claim k)) s i = absurd i
 has-fixed (ops.Time t) s i = absurd i
 
 -- the string of an outcome of an op is one of the op's

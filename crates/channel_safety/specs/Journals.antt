@@ -43,11 +43,11 @@ abbrev pub is_followed : Deed → Bool
 is_followed (deeds.Commanded step None) = true
 is_followed _ = false
 
--- the fixed parts that a line puts into the plan
+-- the fixed parts that a line writes into the plan
 abbrev pub opened : Line → List FixedParts
 opened x = if is_followed x.deed then x.adds else []
 
--- the line puts the channel into the plan
+-- the line writes the channel into the plan
 abbrev pub opens : Rules → List ℕ → Line → Bool
 opens r channel x = list_any (λ f. bytes_eq (r.named f) channel) (opened x)
 

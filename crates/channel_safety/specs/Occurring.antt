@@ -26,7 +26,8 @@ pub data OccursState (r : Rules) (h : List Entry) (journal : List Line) (channel
 abbrev pub OccursOutcome : List Entry → List AssetOutcome → Type 0
 OccursOutcome h o = (e : Entry) × (In e h) × (In o (outcomes_in e.op))
 
--- A name tells its fixed part, the digest of a state tells its channel and the state, and that of an outcome tells it.
+-- A name determines its fixed part, the digest of a state its channel and the state, and that of an outcome the
+-- outcome.
 pub record NoCollision (r : Rules) (h : List Entry) (journal : List Line) : Type 0 where
   pub names : (f g : FixedParts) → OccursFixed h journal f → OccursFixed h journal g → r.named f ≡ r.named g → f ≡ g
   pub states :

@@ -8,8 +8,8 @@ use Rattle.channel_values.specs.Rules.{Rules, top_digest}
 use Rattle.call_history.specs.Rows.{fixed_of}
 use Rattle.call_history.specs.History.{time_set, now_of, is_named, turning}
 use Rattle.call_history.specs.Reading.{message_of}
+use Rattle.call_history.specs.Calls.{make_challenge}
 use Rattle.call_history.specs.declared.call.Call.{Call}
-use Rattle.call_history.specs.declared.call.Call.TheVariants.{Challenge}
 use Rattle.call_history.specs.declared.call.Op.TheVariants as ops
 use Rattle.call_history.specs.declared.entry.Entry.{Entry}
 use Rattle.call_history.specs.declared.event.Deed.TheVariants as deeds
@@ -29,7 +29,7 @@ pub record Unforged (r : Rules) (key : List ℕ) (h : List Entry) (journal : Lis
       → WasSignedBy r journal (length past) (message_of_state (r.digest (r.named f) s.state))
   pub challenges :
       (later past : List Entry) (e : Entry) (chain : Chain) (who : ℕ) (signature : List ℕ)
-      → h ≡ later ++ e ∷ past → e.op ≡ ops.Call (Challenge chain who signature)
+      → h ≡ later ++ e ∷ past → e.op ≡ ops.Call (make_challenge chain who signature)
       → r.verifies key (message_of_challenge (top_digest r chain.fixed chain.states) who) signature ≡ true
       → WasSignedBy r journal (length past) (message_of_challenge (top_digest r chain.fixed chain.states) who)
   pub messages :
@@ -53,7 +53,7 @@ pub record RunsOut (r : Rules) (channel : List ℕ) (e : Entry) (mid : List Entr
   pub who : ℕ
   pub signature : List ℕ
   pub time : ℕ
-  pub challenge : m.op ≡ ops.Call (Challenge chain who signature)
+  pub challenge : m.op ≡ ops.Call (make_challenge chain who signature)
   pub turns : turning r channel m ≡ true
   pub quiet : (q : Entry) → In q mid → turning r channel q ≡ false
   pub first : (q : Entry) (t : ℕ) → In q mid → time_set q.op q.reply ≡ Some t → t < now_of past + chain.fixed.duration

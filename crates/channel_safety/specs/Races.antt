@@ -6,8 +6,8 @@ use Rattle.channel_values.specs.declared.chain.Chain.{Chain}
 use Rattle.channel_values.specs.declared.chain.Signed.{Signed}
 use Rattle.channel_values.specs.Rules.{Rules}
 use Rattle.call_history.specs.History.{time_set, now_of, turning}
+use Rattle.call_history.specs.Calls.{make_challenge}
 use Rattle.call_history.specs.declared.call.Call.{Call}
-use Rattle.call_history.specs.declared.call.Call.TheVariants.{Challenge}
 use Rattle.call_history.specs.declared.call.Op.TheVariants as ops
 use Rattle.call_history.specs.declared.entry.Entry.{Entry}
 use Rattle.call_history.specs.declared.event.Deed.TheVariants as deeds
@@ -80,7 +80,7 @@ abbrev pub StandForTwo : Rules → List Entry → List Line → Type 0
 StandForTwo r h journal =
     (later past : List Entry) (m : Entry) (chain : Chain) (who : ℕ) (signature : List ℕ)
     (x : Line) (f : FixedParts) (s : Signed)
-    → h ≡ later ++ m ∷ past → m.op ≡ ops.Call (Challenge chain who signature) → turning r (r.named f) m ≡ true
+    → h ≡ later ++ m ∷ past → m.op ≡ ops.Call (make_challenge chain who signature) → turning r (r.named f) m ≡ true
     → In x journal → noted_in (r.named f) x.deed ≡ Some s → 2 ≤ chain.fixed.duration
 
 -- a channel of this name was opened

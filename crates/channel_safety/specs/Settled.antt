@@ -1,4 +1,4 @@
--- What a final channel ended with, as its digest tells.
+-- What a final channel ended with, as its digest says.
 use Rattle.std.specs.Prelude.{◌≡◌, ℕ, List, ◌++◌, Some}
 use Rattle.channel_values.specs.declared.value.AssetOutcome.{AssetOutcome}
 use Rattle.call_history.specs.declared.standing.Standing.TheVariants.{Final}

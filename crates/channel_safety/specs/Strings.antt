@@ -25,8 +25,8 @@ signed_marks states (mark ∷ rest) = with_mark mark (slice_get states mark.plac
 
 -- the signed states of an op
 abbrev pub signed_in : Op → List Signed
-signed_in (ops.Call (Challenge chain who signature)) = signed_marks chain.states chain.marks
-signed_in (ops.Call (Respond fixed from next)) = next ∷ []
+signed_in (ops.Call (Challenge k)) = signed_marks k.chain.states k.chain.marks
+signed_in (ops.Call (Respond k)) = k.next ∷ []
 signed_in (ops.Call (Refute fixed next)) = next ∷ []
 signed_in (ops.Call (Checkpoint chain)) = signed_marks chain.states chain.marks
 signed_in (ops.Call (Conclude chain)) = signed_marks chain.states chain.marks
@@ -34,8 +34,8 @@ signed_in _ = []
 
 -- the states of an op, signed or not
 abbrev pub states_in : Op → List StateParts
-states_in (ops.Call (Challenge chain who signature)) = chain.states
-states_in (ops.Call (Respond fixed from next)) = from ∷ next.state ∷ []
+states_in (ops.Call (Challenge k)) = k.chain.states
+states_in (ops.Call (Respond k)) = k.from ∷ k.next.state ∷ []
 states_in (ops.Call (Refute fixed next)) = next.state ∷ []
 states_in (ops.Call (Checkpoint chain)) = chain.states
 states_in (ops.Call (Conclude chain)) = chain.states
@@ -43,8 +43,8 @@ states_in _ = []
 
 -- the outcomes that a transfer and a claim give
 abbrev pub given_in : Op → List (List AssetOutcome)
-given_in (ops.Call (Transfer channel outcome asset index)) = outcome ∷ []
-given_in (ops.Call (Claim guarantor promise target outcome asset position)) = promise ∷ outcome ∷ []
+given_in (ops.Call (Transfer k)) = k.outcome ∷ []
+given_in (ops.Call (Claim k)) = k.guarantor_outcome ∷ k.target_outcome ∷ []
 given_in _ = []
 
 -- the outcomes of an op: those, and those of its states

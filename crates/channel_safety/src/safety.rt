@@ -27,7 +27,7 @@ pub fn few_challenges_are_cleared()
     ensures { FewChallengesAreCleared }
 {}
 
-/// Where no digests collide, the digest of an outcome tells what a final channel ended with: it has settled on an
+/// Where no digests collide, the digest of an outcome says what a final channel ended with: it has settled on an
 /// outcome of an entry, and whatever outcome a transfer or a claim gives that has the recorded digest is that one.
 pub fn final_outcomes_are_told()
     ensures { FinalOutcomesAreTold }

@@ -1,4 +1,4 @@
--- What stands past the end of what is kept, what a refused change puts back, and what is kept at a place.
+-- What stands past the end of what is kept, what a refused change writes back, and what is kept at a place.
 use Rattle.std.proofs.Common.{◌≡◌, ℕ, ◌<◌, ◌≤◌, false, List, [], Some, None, length, ap, ◌∙◌, sym, subst}
 use Rattle.std.specs.Prelude.{slice_set, slice_index_or}
 use Rattle.std.specs.List.{slice_get}

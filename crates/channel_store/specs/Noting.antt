@@ -37,7 +37,7 @@ is_newer_at r shown (Some k) = is_newer r k.chain.fixed shown (marked_of k.chain
 abbrev pub is_adopted : Rules → List ℕ → Marked → List Kept → Bool
 is_adopted r channel shown kept = is_newer_at r shown (kept_of channel kept)
 
--- the call did what was wanted, and tells whether the chain is adopted; memory is wanted only for a chain to be adopted
+-- the call did what was wanted, and says whether the chain is adopted; memory is wanted only for a chain to be adopted
 abbrev pub Adopts : Result Bool NoMemory → Bool → List Kept → List Kept → List Kept → Type 0
 Adopts (Ok done) is_wanted wanted old new = (done ≡ is_wanted) × (new ≡ wanted)
 Adopts (Err e) is_wanted wanted old new = (is_wanted ≡ true) × (new ≡ old)

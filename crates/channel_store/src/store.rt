@@ -240,7 +240,7 @@ impl Store {
         }
     }
 
-    /// Adopts a chain that was shown of a channel, and tells whether it did: where the channel is kept, the chain's
+    /// Adopts a chain that was shown of a channel, and says whether it did: where the channel is kept, the chain's
     /// states and marks are supported with the channel's own fixed part, and no chain is held or the held one is older.
     #[tactic(auto, using(crate::proofs::Calls::adopts_nothing, crate::proofs::Calls::changes_nothing, crate::proofs::Calls::keeps, crate::proofs::Calls::adopts, std::proofs::lemmas::Option::slice_get_within))]
     pub fn adopt(&mut self, channel: &Name, mut shown: Chain) -> Result<bool, NoMemory>

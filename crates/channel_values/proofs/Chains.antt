@@ -42,7 +42,7 @@ signed_valid_again whole s rest valid =
     (bind_again _ _ (s.state, after) _ (state_valid_again whole s.state after valid.0)
     (bind_again _ _ (s.signature, rest) _ (sized_valid_again whole 9004 s.signature rest (lit< tt) valid.1.0) refl))
 
--- ---- lists behind their count
+-- ---- lists after their count
 
 counted_takes : {X : Type 0} (one : List X → List ℕ → Result (X × List ℕ) ByteFault) (spell : X → List ℕ) (Good : List X → Type 0) (whole limit : ℕ) → limit < 256 → Good []
     → ((seen : List X) (bytes : List ℕ) (x : X × List ℕ) → Good seen → AreBytes bytes → one seen bytes ≡ Ok x → Takes bytes (spell x.0) x.1 × Good (seen ++ x.0 ∷ []))

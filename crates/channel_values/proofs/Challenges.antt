@@ -1,4 +1,4 @@
--- What a challenge that is signed tells.
+-- What a challenge that is signed says.
 use Rattle.std.proofs.Common.{◌≡◌, ℕ, List, true}
 use Rattle.std.specs.Prelude.{Option, Some, None}
 use Rattle.std.specs.List.{slice_get}

@@ -115,7 +115,7 @@ front_fails format bytes v n (Err e) fits read lt front = refl
 pub fronts_fail : {A : Type 0} {at : ℕ → List ℕ → Result (A × List ℕ) ByteFault} {spell : A → List ℕ} {Valid : A → Type 0} → IsFormat at spell Valid → (bytes : List ℕ) (v : A) (n : ℕ) → AreBytes bytes → all_of at bytes ≡ Ok v → n < length bytes → is_ok (all_of at (take n bytes)) ≡ false
 fronts_fail {A} {at} format bytes v n fits read lt = front_fails format bytes v n (all_of at (take n bytes)) fits read lt refl
 
--- what stands behind a spelling is the fault
+-- what stands after a spelling is the fault
 pub trailing_fails : {A : Type 0} {at : ℕ → List ℕ → Result (A × List ℕ) ByteFault} {spell : A → List ℕ} {Valid : A → Type 0} → IsFormat at spell Valid → (v : A) (b : ℕ) (more : List ℕ) → Valid v → all_of at (spell v ++ b ∷ more) ≡ Err (faults.Trailing (length (spell v)))
 unfolding all_of
 trailing_fails {A} {at} {spell} format v b more valid =

@@ -16,7 +16,7 @@ use Rattle.channel_values.specs.Outcomes.{is_same, total}
 use Rattle.channel_values.specs.Reading.{◌>>=◌, fault_if, byte_at, number_at, front_at, tagged, dest_at, many_at, item_at, listed_at, count_at, allocation_at, guarantee_at, shape_at, asset_at, outcome_at, turn_at, flag_at, sized_at, state_at, people_at, key_at, app_at, duration_at, fixed_at, signed_at, mark_at, next_state_at, states_at, marks_at, chain_at, all_of}
 use Rattle.channel_values.proofs.Format.{IsFormat}
 
--- What is read from some bytes says what is read where more stands behind them: the same value, with more in its rest; a
+-- What is read from some bytes says what is read where more stands after them: the same value, with more in its rest; a
 -- fault is that the bytes end, or there is one in both.
 abbrev pub GoesOn : {A : Type 0} → ℕ → List ℕ → Result (A × List ℕ) ByteFault → Result (A × List ℕ) ByteFault → Type 0
 GoesOn whole more (Ok x) all = all ≡ Ok (x.0, x.1 ++ more)

@@ -1,4 +1,4 @@
--- What a table without a broken line tells.
+-- What a table without a broken line says.
 use Rattle.std.proofs.Common.{◌≡◌, Bool, true, false, not, ◌&&◌, ◌||◌, cond, refl, inl, inr}
 use Rattle.std.specs.Prelude.{Option, Some, None, ◌⊎◌}
 use Rattle.channel_values.specs.Words.{fault_if, ◌⊳◌}

@@ -31,7 +31,7 @@ tagged_takes whole make bytes x fits e =
     let same = ok_is (make a.0.0, a.0.1) x a.2 in
     subst (λ (y : Dest × List ℕ). (name : List ℕ) × IsName name × (y.0 ≡ make name) × Takes bytes name y.1) same (a.0.0, t.1, refl, t.0)
 
--- a destination behind its tag
+-- a destination after its tag
 dest_from_tag : (bytes : List ℕ) (tag : ℕ) (rest : List ℕ) (make : List ℕ → Dest) (x : Dest × List ℕ) → ((name : List ℕ) → dest (make name) ≡ tag ∷ name) → ((name : List ℕ) → IsName name → IsDest (make name))
     → Takes bytes (tag ∷ []) rest → ((name : List ℕ) × IsName name × (x.0 ≡ make name) × Takes rest name x.1) → Takes bytes (dest x.0) x.1 × IsDest x.0
 dest_from_tag bytes tag rest make x spelled valid first named =
@@ -87,7 +87,7 @@ listed_takes whole seen bytes x good fits e =
     } in
     subst (λ (y : Dest × List ℕ). Takes bytes (dest y.0) y.1 × AreDests (seen ++ y.0 ∷ [])) (ok_is a.0 x fresh.1) (t.0, more)
 
--- Values one after the other: what is read is spelled so, and good behind those seen.
+-- Values one after the other: what is read is spelled so, and good after those seen.
 pub many_take : {X : Type 0} (one : List X → List ℕ → Result (X × List ℕ) ByteFault) (spell : X → List ℕ) (Good : List X → Type 0)
     → ((seen : List X) (bytes : List ℕ) (x : X × List ℕ) → Good seen → AreBytes bytes → one seen bytes ≡ Ok x → Takes bytes (spell x.0) x.1 × Good (seen ++ x.0 ∷ []))
     → (n : ℕ) (seen : List X) (bytes : List ℕ) (y : List X × List ℕ) → Good seen → AreBytes bytes → many_at one seen n bytes ≡ Ok y

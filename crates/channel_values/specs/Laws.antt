@@ -5,7 +5,7 @@ use Rattle.channel_values.specs.Digests.{channel_string, person_string, state_st
 use Rattle.channel_values.specs.Messages.{message_of_state, message_of_challenge}
 use Rattle.channel_values.specs.Collisions.{NoneCollide}
 
--- among the strings, a digest tells what it is the digest of
+-- among the strings, a digest says what it is the digest of
 pub record Tells (strings : List (List ℕ)) : Type 0 where
   pub channels : (a b : List ℕ) → Contains strings (channel_string a) → Contains strings (channel_string b)
       → name_of_channel a ≡ name_of_channel b → a ≡ b
@@ -22,7 +22,7 @@ pub record Tells (strings : List (List ℕ)) : Type 0 where
 abbrev pub DigestsTell : Type 0
 DigestsTell = (strings : List (List ℕ)) → NoneCollide strings → Tells strings
 
--- a string that is signed tells what it is signed for, with no premise on digests
+-- a string that is signed says what it is signed for, with no premise on digests
 pub record MessagesTell : Type 0 where
   pub states : (a b : List ℕ) → message_of_state a ≡ message_of_state b → a ≡ b
   pub challenges : (a b : List ℕ) (i j : ℕ) → length a ≡ 32 → length b ≡ 32

@@ -57,7 +57,7 @@ front_at whole n bytes = if nat_lt (length bytes) n then Err (faults.Cut whole) 
 abbrev pub name_at : ℕ → List ℕ → Result (List ℕ × List ℕ) ByteFault
 name_at whole bytes = front_at whole 32 bytes
 
--- a destination, behind its tag
+-- a destination, after its tag
 abbrev pub tagged : ℕ → (List ℕ → Dest) → List ℕ → Result (Dest × List ℕ) ByteFault
 tagged whole make bytes = name_at whole bytes >>= λ name. Ok (make name.0, name.1)
 
@@ -68,7 +68,7 @@ dest_at whole bytes = do
       else (if tag.0 == 2 then tagged whole (λ n. Channel n) tag.1
       else Err (faults.BadTag (whole - length bytes)))
 
--- Count values one after the other, behind those seen. What may stand next depends on them.
+-- Count values one after the other, after those seen. What may stand next depends on them.
 unfoldable pub many_at : {X : Type 0}
     → (List X → List ℕ → Result (X × List ℕ) ByteFault) → List X → ℕ → List ℕ → Result (List X × List ℕ) ByteFault
 many_at one seen zero bytes = Ok (seen, bytes)

@@ -28,7 +28,7 @@ abbrev pub FrontsCut : {A : Type 0} → (List ℕ → Result A ByteFault) → (A
 FrontsCut {A} read spell Is =
     (v : A) (n : ℕ) → Is v → n < length (spell v) → read (take n (spell v)) ≡ Err (faults.Cut n)
 
--- what stands behind a spelling is the fault, at its place
+-- what stands after a spelling is the fault, at its place
 abbrev pub TrailingFails : {A : Type 0} → (List ℕ → Result A ByteFault) → (A → List ℕ) → (A → Type 0) → Type 0
 TrailingFails {A} read spell Is =
     (v : A) (b : ℕ) (more : List ℕ) → Is v → read (spell v ++ b ∷ more) ≡ Err (faults.Trailing (length (spell v)))

@@ -54,14 +54,14 @@ fixed f =
     count (length f.keys) ∷ (flat_map (λ key. key) f.keys
     ++ (to_be_bytes w64 f.nonce ++ (f.app ∷ to_be_bytes w32 f.duration)))
 
--- a state, and a signature behind its length
+-- a state, and a signature after its length
 unfoldable pub signed : Signed → List ℕ
 signed s = state s.state ++ sized s.signature
 
 abbrev pub mark : Mark → List ℕ
 mark m = m.place ∷ sized m.signature
 
--- a fixed part, the states behind their count, and the marks behind theirs
+-- a fixed part, the states after their count, and the marks after theirs
 unfoldable pub chain : Chain → List ℕ
 chain c =
     fixed c.fixed ++ (count (length c.states) ∷ (flat_map state c.states

@@ -115,7 +115,7 @@ pub fn copy_marks(marks: &Listed<Mark>) -> Result<Listed<Mark>, NoMemory>
     Ok(Listed::make(copies))
 }
 
-/// A signature behind its length, and the bytes after it.
+/// A signature after its length, and the bytes after it.
 pub fn take_signature(
     alloc: Global,
     whole: usize,

@@ -17,7 +17,7 @@ pub fn place_of(whole: usize, bytes: &[u8]) -> usize
     whole.saturating_sub(bytes.len())
 }
 
-/// The value, where nothing stands behind it, and else where something does.
+/// The value, where nothing stands after it, and else where something does.
 pub fn ended<T: Drop>(whole: usize, value: T, rest: &[u8]) -> Result<T, ByteFault>
     ensures tells { Tells (λ x. x) result (ended whole (value, rest.now)) }
     ensures gives { Gives (λ x. x) result (ended whole (value, rest.now)) }

@@ -1,4 +1,4 @@
-//! Lists behind their counts, from any reader of one value.
+//! Lists after their counts, from any reader of one value.
 
 ghost use Rattle.std.specs.Prelude.{◌≡◌, []};
 ghost use Rattle.channel_values.specs.Reading.{Gives, many_at};
@@ -49,7 +49,7 @@ pub fn take_many<T: Take>(
     Ok((values, rest))
 }
 
-/// The list behind a count of one byte, which is at most the limit, and the bytes after the list.
+/// The list after a count of one byte, which is at most the limit, and the bytes after the list.
 pub fn take_short_list<T: Take>(
     alloc: Global,
     whole: usize,
@@ -63,7 +63,7 @@ pub fn take_short_list<T: Take>(
     Ok((Listed::make(values), rest))
 }
 
-/// The list behind a count of four bytes, and the bytes after the list.
+/// The list after a count of four bytes, and the bytes after the list.
 pub fn take_long_list<T: Take>(
     alloc: Global,
     whole: usize,

@@ -43,7 +43,7 @@ one-among (x ∷ fs) apart f g (inl e) (inr j) same = absurd (not-named x fs g a
 one-among (x ∷ fs) apart f g (inr i) (inl k) same = absurd (not-named x fs f apart.0 i (sym (ap (λ (y : FixedParts). real.named y) k) ∙ sym same))
 one-among (x ∷ fs) apart f g (inr i) (inr j) same = one-among fs apart.1 f g i j same
 
--- a name tells a channel
+-- a name determines a channel
 pub one-named : (front : List Line) (f g : FixedParts) → IsOwn real front f → IsOwn real front g → real.named f ≡ real.named g → f ≡ g
 one-named front f g own other same = one-among (channels front) own.apart f g own.there other.there same
 

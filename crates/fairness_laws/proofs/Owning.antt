@@ -5,6 +5,7 @@ use Rattle.channel_values.specs.Parts.{StateParts}
 use Rattle.channel_values.specs.declared.chain.Chain.{Chain}
 use Rattle.channel_values.specs.Messages.{message_of_state, message_of_challenge}
 use Rattle.channel_values.specs.Rules.{newest}
+use Rattle.call_history.specs.Calls.{make_challenge}
 use Rattle.call_history.specs.Reading.{message_of}
 use Rattle.call_history.specs.declared.call.Call.{Call}
 use Rattle.call_history.specs.declared.call.Call.TheVariants.{Challenge, Respond, Refute, Deposit, Checkpoint, Conclude, Transfer, Claim}
@@ -47,14 +48,14 @@ command-more n seen step refusal command calls =
 
 -- a call that is no challenge is its own
 plain-own : (made : List MadeChallenge) (seen : ℕ) (call : Call) → IsPlain call → IsOwnCall made seen call
-plain-own made seen (Challenge chain who signature) plain = absurd plain
-plain-own made seen (Deposit channel asset expected amount) plain = tt
-plain-own made seen (Respond f from next) plain = tt
+plain-own made seen (Challenge k) plain = absurd plain
+plain-own made seen (Deposit d) plain = tt
+plain-own made seen (Respond k) plain = tt
 plain-own made seen (Refute f next) plain = tt
 plain-own made seen (Checkpoint chain) plain = tt
 plain-own made seen (Conclude chain) plain = tt
-plain-own made seen (Transfer channel o asset index) plain = tt
-plain-own made seen (Claim guarantor promise target o asset position) plain = tt
+plain-own made seen (Transfer k) plain = tt
+plain-own made seen (Claim k) plain = tt
 
 plain-in : (calls : List Call) → ArePlain calls → (call : Call) → In call calls → IsPlain call
 plain-in [] all call i = absurd i
@@ -148,7 +149,7 @@ module _ (s : Signing) where
       there : In it (just_made (told_of (challenged real s channel c n)))
       there = subst (λ (events : List Told). In it (just_made events)) (sym (told-more channel c n)) (inl refl)
 
-      go : (b : Bool) → In call (cond b (Challenge c.chain c.who signature ∷ []) [])
+      go : (b : Bool) → In call (cond b (make_challenge c.chain c.who signature ∷ []) [])
           → IsOwnCall (just_made (told_of (challenged_all real s channels (cond b (challenged real s channel c n) n)))) n.mind.view.count call
       go true (inl e) =
           let from = from-held n.mind channel c is in

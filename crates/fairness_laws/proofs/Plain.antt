@@ -9,9 +9,10 @@ use Rattle.channel_values.specs.declared.value.Dest.TheVariants.{Person, Channel
 use Rattle.channel_values.specs.declared.value.Item.{Item}
 use Rattle.channel_values.specs.Amounts.{has}
 use Rattle.channel_values.specs.Places.{place_of}
+use Rattle.call_history.specs.Calls.{make_transfer, make_claim}
 use Rattle.call_history.specs.Flows.{is_among}
 use Rattle.call_history.specs.declared.call.Call.{Call}
-use Rattle.call_history.specs.declared.call.Call.TheVariants.{Challenge, Transfer, Claim}
+use Rattle.call_history.specs.declared.call.Call.TheVariants.{Challenge}
 use Rattle.call_history.specs.declared.standing.Standing.{Standing}
 use Rattle.call_history.specs.declared.standing.Standing.TheVariants.{Open, Challenged, Final}
 use Rattle.funding_plans.specs.Known.{FactsOf}
@@ -31,7 +32,7 @@ use Rattle.stage_tables.specs.Stages.{calls_in, stages}
 use Rattle.funding_plans.specs.Rows.{Row, called_in}
 
 abbrev pub IsPlain : Call → Type 0
-IsPlain (Challenge chain who signature) = ⊥
+IsPlain (Challenge k) = ⊥
 IsPlain _ = Unit {0}
 
 abbrev pub ArePlain : List Call → Type 0
@@ -72,13 +73,13 @@ if-some false call p = tt
 module _ (ended : Ended) where
   transfer-if : (channel : List ℕ) (o : Option (List AssetOutcome)) (to : Dest) (asset : ℕ) → ArePlain (transfer_if channel o to asset)
   transfer-if channel None to asset = tt
-  transfer-if channel (Some o) to asset = if-so (has (items_in asset o) to) (Transfer channel o asset (place_of (items_in asset o) to) ∷ []) (tt, tt)
+  transfer-if channel (Some o) to asset = if-so (has (items_in asset o) to) (make_transfer channel o asset (place_of (items_in asset o) to) ∷ []) (tt, tt)
 
   claim-if : (guarantor : List ℕ) (p : Option (List AssetOutcome)) (target : List ℕ) (o : Option (List AssetOutcome)) (to : Dest) (asset : ℕ) → ArePlain (claim_if guarantor p target o to asset)
   claim-if guarantor None target o to asset = tt
   claim-if guarantor (Some p) target None to asset = tt
   claim-if guarantor (Some p) target (Some o) to asset =
-      if-so (is_listed (list_in asset p) to && has (items_in asset o) to) (Claim guarantor p target o asset (position_of (list_in asset p) to) ∷ []) (tt, tt)
+      if-so (is_listed (list_in asset p) to && has (items_in asset o) to) (make_claim guarantor p target o asset (position_of (list_in asset p) to) ∷ []) (tt, tt)
 
   transfer : (channel : List ℕ) (to : Dest) (asset : ℕ) → ArePlain (transfer_to ended channel to asset)
   transfer channel to asset = transfer-if channel (ended channel) to asset

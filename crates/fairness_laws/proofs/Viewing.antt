@@ -1,4 +1,4 @@
--- A view that stands for a whole history tells the shares that a checker wants.
+-- A view that stands for a whole history gives the shares that a checker wants.
 use Rattle.std.proofs.Common.{◌≡◌, ℕ, List, [], ◌∷◌, ◌++◌, map, refl, ◌∙◌, ap}
 use Rattle.std.specs.Prelude.{Option}
 use Rattle.channel_values.specs.declared.value.AssetOutcome.{AssetOutcome}

@@ -1,4 +1,4 @@
--- Bytes that end behind the pieces of a spelling are that spelling.
+-- Bytes that end after the pieces of a spelling are that spelling.
 use Rattle.std.proofs.Common.{◌≡◌, refl, ℕ, Bool, true, false, List, [], ◌∷◌, ◌++◌, Option, Some, None, ◌&&◌, ◌∙◌, ap, sym, append_assoc, append-nil}
 use Rattle.std.specs.Prelude.{◌==◌, if◌then◌else◌, length}
 use Rattle.std.specs.List.{flat_map}
@@ -20,7 +20,7 @@ abbrev rest_is : Option (List ℕ) → List ℕ → Bool
 rest_is None tail = false
 rest_is (Some r) tail = bytes_eq r tail
 
--- what is left behind a piece is the tail exactly where the bytes are the piece and the tail
+-- what is left after a piece is the tail exactly where the bytes are the piece and the tail
 abbrev Spells : (List ℕ → Option (List ℕ)) → List ℕ → Type 0
 Spells f piece = (bytes tail : List ℕ) → rest_is (f bytes) tail ≡ bytes_eq bytes (piece ++ tail)
 
@@ -75,7 +75,7 @@ ends (Some (b ∷ bs)) = refl
 outcome_spells : (os : List AssetOutcome) → Spells (behind_outcome os) (count (length os) ∷ flat_map asset_outcome os)
 outcome_spells os = both_spell (behind (count (length os) ∷ [])) (behind_assets os) (count (length os) ∷ []) (flat_map asset_outcome os) (piece_spells (count (length os) ∷ [])) (assets_spell os)
 
--- nothing is left behind an outcome exactly where the bytes are its spelling
+-- nothing is left after an outcome exactly where the bytes are its spelling
 pub outcome_ends : (os : List AssetOutcome) (bytes : List ℕ) → is_end (behind_outcome os bytes) ≡ bytes_eq bytes (outcome os)
 unfolding outcome
 outcome_ends os bytes =

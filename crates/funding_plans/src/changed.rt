@@ -168,7 +168,7 @@ impl Child {
         }
     }
 
-    /// Behind an asset that has the changed items, where it is the child's.
+    /// After an asset that has the changed items, where it is the child's.
     fn behind_changed<'b>(
         &self,
         is_up: bool,

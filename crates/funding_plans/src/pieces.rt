@@ -10,7 +10,7 @@ ghost use Rattle.funding_plans.specs.Behind as spells;
 
 use channel_values::{AssetOutcome, Dest, Item, Shape};
 
-/// What is left behind a piece, where the bytes begin with it.
+/// What is left after a piece, where the bytes begin with it.
 pub(crate) fn behind<'a>(bytes: &'a [u8], piece: &[u8]) -> Option<&'a [u8]>
     ensures { option_copied result ≡ spells.behind piece.now bytes.now }
 {

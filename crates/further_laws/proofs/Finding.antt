@@ -80,7 +80,7 @@ any_push test (y ∷ xs) x e h = by (test y) e (λ more. any_push test xs x more
     by true t later = absurd (cc)
     by false t later = later t
 
--- no element passes the test, and neither does the one behind them
+-- no element passes the test, and neither does the one after them
 pub none_more : {X : Type 0} (test : X → Bool) (xs : List X) (x : X) → list_any test (xs ++ x ∷ []) ≡ false → (list_any test xs ≡ false) × (test x ≡ false)
 none_more test [] x e = (refl, head_false (test x) false e)
 none_more test (y ∷ xs) x e =
@@ -104,7 +104,7 @@ any_before test (y ∷ xs) x e h = by (test y) e (λ more. any_before test xs x 
     by true t later = refl
     by false t later = later t
 
--- what is found stays found behind one more
+-- what is found stays found after one more
 pub find_push : {X : Type 0} (test : X → Bool) (xs : List X) (x : X) → IsSome (find test xs) → IsSome (find test (xs ++ x ∷ []))
 find_push test [] x h = absurd (cc)
 find_push test (y ∷ xs) x h = by (test y) h (λ more. find_push test xs x more)

@@ -30,7 +30,7 @@ use Rattle.channel_values.specs.Spelling.{fixed, outcome, state}
 use Rattle.channel_values.specs.Digests.{digest_of_state}
 use Rattle.channel_values.specs.Messages.{message_of_state, message_of_challenge}
 use Rattle.call_history.specs.declared.call.Call.{Call}
-use Rattle.call_history.specs.declared.call.Call.TheVariants as calls
+use Rattle.call_history.specs.Calls.{make_challenge}
 use Rattle.network.specs.Ways.{Ways}
 use Rattle.network.specs.Worlds.{journal}
 use Rattle.script_reader.specs.Digests.{fresh, key_of, person_name}
@@ -129,7 +129,7 @@ first_known : (a states : Bool) → ((a && true) && (states && true)) ≡ true �
 first_known true states e = refl
 first_known false states e = absurd (cc)
 
--- behind a list of names
+-- after a list of names
 behind_one : (who a : Bool) → (who && ((a && true) && true)) ≡ true → a ≡ true
 behind_one true a e = one_known a e
 behind_one false a e = absurd (cc)
@@ -503,7 +503,7 @@ step_goes c n before (steps.Challenge keys) m k st =
     goes (reader.after c s) (before ++ s ∷ []) (fixed_by n.channels keys.channel) _ (known_channel c n before m keys.channel a.0) (λ f is.
     goes (reader.after c s) (before ++ s ∷ []) (key_by n.people keys.by) _ (known_hand c n before m keys.by a.1) (λ key has.
     challenge_goes c n before s keys.by f (listed n.states keys.chain) (position_of f.keys key)
-    (λ signed. calls.Challenge (chain_of f (listed n.states keys.chain)) (position_of f.keys key) signed.signature) m a.1 (second _ (context.has_index c keys.by) k.fit))))
+    (λ signed. make_challenge (chain_of f (listed n.states keys.chain)) (position_of f.keys key) signed.signature) m a.1 (second _ (context.has_index c keys.by) k.fit))))
 step_goes c n before (steps.Respond keys) m k st =
     let s = steps.Respond keys in
     let a = three_known (context.is_channel c keys.channel) (context.is_state c keys.from) (context.is_state c keys.state) (named_known c s k) in

@@ -19,7 +19,8 @@ use Rattle.call_history.specs.History.{Legal, reply_to}
 use Rattle.call_history.specs.Reading.{message_at, message_of}
 use Rattle.call_history.proofs.Names.{bytes_eq_self}
 use Rattle.call_history.specs.Spelling.{Message, message}
-use Rattle.call_history.specs.declared.call.Call.TheVariants.{Challenge, Checkpoint}
+use Rattle.call_history.specs.Calls.{make_challenge}
+use Rattle.call_history.specs.declared.call.Call.TheVariants.{Checkpoint}
 use Rattle.call_history.specs.declared.call.Op.TheVariants as ops
 use Rattle.call_history.specs.declared.entry.Entry.{Entry}
 use Rattle.call_history.specs.declared.event.Deed.{Deed}
@@ -98,7 +99,7 @@ abbrev challenged : Chain
 challenged = chain (at_turn 0 ∷ at_turn 1 ∷ []) (mark 0 by_a ∷ mark 1 by_b ∷ [])
 
 abbrev pub challenge : Entry
-challenge = record { number = 1; by = 2; op = ops.Call (Challenge challenged 1 by_b); reply = Until 10 }
+challenge = record { number = 1; by = 2; op = ops.Call (make_challenge challenged 1 by_b); reply = Until 10 }
 
 abbrev pub history : List Entry
 history = challenge ∷ []

@@ -24,7 +24,8 @@ use Rattle.channel_safety.specs.Hashed.{hashed}
 use Rattle.call_history.specs.Marked.{chain_of}
 use Rattle.call_history.specs.Rows.{fixed_of}
 use Rattle.call_history.specs.declared.call.Call.{Call}
-use Rattle.call_history.specs.declared.call.Call.TheVariants.{Deposit, Checkpoint, Transfer}
+use Rattle.call_history.specs.Calls.{make_deposit, make_transfer}
+use Rattle.call_history.specs.declared.call.Call.TheVariants.{Checkpoint}
 use Rattle.call_history.specs.declared.entry.Entry.{Entry}
 use Rattle.call_history.specs.declared.event.Deed.TheVariants as deeds
 use Rattle.call_history.specs.declared.refusal.Reply.{Reply}
@@ -78,10 +79,10 @@ record Known (e : Entry) : Type 0 where
   states : (s : StateParts) → In s (states_in e.op) → IsThere s
   outcomes : (o : List AssetOutcome) → In o (outcomes_in e.op) → IsEnd o
 
-deposits_nothing : (number expected amount : ℕ) (reply : Reply) → Known (entry number (Deposit name 0 expected amount) reply)
+deposits_nothing : (number expected amount : ℕ) (reply : Reply) → Known (entry number (make_deposit name 0 expected amount) reply)
 deposits_nothing number expected amount reply = record { fixed = λ f e. absurd (none-eq f e); states = λ s i. absurd i; outcomes = λ o i. absurd i }
 
-transfers_it : (number index : ℕ) (reply : Reply) → Known (entry number (Transfer name (pays 4 4) 0 index) reply)
+transfers_it : (number index : ℕ) (reply : Reply) → Known (entry number (make_transfer name (pays 4 4) 0 index) reply)
 transfers_it number index reply = record { fixed = λ f e. absurd (none-eq f e); states = λ s i. absurd i; outcomes = one }
   where
     one : (o : List AssetOutcome) → In o (pays 4 4 ∷ []) → IsEnd o
@@ -186,7 +187,7 @@ state-there c s (in_line x i is) = let k = (known-line x i).signed (c, s) is in 
 
 -- ---- no two collide
 
--- a digest tells the turn
+-- a digest determines the turn
 abbrev told_by : List ℕ → ℕ
 told_by digest = position_or_len (λ d. bytes_eq d digest) digests
 
@@ -194,7 +195,7 @@ tells : (turn : ℕ) → In turn turns → told_by (rules.digest name (at_turn t
 unfolding fixed state outcome
 tells turn i = all-in (λ (n : ℕ). told_by (rules.digest name (at_turn n)) ≡ n) turn turns (refl, (refl, (refl, (refl, (refl, (refl, (refl, tt))))))) i
 
--- and that of an outcome tells it
+-- and that of an outcome determines it
 abbrev end_by : List ℕ → List AssetOutcome
 end_by digest = cond (bytes_eq digest_5_3 digest) (pays 5 3) (cond (bytes_eq digest_3_5 digest) (pays 3 5) (pays 4 4))
 

@@ -16,7 +16,8 @@ use Rattle.call_history.specs.Marked.{Marked, chain_of}
 use Rattle.call_history.specs.Reading.{message_at, message_of}
 use Rattle.call_history.specs.Spelling.{message}
 use Rattle.call_history.specs.declared.call.Call.{Call}
-use Rattle.call_history.specs.declared.call.Call.TheVariants.{Deposit, Challenge, Checkpoint, Transfer}
+use Rattle.call_history.specs.Calls.{make_deposit, make_challenge, make_transfer}
+use Rattle.call_history.specs.declared.call.Call.TheVariants.{Checkpoint}
 use Rattle.call_history.specs.declared.call.Op.TheVariants as ops
 use Rattle.call_history.specs.declared.entry.Entry.{Entry}
 use Rattle.call_history.specs.declared.event.Deed.{Deed}
@@ -55,17 +56,17 @@ abbrev pub entry : ℕ → Call → Reply → Entry
 entry number call reply = record { number = number; by = 2; op = ops.Call call; reply = reply }
 
 abbrev pub deposits : List Entry
-deposits = entry 2 (Deposit name 0 5 3) (Held 8) ∷ entry 1 (Deposit name 0 0 5) (Held 5) ∷ []
+deposits = entry 2 (make_deposit name 0 5 3) (Held 8) ∷ entry 1 (make_deposit name 0 0 5) (Held 5) ∷ []
 
 -- B challenges with the state by which A paid
 abbrev pub attack : Entry
-attack = entry 3 (Challenge (chain_of pair (by_a 4)) 1 others.signature_4_1) (Until 10)
+attack = entry 3 (make_challenge (chain_of pair (by_a 4)) 1 others.signature_4_1) (Until 10)
 
 abbrev pub answer : Entry
 answer = entry 4 (Checkpoint (chain_of pair (by_a 6))) (Opened 6)
 
 abbrev pub challenge : Entry
-challenge = entry 5 (Challenge (chain_of pair (by_a 6)) 0 own.signature_6_0) (Until 10)
+challenge = entry 5 (make_challenge (chain_of pair (by_a 6)) 0 own.signature_6_0) (Until 10)
 
 abbrev pub time : Entry
 time = record { number = 6; by = 0; op = ops.Time 10; reply = Now 10 }
@@ -74,7 +75,7 @@ abbrev pub ending : List Entry
 ending = time ∷ challenge ∷ answer ∷ attack ∷ []
 
 abbrev pub transfers : List Entry
-transfers = entry 8 (Transfer name (pays 4 4) 0 1) (Paid 4) ∷ entry 7 (Transfer name (pays 4 4) 0 0) (Paid 4) ∷ []
+transfers = entry 8 (make_transfer name (pays 4 4) 0 1) (Paid 4) ∷ entry 7 (make_transfer name (pays 4 4) 0 0) (Paid 4) ∷ []
 
 abbrev pub history : List Entry
 history = transfers ++ (ending ++ deposits)

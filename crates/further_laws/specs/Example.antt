@@ -8,7 +8,7 @@ use Rattle.channel_values.specs.declared.value.Dest.TheVariants.{Person, Channel
 use Rattle.channel_values.specs.declared.value.Item.{Item}
 use Rattle.channel_values.specs.declared.value.Shape.TheVariants.{Allocation, Guarantee}
 use Rattle.call_history.specs.declared.call.Call.{Call}
-use Rattle.call_history.specs.declared.call.Call.TheVariants.{Transfer, Claim}
+use Rattle.call_history.specs.Calls.{make_transfer, make_claim}
 use Rattle.funding_plans.specs.declared.plan.Part.{Part}
 use Rattle.funding_plans.specs.declared.plan.Part.TheVariants.{Root, End, Middle}
 use Rattle.funding_plans.specs.declared.plan.Virtual.{Virtual}
@@ -184,23 +184,24 @@ known_to_b = of_ledger_b ∷ of_far_guarantor_b ∷ of_far_joint ∷ of_far_chan
 -- the payment channel; that A
 abbrev pub calls_of_a : List Call
 calls_of_a =
-    Transfer ledger_a of_ledger_a.outcome 0 2 ∷ Transfer ledger_a of_ledger_a.outcome 0 0
-    ∷ Claim near_guarantor_a of_near_guarantor_a.outcome near_joint of_near_joint.outcome 0 0
-    ∷ Transfer near_channel of_near_channel.outcome 0 2 ∷ Transfer near_channel of_near_channel.outcome 0 0
-    ∷ Claim far_guarantor_a of_far_guarantor_a.outcome far_joint of_far_joint.outcome 0 0
-    ∷ Transfer far_channel of_far_channel.outcome 0 0 ∷ []
+    make_transfer ledger_a of_ledger_a.outcome 0 2 ∷ make_transfer ledger_a of_ledger_a.outcome 0 0
+    ∷ make_claim near_guarantor_a of_near_guarantor_a.outcome near_joint of_near_joint.outcome 0 0
+    ∷ make_transfer near_channel of_near_channel.outcome 0 2 ∷ make_transfer near_channel of_near_channel.outcome 0 0
+    ∷ make_claim far_guarantor_a of_far_guarantor_a.outcome far_joint of_far_joint.outcome 0 0
+    ∷ make_transfer far_channel of_far_channel.outcome 0 0 ∷ []
 
 -- the second's: as an end of the virtual ledger, then as the intermediary of the payment channel
 abbrev pub calls_of_second : List Call
 calls_of_second =
-    Transfer ledger_between of_ledger_between.outcome 0 2 ∷ Transfer ledger_between of_ledger_between.outcome 0 1
-    ∷ Transfer ledger_b of_ledger_b.outcome 0 2 ∷ Transfer ledger_b of_ledger_b.outcome 0 0
-    ∷ Claim near_guarantor_b of_near_guarantor_b.outcome near_joint of_near_joint.outcome 0 0
-    ∷ Transfer near_channel of_near_channel.outcome 0 2 ∷ Transfer near_channel of_near_channel.outcome 0 1
-    ∷ Claim far_guarantor_a of_far_guarantor_a.outcome far_joint of_far_joint.outcome 0 0
-    ∷ Claim far_guarantor_b of_far_guarantor_b.outcome far_joint of_far_joint.outcome 0 0
-    ∷ Claim far_guarantor_a of_far_guarantor_a.outcome far_joint of_far_joint.outcome 0 2
-    ∷ Claim far_guarantor_b of_far_guarantor_b.outcome far_joint of_far_joint.outcome 0 2 ∷ []
+    make_transfer ledger_between of_ledger_between.outcome 0 2
+    ∷ make_transfer ledger_between of_ledger_between.outcome 0 1
+    ∷ make_transfer ledger_b of_ledger_b.outcome 0 2 ∷ make_transfer ledger_b of_ledger_b.outcome 0 0
+    ∷ make_claim near_guarantor_b of_near_guarantor_b.outcome near_joint of_near_joint.outcome 0 0
+    ∷ make_transfer near_channel of_near_channel.outcome 0 2 ∷ make_transfer near_channel of_near_channel.outcome 0 1
+    ∷ make_claim far_guarantor_a of_far_guarantor_a.outcome far_joint of_far_joint.outcome 0 0
+    ∷ make_claim far_guarantor_b of_far_guarantor_b.outcome far_joint of_far_joint.outcome 0 0
+    ∷ make_claim far_guarantor_a of_far_guarantor_a.outcome far_joint of_far_joint.outcome 0 2
+    ∷ make_claim far_guarantor_b of_far_guarantor_b.outcome far_joint of_far_joint.outcome 0 2 ∷ []
 
 -- ---- what holds
 

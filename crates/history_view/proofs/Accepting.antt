@@ -1,4 +1,5 @@
--- What an accepted turning call tells of the row that it turns and of its chain, and how a channel stands from entry to entry.
+-- What an accepted turning call says of the row that it turns and of its chain, and how a channel stands from entry to
+-- entry.
 use Rattle.std.proofs.Common.{◌≡◌, ℕ, suc, ◌+◌, ◌-◌, ◌^◌, ◌<◌, ◌≤◌, Bool, true, false, cond, not, ◌&&◌, ◌||◌, List, [], ◌∷◌, length, Some, None, Ok, Err, refl, ap, subst, arith}
 use Rattle.std.proofs.lemmas.Bool.Decides.{nat_tests}
 use Rattle.std.specs.Prelude.{nat_lt, nat_le, ◌==◌, Option, Result}
@@ -22,6 +23,8 @@ use Rattle.call_history.specs.Rows.{is_stale, fixed_of, turned, after_challenge,
 use Rattle.call_history.specs.Replies as replies
 use Rattle.call_history.specs.History.{is_accepted, is_named, time_set, or_before, now_of, turning, row, mode, call_reply, reply_to, Legal}
 use Rattle.call_history.specs.declared.call.Call.TheVariants.{Challenge, Respond, Refute, Checkpoint, Conclude}
+use Rattle.call_history.specs.declared.call.ChallengeCall.{ChallengeCall}
+use Rattle.call_history.specs.declared.call.RespondCall.{RespondCall}
 use Rattle.call_history.specs.declared.call.Op.{Op}
 use Rattle.call_history.specs.declared.call.Op.TheVariants as ops
 use Rattle.call_history.specs.declared.entry.Entry.{Entry}
@@ -159,22 +162,22 @@ pub record Answers (r : Rules) (channel : List ℕ) (h : List Entry) (next : Sig
   pub turn : next.state.turn ≡ (row r channel h).turn + 1
 
 abbrev pub Tells : Rules → List ℕ → List Entry → Op → Type 0
-Tells r channel h (ops.Call (Challenge chain who signature)) = ShowsNewer r channel h chain
-Tells r channel h (ops.Call (Respond fixed from next)) = Answers r channel h next
+Tells r channel h (ops.Call (Challenge k)) = ShowsNewer r channel h k.chain
+Tells r channel h (ops.Call (Respond k)) = Answers r channel h k.next
 Tells r channel h (ops.Call (Refute fixed next)) = is_challenged (mode r channel h) ≡ true
 Tells r channel h (ops.Call (Checkpoint chain)) = ShowsNewer r channel h chain
 Tells r channel h (ops.Call (Conclude chain)) = Shows r channel h chain
 Tells r channel h _ = Unit {0}
 
-challenge_tells : (r : Rules) (h : List Entry) (chain : Chain) (who : ℕ) (signature : List ℕ) → is_accepted (call_reply r h (Challenge chain who signature)) ≡ true
-    → ShowsNewer r (r.named chain.fixed) h chain
-challenge_tells r h chain who signature accepted =
+challenge_tells : (r : Rules) (h : List Entry) (k : ChallengeCall) → is_accepted (call_reply r h (Challenge k)) ≡ true → ShowsNewer r (r.named k.chain.fixed) h k.chain
+challenge_tells r h k accepted =
+    let chain : Chain = k.chain in
     let old : Row = row r (r.named chain.fixed) h in
-    let done : Result Row Refusal = Ok (after_challenge r (now_of h) chain who) in
-    let fourth : Result Row Refusal = refuse_if (not (signs_challenge r chain.fixed chain.states who signature)) BadChallenger done in
+    let done : Result Row Refusal = Ok (after_challenge r (now_of h) chain k.challenger) in
+    let fourth : Result Row Refusal = refuse_if (not (signs_challenge r chain.fixed chain.states k.challenger k.signature)) BadChallenger done in
     let third : Result Row Refusal = refuse_if (is_stale (mode r (r.named chain.fixed) h) old.turn (top_turn chain.states)) (Stale old.turn) fourth in
     let second : Result Row Refusal = refuse_fault (result_err (support_of r chain (verified_marks r chain))) NotSupported third in
-    let v = told_ok (λ (new : Row). Until (now_of h + chain.fixed.duration)) (replies.challenge r old (now_of h) chain who signature) accepted in
+    let v = told_ok (λ (new : Row). Until (now_of h + chain.fixed.duration)) (replies.challenge r old (now_of h) chain k.challenger k.signature) accepted in
     let a = passes (is_final (mode r (r.named chain.fixed) h)) IsFinal second v.0 v.1 in
     let b = passes_fault (result_err (support_of r chain (verified_marks r chain))) NotSupported third v.0 a.1 in
     let c = passes (is_stale (mode r (r.named chain.fixed) h) old.turn (top_turn chain.states)) (Stale old.turn) fourth v.0 b.1 in
@@ -209,17 +212,18 @@ conclude_tells r h chain accepted =
     let b = passes_fault (result_err (support_of r chain (verified_marks r chain))) NotSupported third v.0 a.1 in
     record { still = a.0; some = has_state r chain.fixed chain.states chain.marks (verified_marks r chain) b.0; few = few_states r chain.fixed chain.states chain.marks (verified_marks r chain) b.0 }
 
-respond_tells : (r : Rules) (h : List Entry) (fixed : FixedParts) (from : StateParts) (next : Signed) → is_accepted (call_reply r h (Respond fixed from next)) ≡ true
-    → Answers r (r.named fixed) h next
-respond_tells r h fixed from next accepted =
+respond_tells : (r : Rules) (h : List Entry) (k : RespondCall) → is_accepted (call_reply r h (Respond k)) ≡ true → Answers r (r.named k.fixed) h k.next
+respond_tells r h k accepted =
+    let fixed : FixedParts = k.fixed in
+    let next : Signed = k.next in
     let old : Row = row r (r.named fixed) h in
     let done : Result Row Refusal = Ok (after_turn next.state.turn old) in
-    let fourth : Result Row Refusal = refuse_if (not (is_signed_well r fixed next)) BadSignature (refuse_fault (r.step fixed from next.state) BadStep done) in
+    let fourth : Result Row Refusal = refuse_if (not (is_signed_well r fixed next)) BadSignature (refuse_fault (r.step fixed k.from next.state) BadStep done) in
     let third : Result Row Refusal = refuse_if (not (next.state.turn == old.turn + 1)) (WrongTurn (old.turn + 1)) fourth in
-    let second : Result Row Refusal = refuse_if (not (bytes_eq (r.digest (r.named fixed) from) old.state_digest)) WrongState third in
-    let v = told_ok (λ (new : Row). Opened new.turn) (replies.respond r old (now_of h) fixed from next) accepted in
+    let second : Result Row Refusal = refuse_if (not (bytes_eq (r.digest (r.named fixed) k.from) old.state_digest)) WrongState third in
+    let v = told_ok (λ (new : Row). Opened new.turn) (replies.respond r old (now_of h) fixed k.from next) accepted in
     let a = passes (not (is_challenged (mode r (r.named fixed) h))) NoChallenge second v.0 v.1 in
-    let b = passes (not (bytes_eq (r.digest (r.named fixed) from) old.state_digest)) WrongState third v.0 a.1 in
+    let b = passes (not (bytes_eq (r.digest (r.named fixed) k.from) old.state_digest)) WrongState third v.0 a.1 in
     let c = passes (not (next.state.turn == old.turn + 1)) (WrongTurn (old.turn + 1)) fourth v.0 b.1 in
     record {
       challenged = not_false (is_challenged (mode r (r.named fixed) h)) a.0;
@@ -239,10 +243,10 @@ refute_tells r h fixed next accepted =
 -- an accepted turning call of a channel
 tells : (r : Rules) (channel : List ℕ) (h : List Entry) (op : Op) → is_named r channel (fixed_of op) ≡ true → is_accepted (reply_to r h op) ≡ true → Tells r channel h op
 unfolding reply_to
-tells r channel h (ops.Call (Challenge chain who signature)) named accepted =
-    subst (λ (name : List ℕ). ShowsNewer r name h chain) (same_bytes (r.named chain.fixed) channel named) (challenge_tells r h chain who signature accepted)
-tells r channel h (ops.Call (Respond fixed from next)) named accepted =
-    subst (λ (name : List ℕ). Answers r name h next) (same_bytes (r.named fixed) channel named) (respond_tells r h fixed from next accepted)
+tells r channel h (ops.Call (Challenge k)) named accepted =
+    subst (λ (name : List ℕ). ShowsNewer r name h k.chain) (same_bytes (r.named k.chain.fixed) channel named) (challenge_tells r h k accepted)
+tells r channel h (ops.Call (Respond k)) named accepted =
+    subst (λ (name : List ℕ). Answers r name h k.next) (same_bytes (r.named k.fixed) channel named) (respond_tells r h k accepted)
 tells r channel h (ops.Call (Refute fixed next)) named accepted =
     subst (λ (name : List ℕ). is_challenged (mode r name h) ≡ true) (same_bytes (r.named fixed) channel named) (refute_tells r h fixed next accepted)
 tells r channel h (ops.Call (Checkpoint chain)) named accepted =
@@ -253,8 +257,8 @@ tells r channel h _ named accepted = tt
 
 -- a final channel is never turned
 pub turned_still : (r : Rules) (channel : List ℕ) (h : List Entry) (op : Op) → is_named r channel (fixed_of op) ≡ true → Tells r channel h op → is_final (mode r channel h) ≡ false
-turned_still r channel h (ops.Call (Challenge chain who signature)) named t = t.shows.still
-turned_still r channel h (ops.Call (Respond fixed from next)) named t = challenged_is_still (mode r channel h) t.challenged
+turned_still r channel h (ops.Call (Challenge k)) named t = t.shows.still
+turned_still r channel h (ops.Call (Respond k)) named t = challenged_is_still (mode r channel h) t.challenged
 turned_still r channel h (ops.Call (Refute fixed next)) named t = challenged_is_still (mode r channel h) t
 turned_still r channel h (ops.Call (Checkpoint chain)) named t = t.shows.still
 turned_still r channel h (ops.Call (Conclude chain)) named t = t.still

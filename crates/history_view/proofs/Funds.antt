@@ -79,10 +79,10 @@ moves_to flows from None asset n h = tt
 moves_to flows from (Some to) asset n h = h
 
 op_moves : (h : List Entry) (op : Op) (reply : Reply) → ((n : ℕ) → reply ≡ Paid n → IsHeldBy h n (payer_of op)) → CanMove (flows_of h) (flow_of op reply)
-op_moves h (ops.Call (Deposit channel asset expected amount)) (Held n) backed = tt
-op_moves h (ops.Call (Transfer channel outcome asset index)) (Paid n) backed = moves_to (flows_of h) (Some channel) (item_dest (shape_in outcome asset) index) asset n (backed n refl)
-op_moves h (ops.Call (Claim guarantor promise target outcome asset position)) (Paid n) backed =
-    moves_to (flows_of h) (Some guarantor) (listed_dest (shape_in promise asset) position) asset n (backed n refl)
+op_moves h (ops.Call (Deposit d)) (Held n) backed = tt
+op_moves h (ops.Call (Transfer k)) (Paid n) backed = moves_to (flows_of h) (Some k.channel) (item_dest (shape_in k.outcome k.asset) k.index) k.asset n (backed n refl)
+op_moves h (ops.Call (Claim k)) (Paid n) backed =
+    moves_to (flows_of h) (Some k.guarantor) (listed_dest (shape_in k.guarantor_outcome k.asset) k.position) k.asset n (backed n refl)
 op_moves h op reply backed = tt
 
 pub can_move : (r : Rules) (h : List Entry) (e : Entry) → e.reply ≡ reply_to r h e.op → CanMove (flows_of h) (flow_of e.op e.reply)

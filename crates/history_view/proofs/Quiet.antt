@@ -21,36 +21,36 @@ untold named op (Some f) views = refl
 -- where a row is told there is no flow
 no_flow_until : (op : Op) (n : ℕ) → flow_of op (Until n) ≡ []
 no_flow_until (ops.Time t) n = refl
-no_flow_until (ops.Call (Deposit channel asset expected amount)) n = refl
-no_flow_until (ops.Call (Challenge chain who signature)) n = refl
-no_flow_until (ops.Call (Respond fixed from next)) n = refl
+no_flow_until (ops.Call (Deposit d)) n = refl
+no_flow_until (ops.Call (Challenge k)) n = refl
+no_flow_until (ops.Call (Respond k)) n = refl
 no_flow_until (ops.Call (Refute fixed next)) n = refl
 no_flow_until (ops.Call (Checkpoint chain)) n = refl
 no_flow_until (ops.Call (Conclude chain)) n = refl
-no_flow_until (ops.Call (Transfer channel outcome asset index)) n = refl
-no_flow_until (ops.Call (Claim guarantor promise target outcome asset position)) n = refl
+no_flow_until (ops.Call (Transfer k)) n = refl
+no_flow_until (ops.Call (Claim k)) n = refl
 
 no_flow_opened : (op : Op) (n : ℕ) → flow_of op (Opened n) ≡ []
 no_flow_opened (ops.Time t) n = refl
-no_flow_opened (ops.Call (Deposit channel asset expected amount)) n = refl
-no_flow_opened (ops.Call (Challenge chain who signature)) n = refl
-no_flow_opened (ops.Call (Respond fixed from next)) n = refl
+no_flow_opened (ops.Call (Deposit d)) n = refl
+no_flow_opened (ops.Call (Challenge k)) n = refl
+no_flow_opened (ops.Call (Respond k)) n = refl
 no_flow_opened (ops.Call (Refute fixed next)) n = refl
 no_flow_opened (ops.Call (Checkpoint chain)) n = refl
 no_flow_opened (ops.Call (Conclude chain)) n = refl
-no_flow_opened (ops.Call (Transfer channel outcome asset index)) n = refl
-no_flow_opened (ops.Call (Claim guarantor promise target outcome asset position)) n = refl
+no_flow_opened (ops.Call (Transfer k)) n = refl
+no_flow_opened (ops.Call (Claim k)) n = refl
 
 no_flow_concluded : (op : Op) (n : ℕ) → flow_of op (Concluded n) ≡ []
 no_flow_concluded (ops.Time t) n = refl
-no_flow_concluded (ops.Call (Deposit channel asset expected amount)) n = refl
-no_flow_concluded (ops.Call (Challenge chain who signature)) n = refl
-no_flow_concluded (ops.Call (Respond fixed from next)) n = refl
+no_flow_concluded (ops.Call (Deposit d)) n = refl
+no_flow_concluded (ops.Call (Challenge k)) n = refl
+no_flow_concluded (ops.Call (Respond k)) n = refl
 no_flow_concluded (ops.Call (Refute fixed next)) n = refl
 no_flow_concluded (ops.Call (Checkpoint chain)) n = refl
 no_flow_concluded (ops.Call (Conclude chain)) n = refl
-no_flow_concluded (ops.Call (Transfer channel outcome asset index)) n = refl
-no_flow_concluded (ops.Call (Claim guarantor promise target outcome asset position)) n = refl
+no_flow_concluded (ops.Call (Transfer k)) n = refl
+no_flow_concluded (ops.Call (Claim k)) n = refl
 
 none_has_room : (views : List ChannelView) (paid : List (List ℕ × ℕ × ℕ)) → HaveRoom [] views paid
 none_has_room views paid = tt

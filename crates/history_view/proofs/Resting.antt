@@ -19,6 +19,8 @@ use Rattle.call_history.specs.Rest.{less_paid, rest_shape, rest_outcome, lower_o
 use Rattle.call_history.specs.Replies as replies
 use Rattle.call_history.specs.History.{listed_dest, place_in, payment_of, payments_of, paid_of, rest_of_channel, held_of, now_of, turning, row, mode, settles, settled, call_reply, reply_to, Legal}
 use Rattle.call_history.specs.declared.call.Call.TheVariants.{Challenge, Conclude, Transfer, Claim}
+use Rattle.call_history.specs.declared.call.ClaimCall.{ClaimCall}
+use Rattle.call_history.specs.declared.call.TransferCall.{TransferCall}
 use Rattle.call_history.specs.declared.call.Op.{Op}
 use Rattle.call_history.specs.declared.call.Op.TheVariants as ops
 use Rattle.call_history.specs.declared.entry.Entry.{Entry}
@@ -87,28 +89,29 @@ none_of name channel asset place kind at n other = go (bytes_eq name channel) re
           ap (λ (b : Bool). cond (b && ((asset == kind) && (place == at))) n 0) e,
         )
 
-transfer_final : (r : Rules) (h : List Entry) (name : List ℕ) (outcome : List AssetOutcome) (asset index n : ℕ) → call_reply r h (Transfer name outcome asset index) ≡ Paid n → is_final (mode r name h) ≡ true
-transfer_final r h name outcome asset index n e =
-    let paid = paid_of h name asset in
-    let held = held_of h name asset in
-    let of : Row = row r name h in
-    let rest : Result Due Refusal = refuse_if (replies.ends_otherwise r of outcome) (WrongOutcome name) (transfer_due paid held outcome asset index) in
-    let v = told_paid (replies.transfer r of (now_of h) paid held name outcome asset index) n e in
-    not_false (is_final (mode r name h)) (passes (replies.is_unfinished of (now_of h)) (NotFinal name) rest v.0 v.1).0
+transfer_final : (r : Rules) (h : List Entry) (k : TransferCall) (n : ℕ) → call_reply r h (Transfer k) ≡ Paid n → is_final (mode r k.channel h) ≡ true
+transfer_final r h k n e =
+    let paid = paid_of h k.channel k.asset in
+    let held = held_of h k.channel k.asset in
+    let of : Row = row r k.channel h in
+    let rest : Result Due Refusal = refuse_if (replies.ends_otherwise r of k.outcome) (WrongOutcome k.channel) (transfer_due paid held k.outcome k.asset k.index) in
+    let v = told_paid (replies.transfer r of (now_of h) paid held k.channel k.outcome k.asset k.index) n e in
+    not_false (is_final (mode r k.channel h)) (passes (replies.is_unfinished of (now_of h)) (NotFinal k.channel) rest v.0 v.1).0
 
-claim_final : (r : Rules) (h : List Entry) (guarantor : List ℕ) (promise : List AssetOutcome) (target : List ℕ) (outcome : List AssetOutcome) (asset position n : ℕ)
-    → call_reply r h (Claim guarantor promise target outcome asset position) ≡ Paid n → is_final (mode r target h) ≡ true
-claim_final r h guarantor promise target outcome asset position n e =
-    let paid = paid_of h target asset in
-    let held = held_of h guarantor asset in
-    let of : Row = row r guarantor h in
-    let to : Row = row r target h in
-    let fourth : Result Due Refusal = refuse_if (replies.ends_otherwise r to outcome) (WrongOutcome target) (claim_due paid held promise target outcome asset position) in
-    let third : Result Due Refusal = refuse_if (replies.ends_otherwise r of promise) (WrongOutcome guarantor) fourth in
-    let second : Result Due Refusal = refuse_if (replies.is_unfinished to (now_of h)) (NotFinal target) third in
-    let v = told_paid (replies.claim r of to (now_of h) paid held guarantor promise target outcome asset position) n e in
-    let a = passes (replies.is_unfinished of (now_of h)) (NotFinal guarantor) second v.0 v.1 in
-    not_false (is_final (mode r target h)) (passes (replies.is_unfinished to (now_of h)) (NotFinal target) third v.0 a.1).0
+claim_final : (r : Rules) (h : List Entry) (k : ClaimCall) (n : ℕ) → call_reply r h (Claim k) ≡ Paid n → is_final (mode r k.target h) ≡ true
+claim_final r h k n e =
+    let paid = paid_of h k.target k.asset in
+    let held = held_of h k.guarantor k.asset in
+    let of : Row = row r k.guarantor h in
+    let to : Row = row r k.target h in
+    let due : Result Due Refusal = claim_due paid held k.guarantor_outcome k.target k.target_outcome k.asset k.position in
+    let fourth : Result Due Refusal = refuse_if (replies.ends_otherwise r to k.target_outcome) (WrongOutcome k.target) due in
+    let third : Result Due Refusal = refuse_if (replies.ends_otherwise r of k.guarantor_outcome) (WrongOutcome k.guarantor) fourth in
+    let second : Result Due Refusal = refuse_if (replies.is_unfinished to (now_of h)) (NotFinal k.target) third in
+    let answer : Result Due Refusal = refuse_if (replies.is_unfinished of (now_of h)) (NotFinal k.guarantor) second in
+    let v = told_paid answer n e in
+    let a = passes (replies.is_unfinished of (now_of h)) (NotFinal k.guarantor) second v.0 v.1 in
+    not_false (is_final (mode r k.target h)) (passes (replies.is_unfinished to (now_of h)) (NotFinal k.target) third v.0 a.1).0
 
 -- whose item is paid, is final
 apart : (r : Rules) (h : List Entry) (name channel : List ℕ) → is_final (mode r name h) ≡ true → is_final (mode r channel h) ≡ false → bytes_eq name channel ≡ true → ⊥
@@ -118,11 +121,11 @@ apart r h name channel ended still same =
 op_pays : (r : Rules) (h : List Entry) (op : Op) (reply : Reply) (channel : List ℕ) (kind at : ℕ) → reply ≡ reply_to r h op → is_final (mode r channel h) ≡ false
     → paid_of_item (payment_of op reply) channel kind at ≡ 0
 unfolding reply_to
-op_pays r h (ops.Call (Transfer name outcome asset index)) (Paid n) channel kind at replied still =
-    none_of name channel asset index kind at n (apart r h name channel (transfer_final r h name outcome asset index n (sym replied)) still)
-op_pays r h (ops.Call (Claim guarantor promise target outcome asset position)) (Paid n) channel kind at replied still =
-    none_of target channel asset (place_in (shape_in outcome asset) (listed_dest (shape_in promise asset) position)) kind at n
-    (apart r h target channel (claim_final r h guarantor promise target outcome asset position n (sym replied)) still)
+op_pays r h (ops.Call (Transfer k)) (Paid n) channel kind at replied still =
+    none_of k.channel channel k.asset k.index kind at n (apart r h k.channel channel (transfer_final r h k n (sym replied)) still)
+op_pays r h (ops.Call (Claim k)) (Paid n) channel kind at replied still =
+    none_of k.target channel k.asset (place_in (shape_in k.target_outcome k.asset) (listed_dest (shape_in k.guarantor_outcome k.asset) k.position)) kind at n
+    (apart r h k.target channel (claim_final r h k n (sym replied)) still)
 op_pays r h op reply channel kind at replied still = refl
 
 -- so nothing was paid of the items of a channel that isn't final
@@ -142,7 +145,7 @@ nothing_paid r (e ∷ h) channel legal still asset place =
 -- a turning call settles on an outcome of which all is left, or leaves it
 op_rests : (op : Op) (paid : ℕ → ℕ → ℕ) (outcome : Option (List AssetOutcome)) → ((asset place : ℕ) → paid asset place ≡ 0)
     → settles op (option_map (rest_outcome paid) outcome) ≡ option_map (rest_outcome paid) (settles op outcome)
-op_rests (ops.Call (Challenge chain who signature)) paid outcome none = all_left (top_outcome chain.states) paid none
+op_rests (ops.Call (Challenge k)) paid outcome none = all_left (top_outcome k.chain.states) paid none
 op_rests (ops.Call (Conclude chain)) paid outcome none = all_left (top_outcome chain.states) paid none
 op_rests _ paid outcome none = refl
 

@@ -113,13 +113,13 @@ answer_is_newest r channel h f next w t before =
 
 turned_together : (r : Rules) (channel : List ℕ) (h : List Entry) (op : Op) (reply : Reply) → is_named r channel (fixed_of op) ≡ true → Tells r channel h op → Together r channel h
     → GoTogether (or_before (time_set op reply) (now_of h)) (turned r (now_of h) op (row r channel h)) (newer (shown_by r channel h op) (newest_shown r channel h)) (challenge_in op (challenged r channel h))
-turned_together r channel h (ops.Call (Challenge chain who signature)) reply named t before =
-    let is = newer_later (marked_of chain) (newest_shown r channel h) t.shows.some (shown_is_newest r channel h chain t before) in
+turned_together r channel h (ops.Call (Challenge k)) reply named t before =
+    let is = newer_later (marked_of k.chain) (newest_shown r channel h) t.shows.some (shown_is_newest r channel h k.chain t before) in
     record { turn = λ still. ap turn_shown (sym is); chain = λ open_now. is }
-turned_together r channel h (ops.Call (Respond fixed from next)) reply named t before =
+turned_together r channel h (ops.Call (Respond k)) reply named t before =
     let w = challenged r channel h in
     record {
-      turn = λ still. sym (ap turn_shown (answer_is_newest r channel h fixed next w t before) ∙ ap turn_of (answered_ends fixed next w));
+      turn = λ still. sym (ap turn_shown (answer_is_newest r channel h k.fixed k.next w t before) ∙ ap turn_of (answered_ends k.fixed k.next w));
       chain = λ open_now. absurd cc;
     }
 turned_together r channel h (ops.Call (Refute fixed next)) reply named t before =
@@ -174,18 +174,18 @@ answer_shown r channel f next open_one shown is =
 turned_shown : (r : Rules) (channel : List ℕ) (h : List Entry) (op : Op) (reply : Reply) (shown : Option Chain) → is_named r channel (fixed_of op) ≡ true → Tells r channel h op → Together r channel h
     → IsShownSo r channel h shown
     → ShowsSo r channel (or_before (time_set op reply) (now_of h)) (turned r (now_of h) op (row r channel h)).deadline (newer (shown_by r channel h op) (newest_shown r channel h)) (challenge_in op (challenged r channel h)) (shown_after op shown)
-turned_shown r channel h (ops.Call (Challenge chain who signature)) reply shown named t history before =
+turned_shown r channel h (ops.Call (Challenge k)) reply shown named t history before =
     let same : turn_shown (option_map marked_of shown) ≡ turn_shown (newest_shown r channel h) = ap turn_shown before.newest in
-    let up : turn_shown (newest_shown r channel h) ≤ top_turn chain.states = shown_is_newest r channel h chain t history in
+    let up : turn_shown (newest_shown r channel h) ≤ top_turn k.chain.states = shown_is_newest r channel h k.chain t history in
     record {
-      newest = newer_same chain shown t.shows.some ∙ ap (newer (marked_of chain)) before.newest;
-      open_chain = λ open_now. (chain, ap (λ (c : Chain). Some c) (later_shown chain shown (omega arith)), same_bytes (r.named chain.fixed) channel named, refl);
+      newest = newer_same k.chain shown t.shows.some ∙ ap (newer (marked_of k.chain)) before.newest;
+      open_chain = λ open_now. (k.chain, ap (λ (c : Chain). Some c) (later_shown k.chain shown (omega arith)), same_bytes (r.named k.chain.fixed) channel named, refl);
     }
-turned_shown r channel h (ops.Call (Respond fixed from next)) reply shown named t history before =
+turned_shown r channel h (ops.Call (Respond k)) reply shown named t history before =
     record {
       newest =
-          answer_shown r channel fixed next (challenged r channel h) shown (before.open_chain t.challenged)
-          ∙ sym (answer_is_newest r channel h fixed next (challenged r channel h) t history);
+          answer_shown r channel k.fixed k.next (challenged r channel h) shown (before.open_chain t.challenged)
+          ∙ sym (answer_is_newest r channel h k.fixed k.next (challenged r channel h) t history);
       open_chain = λ open_now. absurd cc;
     }
 turned_shown r channel h (ops.Call (Refute fixed next)) reply shown named t history before =

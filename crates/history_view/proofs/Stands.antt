@@ -72,8 +72,8 @@ new r h e w channel = cond (turning r channel e) (turned_view r channel h e (old
 -- a chain to which an answer can be put, after an accepted call
 short_in : (r : Rules) (channel : List ℕ) (h : List Entry) (op : Op) (before : Marked) → is_named r channel (fixed_of op) ≡ true → Tells r channel h op → OfFew (fixed_of op)
     → length before.states ≤ 255 → length (challenge_in op before).states ≤ 255
-short_in r channel h (ops.Call (Challenge chain who signature)) before named t few short = let a = t.shows.few in omega arith
-short_in r channel h (ops.Call (Respond fixed from next)) before named t few short = short
+short_in r channel h (ops.Call (Challenge k)) before named t few short = let a = t.shows.few in omega arith
+short_in r channel h (ops.Call (Respond k)) before named t few short = short
 short_in r channel h (ops.Call (Refute fixed next)) before named t few short = short
 short_in r channel h (ops.Call (Checkpoint chain)) before named t few short = short
 short_in r channel h (ops.Call (Conclude chain)) before named t few short = short
@@ -88,9 +88,9 @@ same_chain x y e = cc
 -- the chain that an accepted call answers
 answers_short : (r : Rules) (channel : List ℕ) (h : List Entry) (op : Op) (open_one : Marked) (shown : Option Chain) → is_named r channel (fixed_of op) ≡ true → Tells r channel h op
     → (is_challenged (mode r channel h) ≡ true → IsChainOf r channel open_one shown) → length open_one.states ≤ 255 → is_short op shown ≡ true
-answers_short r channel h (ops.Call (Challenge chain who signature)) open_one shown named t is few = refl
-answers_short r channel h (ops.Call (Respond fixed from next)) open_one None named t is few = refl
-answers_short r channel h (ops.Call (Respond fixed from next)) open_one (Some chain) named t is few = at (is t.challenged)
+answers_short r channel h (ops.Call (Challenge k)) open_one shown named t is few = refl
+answers_short r channel h (ops.Call (Respond k)) open_one None named t is few = refl
+answers_short r channel h (ops.Call (Respond k)) open_one (Some chain) named t is few = at (is t.challenged)
   where
     at : IsChainOf r channel open_one (Some chain) → nat_le (length chain.states) 255 ≡ true
     at (c, same, name, marked) =

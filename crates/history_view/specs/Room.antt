@@ -28,7 +28,7 @@ HaveRoom (flow ∷ flows) views paid =
 
 -- an answer is put on a chain of at most 255 states, since a place is one byte
 abbrev pub is_short : Op → Option Chain → Bool
-is_short (ops.Call (Respond f from next)) (Some shown) = nat_le (length shown.states) 255
+is_short (ops.Call (Respond k)) (Some shown) = nat_le (length shown.states) 255
 is_short _ _ = true
 
 -- where the call turns its channel

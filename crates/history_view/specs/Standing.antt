@@ -1,4 +1,4 @@
--- A view stands for a history: it tells of time, rows, balances, shown chains, outcomes and their rests what the history
+-- A view stands for a history: it says of time, rows, balances, shown chains, outcomes and their rests what the history
 -- says.
 use Rattle.std.specs.Prelude.{◌≡◌, ℕ, ◌≤◌, List, [], ◌∷◌, length, nat_lt, Option, Some, None, if◌then◌else◌}
 use Rattle.std.specs.Option.{option_map}

@@ -70,8 +70,8 @@ with_answer f next chain = chain_of chain.fixed (answered f next (marked_of chai
 
 -- after an accepted turning call; while a channel is challenged the chain that is shown is the challenged one
 abbrev pub shown_after : Op → Option Chain → Option Chain
-shown_after (ops.Call (Challenge chain who signature)) before = Some (newer_shown before chain)
-shown_after (ops.Call (Respond f from next)) before = option_map (with_answer f next) before
+shown_after (ops.Call (Challenge k)) before = Some (newer_shown before k.chain)
+shown_after (ops.Call (Respond k)) before = option_map (with_answer k.fixed k.next) before
 shown_after (ops.Call (Checkpoint chain)) before = Some (newer_shown before chain)
 shown_after (ops.Call (Conclude chain)) before = Some (newer_shown before chain)
 shown_after _ before = before

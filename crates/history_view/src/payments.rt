@@ -10,8 +10,10 @@ ghost use Rattle.history_view.specs.Views.{channel_paid, views_with};
 
 use crate::channels::place_for;
 use crate::lowering::lowered_outcome;
-use call_history::{Call, ChannelView, Op, Payment, Reply, listed_dest, place_of, shape_in};
-use channel_values::{AssetOutcome, Dest, NoMemory, Outcome, Shape};
+use call_history::{
+    Call, ChannelView, ClaimCall, Op, Payment, Reply, listed_dest, place_of, shape_in,
+};
+use channel_values::{AssetOutcome, Dest, NoMemory, Shape};
 
 /// The place of a destination's item in a shape.
 fn place_within(shape: &Shape, to: &Dest) -> usize
@@ -39,17 +41,15 @@ fn place_among(assets: &[AssetOutcome], asset: u32, to: &Dest) -> usize
 }
 
 /// The place of the item of which an accepted claim pays.
-fn claimed_place(
-    guarantor_outcome: &Outcome,
-    target_outcome: &Outcome,
-    asset: u32,
-    position: u8,
-) -> u8
-    ensures { result ≡ place_in (shape_in target_outcome.now asset)
-        (listed_dest (shape_in guarantor_outcome.now asset) position) }
+fn claimed_place(claim: &ClaimCall) -> u8
+    ensures { result ≡ place_in (shape_in claim.now.target_outcome claim.now.asset)
+        (listed_dest (shape_in claim.now.guarantor_outcome claim.now.asset) claim.now.position) }
 {
-    match listed_dest(shape_in(guarantor_outcome, asset), position) {
-        Some(to) => place_among(target_outcome.assets(), asset, &to) as u8,
+    match listed_dest(
+        shape_in(&claim.guarantor_outcome, claim.asset),
+        claim.position,
+    ) {
+        Some(to) => place_among(claim.target_outcome.assets(), claim.asset, &to) as u8,
         None => 0,
     }
 }
@@ -59,38 +59,16 @@ pub(crate) fn payment_of(op: &Op, reply: &Reply) -> Option<Payment>
     ensures { option_to_list result ≡ payment_of op.now reply.now }
 {
     match (op, reply) {
-        (
-            Op::Call(
-                Call::Transfer {
-                    channel,
-                    asset,
-                    index,
-                    ..
-                },
-            ),
-            Reply::Paid(amount),
-        ) => Some(Payment {
-            channel: *channel,
-            asset: *asset,
-            place: *index,
+        (Op::Call(Call::Transfer(transfer)), Reply::Paid(amount)) => Some(Payment {
+            channel: transfer.channel,
+            asset: transfer.asset,
+            place: transfer.index,
             amount: *amount,
         }),
-        (
-            Op::Call(
-                Call::Claim {
-                    guarantor_outcome,
-                    target,
-                    target_outcome,
-                    asset,
-                    position,
-                    ..
-                },
-            ),
-            Reply::Paid(amount),
-        ) => Some(Payment {
-            channel: *target,
-            asset: *asset,
-            place: claimed_place(guarantor_outcome, target_outcome, *asset, *position),
+        (Op::Call(Call::Claim(claim)), Reply::Paid(amount)) => Some(Payment {
+            channel: claim.target,
+            asset: claim.asset,
+            place: claimed_place(claim),
             amount: *amount,
         }),
         _ => None,

@@ -1,4 +1,4 @@
-//! What a view tells.
+//! What a view says.
 
 ghost use Rattle.std.specs.Prelude.{◌≡◌, MatchOption};
 ghost use Rattle.std.specs.List.{find};

@@ -73,7 +73,7 @@ fn is_short(op: &Op, shown: Option<&Chain>) -> bool
     ensures { result ≡ is_short op.now (option_map (λ m. m.now) shown.entry) }
 {
     match (op, shown) {
-        (Op::Call(Call::Respond { .. }), Some(chain)) => chain.states.as_slice().len() <= 255,
+        (Op::Call(Call::Respond(_)), Some(chain)) => chain.states.as_slice().len() <= 255,
         _ => true,
     }
 }

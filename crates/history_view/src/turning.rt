@@ -11,7 +11,9 @@ ghost use Rattle.history_view.specs.Room.{is_short, turns_short};
 
 use crate::channels::place_for;
 use crate::lowering::outcome_of;
-use call_history::{Call, ChannelView, Entry, Op, answered, fixed_of, newest, told_row, top_turn};
+use call_history::{
+    Call, ChallengeCall, ChannelView, Entry, Op, answered, fixed_of, newest, told_row, top_turn,
+};
 use channel_values::{Chain, NoMemory, Outcome, channel_name};
 use std::alloc::Global;
 
@@ -36,16 +38,18 @@ fn shown_after(op: &Op, before: Option<Chain>) -> Result<Option<Chain>, NoMemory
 {
     match op {
         Op::Call(
-            Call::Challenge { chain, .. } | Call::Checkpoint { chain } | Call::Conclude { chain },
+            Call::Challenge(ChallengeCall { chain, .. })
+            | Call::Checkpoint { chain }
+            | Call::Conclude { chain },
         ) => {
             let newer = newer_shown(before, chain)?;
             Ok(Some(newer))
         }
-        Op::Call(Call::Respond { fixed, next, .. }) => match before {
+        Op::Call(Call::Respond(respond)) => match before {
             None => Ok(None),
             Some(shown) => {
-                let next = next.copy()?;
-                let longer = answered(fixed, shown, next)?;
+                let next = respond.next.copy()?;
+                let longer = answered(&respond.fixed, shown, next)?;
                 Ok(Some(longer))
             }
         },
@@ -72,7 +76,7 @@ fn settled_after(
     ensures { IfOk result (λ settled. settled ≡ settles op.now before) }
 {
     match op {
-        Op::Call(Call::Challenge { chain, .. } | Call::Conclude { chain }) => {
+        Op::Call(Call::Challenge(ChallengeCall { chain, .. }) | Call::Conclude { chain }) => {
             let outcome = top_outcome(alloc, chain)?;
             Ok(Some(outcome))
         }

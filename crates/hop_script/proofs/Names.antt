@@ -40,7 +40,7 @@ not-true : (b : Bool) → ¬ (b ≡ true) → b ≡ false
 not-true false never = refl
 not-true true never = absurd (never refl)
 
--- ---- entered one behind the other
+-- ---- entered one after the other
 
 abbrev person : List ℕ → ℕ → Declaration
 person name letter = of-person (record { name = name; seed = replicate 32 letter; h = 10; node = true; watchers = 1 })
@@ -194,7 +194,7 @@ module _ (keys : HaveKeys) where
   pub channels_repeat : ¬ (AreApart known_people channels) → are_apart ≡ false
   channels_repeat not_apart = not-true are_apart (λ e. not_apart (apart known_people the-channels (all-fixed e) (from-apart e)))
 
--- so as the channels are entered behind the people
+-- so as the channels are entered after the people
 pub channels_told : HaveKeys → (c : Context) (ss : List Step) → c ≡ known_people → ss ≡ channels → ¬ (AreApart c ss) → are_apart ≡ false
 channels_told keys c ss people_in all not_apart =
     channels_repeat keys (λ a. not_apart (subst (AreApart c) (sym all) (subst (λ (k : Context). AreApart k channels) (sym people_in) a)))

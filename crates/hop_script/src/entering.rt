@@ -70,7 +70,7 @@ fn have_keys(signers: &[Signer])
     has_key(b, 0x42);
 }
 
-/// Takes note of the channels, behind the people.
+/// Takes note of the channels, after the people.
 #[tactic(auto, using(crate::proofs::Kept::channels_fit, crate::proofs::Names::channels_told))]
 fn enter_channels(
     alloc: Global,

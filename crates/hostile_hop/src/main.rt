@@ -1,6 +1,7 @@
 //! `hostile_hop ROUTE..` plays a script as `nitro run` does, but that its virtual channels take these routes, in the order of
 //! the steps that open them: each is `plain`, `ledger` (the channel is a virtual ledger) or `onward` (it stands on one). Where no
-//! word is left a route is plain. So a script tells a play over two intermediaries in which people lie, stay silent or leave.
+//! word is left a route is plain. So a script describes a play over two intermediaries in which people lie, stay silent
+//! or leave.
 #![tactic(auto)]
 
 mod playing;

@@ -1,6 +1,6 @@
 //! `hostile_race` plays a script as `nitro race` does, beside a replayer, an equivocator, somebody who begins a message and
-//! vanishes, and a flood; with one word, beside sixteen floods. Behind the text it prints how many messages the nodes refused
-//! as no message.
+//! vanishes, and a flood; with one word, beside sixteen floods. After the text it prints how many messages the nodes
+//! refused as no message.
 #![tactic(auto)]
 
 mod flood;

@@ -46,7 +46,7 @@ names_of_verdict first =
     else (if bytes_eq first (codes "too") then codes "line why"
     else codes "line place")))))
 
--- the names of the words of a line behind the entries, by the first
+-- the names of the words of a line after the entries, by the first
 abbrev pub names_of_end : List ℕ → List ℕ
 names_of_end first =
     if bytes_eq first (codes "asset") then codes "line asset - deposited - held - paid"
@@ -94,7 +94,7 @@ member name word = 44 ∷ quoted name ++ 58 ∷ quoted word
 abbrev pub named : List ℕ × List ℕ → List ℕ
 named pair = if bytes_eq pair.0 (codes "-") then [] else member pair.0 pair.1
 
--- the words behind those that have a name: a reply
+-- the words after those that have a name: a reply
 abbrev pub reply_member : List (List ℕ) → List ℕ
 reply_member [] = []
 reply_member (word ∷ words) =

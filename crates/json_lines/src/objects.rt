@@ -40,7 +40,7 @@ fn push_others(out: &mut Vec<u8>, words: &[Listed<u8>]) -> Result<(), NoMemory>
     Ok(())
 }
 
-/// Adds the words behind those that have a name.
+/// Adds the words after those that have a name.
 fn push_reply(out: &mut Vec<u8>, words: &[Listed<u8>]) -> Result<(), NoMemory>
     ensures { OnOk result (out.new.items ≡ out.old.items ++ reply_member words.now) }
 {
@@ -66,7 +66,7 @@ fn push_kind(out: &mut Vec<u8>, words: &[Listed<u8>]) -> Result<(), NoMemory>
     }
 }
 
-/// The words behind so many.
+/// The words after so many.
 fn others_of(words: &[Listed<u8>], count: usize) -> &[Listed<u8>]
     ensures { result.now ≡ drop count words.now }
 {

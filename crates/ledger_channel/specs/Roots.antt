@@ -14,7 +14,8 @@ use Rattle.call_history.specs.declared.standing.Standing.{Standing}
 use Rattle.call_history.specs.declared.standing.Standing.TheVariants.{Open, Challenged, Final}
 use Rattle.call_history.specs.Mode.{is_final}
 use Rattle.call_history.specs.declared.call.Call.{Call}
-use Rattle.call_history.specs.declared.call.Call.TheVariants.{Deposit, Conclude, Transfer}
+use Rattle.call_history.specs.Calls.{make_deposit, make_transfer}
+use Rattle.call_history.specs.declared.call.Call.TheVariants.{Conclude}
 use Rattle.funding_plans.specs.Shapes.{items_in}
 use Rattle.funding_plans.specs.Seats.{Seat, holds, is_set_up, repeats, final_state, is_spelled, takes_payment, takes_vote}
 use Rattle.funding_plans.specs.Rows.{Row, ◌⊢◌, signing, calling, waiting}
@@ -50,7 +51,7 @@ ahead_of (i ∷ is) to = if is_same i.to to then 0 else i.amount + ahead_of is t
 
 abbrev pub deposit_of : List ℕ → (asset before own held : ℕ) → Option Call
 deposit_of name asset before own held =
-    if nat_le before held && nat_lt held (before + own) then Some (Deposit name asset held (before + own - held)) else None
+    if nat_le before held && nat_lt held (before + own) then Some (make_deposit name asset held (before + own - held)) else None
 
 -- a deposit of an asset, where the participant's item has its turn
 abbrev pub deposit : Direct → ℕ → List Item → Option Call
@@ -88,7 +89,7 @@ is_any_due d = is_due_of d d.rest
 -- a transfer of the participant's own item of an asset, where something is due
 abbrev pub transfer : Direct → List AssetOutcome → ℕ → List Item → Option Call
 transfer d settled asset items =
-    if is_due d asset items then Some (Transfer d.channel.name settled asset (place_of items (Person d.who))) else None
+    if is_due d asset items then Some (make_transfer d.channel.name settled asset (place_of items (Person d.who))) else None
 
 abbrev pub transfer_in : Direct → List AssetOutcome → List AssetOutcome → AssetOutcome → Option Call
 transfer_in d settled rest o = transfer d settled o.asset (items_in o.asset rest)

@@ -10,7 +10,7 @@ ghost use Rattle.funding_plans.specs.Seats as seats;
 ghost use Rattle.ledger_channel.specs.Roots as roots;
 
 use crate::money::{afforded, ahead_of, held_of};
-use call_history::{Call, Standing, place_of};
+use call_history::{Call, DepositCall, Standing, TransferCall, place_of};
 use channel_values::{AssetOutcome, Chain, Dest, Item, Name, NoMemory, Outcome, State, total};
 use funding_plans::{SeatView, amt, items_in};
 use std::alloc::Global;
@@ -57,12 +57,12 @@ impl<'a> DirectView<'a> {
         let own = amt(items, &to);
         let held = held_of(self.held, asset);
         if before <= held && held < before + own {
-            Some(Call::Deposit {
+            Some(Call::Deposit(DepositCall {
                 channel: self.channel.name(),
                 asset,
                 expected: held,
                 amount: before + own - held,
-            })
+            }))
         } else {
             None
         }
@@ -125,12 +125,12 @@ impl<'a> DirectView<'a> {
             return Ok(None);
         }
         let outcome = settled.copy()?;
-        Ok(Some(Call::Transfer {
+        Ok(Some(Call::Transfer(TransferCall {
             channel: self.channel.name(),
             outcome,
             asset,
             index: place_of(items, &Dest::Person(self.who)) as u8,
-        }))
+        })))
     }
 
     fn transfer_in(

@@ -66,6 +66,6 @@ both_written a b n k e none = put_next a (replicate k 0) b n k e ∙ rw none (ap
 pub at_place : (id : List ℕ) (q i n : ℕ) (r : Run) (y : List ℕ) → i ≡ n → y ≡ chain_step id q n r.at r.string → y ≡ chain_step id q i r.at r.string
 at_place id q i n r y e h = rw e h
 
--- the numbers of a step, behind the identifier
+-- the numbers of a step, after the identifier
 pub numbers_joined : (a b c d e : List ℕ) → a ++ (b ++ c ++ d) ++ e ≡ a ++ b ++ c ++ d ++ e
 numbers_joined a b c d e = ap (λ (x : List ℕ). x ++ e) (sym (append_assoc a (b ++ c) d) ∙ ap (λ (x : List ℕ). x ++ d) (sym (append_assoc a b c)))

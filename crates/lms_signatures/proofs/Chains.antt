@@ -1,4 +1,4 @@
--- The chains and the strings that stand one behind the other.
+-- The chains and the strings that stand one after the other.
 use Rattle.std.proofs.Common.{◌≡◌, ℕ, zero, suc, ◌+◌, ◌*◌, ◌-◌, ◌^◌, ◌<◌, ◌≤◌, List, [], ◌++◌, length, take, drop, length-append, length-drop, refl, sym, ap, ◌∙◌, subst, inl, inr, arith}
 use Rattle.std.proofs.lemmas.List.{take_at, drop_at, take-append-le, drop-append-le, append-nil}
 use Rattle.std.proofs.lemmas.Bool.{cases_lt}

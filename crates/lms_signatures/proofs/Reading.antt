@@ -16,14 +16,14 @@ pub length-u32str : (n : ℕ) → length (u32str n) ≡ 4
 unfolding u32str
 length-u32str n = length-bytes_high_first 4 n
 
--- the number behind a front
+-- the number after a front
 pub number_behind : (front rest : List ℕ) (i n : ℕ) → length front ≡ i → n < 2 ^ 32 → number_at i (front ++ (u32str n ++ rest)) ≡ n
 unfolding number_at u32str
 number_behind front rest i n e lt =
     let a : drop i (front ++ (u32str n ++ rest)) ≡ u32str n ++ rest = drop_at front (u32str n ++ rest) i e in
     rw a (big_number-reads_back 4 n rest lt)
 
--- the part behind a front
+-- the part after a front
 pub part_behind : (front part rest : List ℕ) (i n : ℕ) → length front ≡ i → length part ≡ n → take n (drop i (front ++ (part ++ rest))) ≡ part
 part_behind front part rest i n e f =
     let a : drop i (front ++ (part ++ rest)) ≡ part ++ rest = drop_at front (part ++ rest) i e in

@@ -19,7 +19,7 @@ pub joined_more : (m : List ℕ) (f : ℕ → List ℕ) (i : ℕ) → m ++ joine
 unfolding joined
 joined_more m f i = rw add-one (sym (append_assoc m (joined f i) (f i)))
 
--- one string more is written behind the others
+-- one string more is written after the others
 pub joined_written : (m : List ℕ) (f : ℕ → List ℕ) (i : ℕ) (x y z : List ℕ) → x ≡ m ++ joined f i → y ≡ f i → z ≡ x ++ y → z ≡ m ++ joined f (i + 1)
 joined_written m f i x y z a b e = e ∙ rw (a, b) (sym (joined_more m f i))
 
@@ -32,7 +32,7 @@ checksum_fits W2 s sum is le = mod-eq_of_lt (omega arith) ∙ ap (λ (x : ℕ). 
 checksum_fits W4 s sum is le = mod-eq_of_lt (omega arith) ∙ ap (λ (x : ℕ). x * 16) is
 checksum_fits W8 s sum is le = mod-eq_of_lt (omega arith) ∙ ap (λ (x : ℕ). x * 1) is
 
--- two bytes written behind a front
+-- two bytes written after a front
 pub put_behind : (front new : List ℕ) (n : ℕ) → n ≡ length front → put_mid n 2 (front ++ 0 ∷ 0 ∷ []) new ≡ front ++ new
 put_behind front new n e =
     let a : take n (front ++ 0 ∷ 0 ∷ []) ≡ front = take_at front (0 ∷ 0 ∷ []) n (sym e) in

@@ -71,7 +71,7 @@ tree_sibling s t is level k r e low high =
     let b : sibling r < 2 * 2 ^ (suc k) = sibling_high r (2 ^ (suc k)) high in
     tree_node s t is level (suc k) (sibling r) e a b
 
--- the parts of a public key, one behind the other
+-- the parts of a public key, one after the other
 pub key_written : (a b c d : List ℕ) → length a ≡ 4 → length b ≡ 4 → length c ≡ 16 → length d ≡ 32
     → put_mid 24 32 (put_mid 8 16 (put_mid 4 4 (a ++ replicate 52 0) b) c) d ≡ a ++ b ++ c ++ d
 key_written a b c d ea eb ec ed =

@@ -31,7 +31,7 @@ opening id r tag = id ++ u32str r ++ u16str tag
 unfoldable pub message_hash : List ℕ → ℕ → List ℕ → List ℕ → List ℕ
 message_hash id q c message = sha256 (opening id q D_MESG ++ c ++ message)
 
--- Q with its checksum behind it
+-- Q with its checksum after it
 unfoldable pub with_checksum : OtsType → List ℕ → List ℕ
 with_checksum ots s = s ++ u16str (checksum ots s)
 

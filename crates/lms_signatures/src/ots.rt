@@ -62,7 +62,7 @@ pub fn checksum(ots: OtsType, s: &[u8; 32]) -> u16
     sum << ots.checksum_shift()
 }
 
-/// Q with its checksum behind it.
+/// Q with its checksum after it.
 #[tactic(auto, unfolding(crate::specs::Ots::with_checksum, crate::specs::Types::u16str))]
 pub fn with_checksum(ots: OtsType, hash: &[u8; 32]) -> [u8; 34]
     ensures { result ≡ with_checksum ots hash.now }

@@ -38,7 +38,7 @@ fn step_numbers(index: u32, i: u16, j: u8) -> [u8; 7]
     [a, b, c, d, e, f, j]
 }
 
-// The same, behind the identifier.
+// The same, after the identifier.
 fn step_head(id: &[u8; 16], numbers: &[u8; 7]) -> [u8; 23]
     ensures { result ≡ id.now ++ numbers.now }
 {

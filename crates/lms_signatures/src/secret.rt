@@ -84,7 +84,7 @@ impl Seed {
         hasher.finalize()
     }
 
-    // Puts the private elements at the start of the chains.
+    // Places the private elements at the start of the chains.
     fn start_runs(&self, q: u32, runs: &mut [Run])
         requires { length runs.old ≡ chain_count self.now.ots }
         ensures long { length runs.new ≡ chain_count self.now.ots }

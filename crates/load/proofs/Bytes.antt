@@ -52,7 +52,7 @@ path-bytes : (s : Secret) (q : ℕ) → AreBytes (path_of s q)
 unfolding path_of
 path-bytes s q = joined-bytes _ _ (λ i. node-bytes s i _)
 
--- six strings, one behind the other
+-- six strings, one after the other
 six : (a b c d e f : List ℕ) → AreBytes a → AreBytes b → AreBytes c → AreBytes d → AreBytes e → AreBytes f → AreBytes (a ++ b ++ c ++ d ++ e ++ f)
 six a b c d e f ha hb hc hd he hf =
     append (a ++ b ++ c ++ d ++ e) f (append (a ++ b ++ c ++ d) e (append (a ++ b ++ c) d (append (a ++ b) c (append a b ha hb) hc) hd) he) hf

@@ -7,7 +7,8 @@ use Rattle.std.proofs.lemmas.List.{length-reverse, drop-append-le, reverse-appen
 use Rattle.std.proofs.lemmas.List.Sums.{fold-append}
 use Rattle.channel_values.specs.declared.chain.Chain.{Chain}
 use Rattle.channel_values.specs.Rules.{top_turn}
-use Rattle.call_history.specs.declared.call.Call.TheVariants.{Deposit, Conclude, Transfer}
+use Rattle.call_history.specs.Calls.{make_deposit, make_transfer}
+use Rattle.call_history.specs.declared.call.Call.TheVariants.{Conclude}
 use Rattle.call_history.specs.declared.call.Op.TheVariants as ops
 use Rattle.call_history.specs.declared.entry.Entry.{Entry}
 use Rattle.call_history.specs.declared.held_chain.HeldChain.{HeldChain}
@@ -39,10 +40,10 @@ soothed e h soothes eye c =
           ∙ soothes (fold saw eye.watcher (drop eye.seen (oldest_first h))) c.calm held;
     }
 
-pub deposits_soothe : (number by asset expected amount n : ℕ) (channel : List ℕ) → Soothes (record { number = number; by = by; op = ops.Call (Deposit channel asset expected amount); reply = Held n })
+pub deposits_soothe : (number by asset expected amount n : ℕ) (channel : List ℕ) → Soothes (record { number = number; by = by; op = ops.Call (make_deposit channel asset expected amount); reply = Held n })
 deposits_soothe number by asset expected amount n channel w calm held = calm held
 
-pub transfers_soothe : (number by asset index n : ℕ) (channel : List ℕ) (outcome : List AssetOutcome) → Soothes (record { number = number; by = by; op = ops.Call (Transfer channel outcome asset index); reply = Paid n })
+pub transfers_soothe : (number by asset index n : ℕ) (channel : List ℕ) (outcome : List AssetOutcome) → Soothes (record { number = number; by = by; op = ops.Call (make_transfer channel outcome asset index); reply = Paid n })
 transfers_soothe number by asset index n channel outcome w calm held = calm held
 
 -- what is recorded of a channel then

@@ -4,8 +4,9 @@ use Rattle.std.specs.Prelude.{◌==◌, ◌^◌, nat_lt, Option, Some, None, min
 use Rattle.channel_values.specs.Parts.{StateParts}
 use Rattle.channel_values.specs.declared.chain.Mark.{Mark}
 use Rattle.channel_values.specs.declared.chain.Chain.{Chain}
+use Rattle.call_history.specs.Calls.{make_transfer}
 use Rattle.call_history.specs.declared.view.WorldView.{WorldView}
-use Rattle.call_history.specs.declared.call.Call.TheVariants.{Conclude, Transfer}
+use Rattle.call_history.specs.declared.call.Call.TheVariants.{Conclude}
 use Rattle.channel_values.specs.Support.{support_of, verified_marks}
 use Rattle.call_history.specs.Marked.{marked_of, is_newer}
 use Rattle.call_history.specs.declared.refusal.Reply.TheVariants.{Concluded, Paid}
@@ -210,33 +211,33 @@ module _ (p : Pair) (sa sb : SignerOf) (ua ub before turn u v x y : ℕ) (ga gb 
   b_ends view last = mind real p 1 p.key_b true view (final_1 ∷ final_2 ∷ []) (marks_b s1 s2) last
 
   -- the first sees the conclusion, refuses the late message, and is paid
-  close_3_a : Ends → Does sa a_name h3 letter_2 (a_closes (latest ∷ final_1 ∷ []) (marks_a s1 gb) (Some final_1)) (suc ua) (a_ends view_3 (Some final_1)) (suc ua) [] (Transfer (name real p) (split p x y) p.asset 0 ∷ [])
+  close_3_a : Ends → Does sa a_name h3 letter_2 (a_closes (latest ∷ final_1 ∷ []) (marks_a s1 gb) (Some final_1)) (suc ua) (a_ends view_3 (Some final_1)) (suc ua) [] (make_transfer (name real p) (split p x y) p.asset 0 ∷ [])
   close_3_a e =
-      does sa a_name h3 letter_2 (a_closes (latest ∷ final_1 ∷ []) (marks_a s1 gb) (Some final_1)) (a_ends view_3 (Some final_1)) (a_ends view_3 (Some final_1)) (a_ends view_3 (Some final_1)) (suc ua) (suc ua) [] (Transfer (name real p) (split p x y) p.asset 0 ∷ [])
+      does sa a_name h3 letter_2 (a_closes (latest ∷ final_1 ∷ []) (marks_a s1 gb) (Some final_1)) (a_ends view_3 (Some final_1)) (a_ends view_3 (Some final_1)) (a_ends view_3 (Some final_1)) (suc ua) (suc ua) [] (make_transfer (name real p) (split p x y) p.asset 0 ∷ [])
       (sees_conclude real p 0 2 (turn + 1 + 1) (turn + 1) (turn + 1 + 1) x y p.key_a (latest ∷ final_1 ∷ []) (marks_b s1 s2) (marks_a s1 gb) (Some final_1) e.newer)
       (λ j c. came sa a_name (bytes p sb ub final_2) (a_ends view_3 (Some final_1)) (a_ends view_3 (Some final_1)) (suc ua) j c
       (handles_late real p (signing_of sa) sa 0 p.key_a true view_3 (final_1 ∷ final_2 ∷ []) (marks_b s1 s2) (Some final_1) (suc ua) j c (bytes p sb ub final_2) (by final_2 s2)
       (w.reads_b ub (turn + 1 + 1) x y true (below-two turn e.room) e.sum)
       (refuses_late real p 0 p.key_a view_3 (turn + 1) (turn + 1 + 1) x y x y (mark 0 s1) (mark 1 s2) (Some final_1) (by final_2 s2))))
-      (λ j c. tick_waits real p (signing_of sa) sa 0 p.key_a true view_3 (final_1 ∷ final_2 ∷ []) (marks_b s1 s2) (Some final_1) (suc ua) j c (Transfer (name real p) (split p x y) p.asset 0 ∷ [])
+      (λ j c. tick_waits real p (signing_of sa) sa 0 p.key_a true view_3 (final_1 ∷ final_2 ∷ []) (marks_b s1 s2) (Some final_1) (suc ua) j c (make_transfer (name real p) (split p x y) p.asset 0 ∷ [])
       (waits_ended real p 0 p.key_a view_3 (turn + 1) (turn + 1 + 1) x y x y (mark 0 s1) (mark 1 s2) (Some final_1))
       (transfers_a real p 3 (turn + 1 + 1) (p.a + p.b) (turn + 1) (turn + 1 + 1) x y x y x y ending [] (mark 0 s1) (mark 1 s2) (Some final_1) w.begins (due-a x y (p.a + p.b) e.some_x e.sum)))
 
   -- the second sees both, and is paid
-  close_3_b : Ends → Does sb b_name h4 letter_2 (b_closes (final_1 ∷ final_2 ∷ []) (marks_b s1 s2) (Some final_2)) (suc ub) (b_ends view_4 (Some final_2)) (suc ub) [] (Transfer (name real p) (split p x y) p.asset 1 ∷ [])
+  close_3_b : Ends → Does sb b_name h4 letter_2 (b_closes (final_1 ∷ final_2 ∷ []) (marks_b s1 s2) (Some final_2)) (suc ub) (b_ends view_4 (Some final_2)) (suc ub) [] (make_transfer (name real p) (split p x y) p.asset 1 ∷ [])
   close_3_b e =
-      does sb b_name h4 letter_2 (b_closes (final_1 ∷ final_2 ∷ []) (marks_b s1 s2) (Some final_2)) (b_ends view_4 (Some final_2)) (b_ends view_4 (Some final_2)) (b_ends view_4 (Some final_2)) (suc ub) (suc ub) [] (Transfer (name real p) (split p x y) p.asset 1 ∷ [])
-      (ap (saw real (entry 4 1 (Transfer (name real p) (split p x y) p.asset 0) (Paid x))) (sees_own_conclude real p 1 2 (turn + 1 + 1) (turn + 1) (turn + 1 + 1) x y p.key_b (marks_b s1 s2) (Some final_2) e.alike)
+      does sb b_name h4 letter_2 (b_closes (final_1 ∷ final_2 ∷ []) (marks_b s1 s2) (Some final_2)) (b_ends view_4 (Some final_2)) (b_ends view_4 (Some final_2)) (b_ends view_4 (Some final_2)) (suc ub) (suc ub) [] (make_transfer (name real p) (split p x y) p.asset 1 ∷ [])
+      (ap (saw real (entry 4 1 (make_transfer (name real p) (split p x y) p.asset 0) (Paid x))) (sees_own_conclude real p 1 2 (turn + 1 + 1) (turn + 1) (turn + 1 + 1) x y p.key_b (marks_b s1 s2) (Some final_2) e.alike)
       ∙ sees_transfer_a real p 1 3 4 1 (turn + 1 + 1) (p.a + p.b) turn x x y x y p.key_b ending (final_1 ∷ final_2 ∷ []) (marks_b s1 s2) (Some final_2))
       (passes sb b_name a_name (bytes p sb ub final_2) (b_ends view_4 (Some final_2)) (suc ub) w.begins.apart)
-      (λ j c. tick_waits real p (signing_of sb) sb 1 p.key_b true view_4 (final_1 ∷ final_2 ∷ []) (marks_b s1 s2) (Some final_2) (suc ub) j c (Transfer (name real p) (split p x y) p.asset 1 ∷ [])
+      (λ j c. tick_waits real p (signing_of sb) sb 1 p.key_b true view_4 (final_1 ∷ final_2 ∷ []) (marks_b s1 s2) (Some final_2) (suc ub) j c (make_transfer (name real p) (split p x y) p.asset 1 ∷ [])
       (waits_ended real p 1 p.key_b view_4 (turn + 1) (turn + 1 + 1) x y x y (mark 0 s1) (mark 1 s2) (Some final_2))
       (transfers_b real p 4 (turn + 1 + 1) (p.a + p.b - x) (turn + 1) (turn + 1 + 1) x y x y (x - x) y ending ((name_of_person p.key_a, p.asset, x) ∷ []) (mark 0 s1) (mark 1 s2) (Some final_2) w.begins (due-b x y (p.a + p.b) e.some_y e.sum)))
 
   -- ---- the two are told to close, and three rounds follow
 
   abbrev pub h5 : List Entry
-  h5 = entry 5 2 (Transfer (name real p) (split p x y) p.asset 1) (Paid y) ∷ h4
+  h5 = entry 5 2 (make_transfer (name real p) (split p x y) p.asset 1) (Paid y) ∷ h4
 
   abbrev asked_both : ℕ → SceneOf Numbered → SceneOf Numbered
   asked_both step s = told ways step (Close (name real p)) (told ways step (Close (name real p)) s 1) 2
@@ -250,11 +251,11 @@ module _ (p : Pair) (sa sb : SignerOf) (ua ub before turn u v x y : ℕ) (ga gb 
       let t2 = scene_told_b names (deposits real p) (both p sa sb ua ub (a_runs p true older latest (marks_b ga gb) la) (b_runs p false older latest (marks_b ga gb) lb)) [] [] (told ways step (Close (name real p)) s 1) step (Close (name real p)) (b_runs p true older latest (marks_b ga gb) lb) ub t1
       (obeys_close_b p sb ub before turn u v x y (mark 0 ga) (mark 1 gb) lb e.runs) in
       let entered_3 = ap (λ (reply : Reply). entry 3 2 (Conclude ending) reply ∷ deposits real p) (replies_conclude real p (turn + 1) x y (marks_b s1 s2) e.supported) in
-      let entered_4 = ap (λ (reply : Reply). entry 4 1 (Transfer (name real p) (split p x y) p.asset 0) reply ∷ h3) (replies_transfer_a real p (turn + 1) x y 2 (marks_b s1 s2) e.sum e.some_x) in
-      let entered_5 = ap (λ (reply : Reply). entry 5 2 (Transfer (name real p) (split p x y) p.asset 1) reply ∷ h4) (replies_then_b real p (turn + 1) x y 2 (marks_b s1 s2) e.sum e.some_y) in
+      let entered_4 = ap (λ (reply : Reply). entry 4 1 (make_transfer (name real p) (split p x y) p.asset 0) reply ∷ h3) (replies_transfer_a real p (turn + 1) x y 2 (marks_b s1 s2) e.sum e.some_x) in
+      let entered_5 = ap (λ (reply : Reply). entry 5 2 (make_transfer (name real p) (split p x y) p.asset 1) reply ∷ h4) (replies_then_b real p (turn + 1) x y 2 (marks_b s1 s2) e.sum e.some_y) in
       let calm_3 : StaysCalm (deposits real p) h3 = soothed (entry 3 2 (Conclude ending) (Concluded (turn + 1 + 1))) (deposits real p) (conclusions_soothe 3 2 (turn + 1 + 1) ending) in
-      let calm_5 : StaysCalm h3 h5 = λ eye c. soothed (entry 5 2 (Transfer (name real p) (split p x y) p.asset 1) (Paid y)) h4 (transfers_soothe 5 2 p.asset 1 y (name real p) (split p x y)) eye
-      (soothed (entry 4 1 (Transfer (name real p) (split p x y) p.asset 0) (Paid x)) h3 (transfers_soothe 4 1 p.asset 0 x (name real p) (split p x y)) eye c) in
+      let calm_5 : StaysCalm h3 h5 = λ eye c. soothed (entry 5 2 (make_transfer (name real p) (split p x y) p.asset 1) (Paid y)) h4 (transfers_soothe 5 2 p.asset 1 y (name real p) (split p x y)) eye
+      (soothed (entry 4 1 (make_transfer (name real p) (split p x y) p.asset 0) (Paid x)) h3 (transfers_soothe 4 1 p.asset 0 x (name real p) (split p x y)) eye c) in
       let r1 = scene_round p names (deposits real p) (deposits real p) two t2 refl refl (close_1_a e) (close_1_b e) (same (deposits real p)) in
       let r2 = scene_round p names (deposits real p) h3 two r1 refl entered_3 (close_2_a e) (close_2_b e) calm_3 in
       scene_round p names h4 h5 two r2 entered_4 entered_5 (close_3_a e) (close_3_b e) calm_5
@@ -264,15 +265,15 @@ module _ (p : Pair) (sa sb : SignerOf) (ua ub before turn u v x y : ℕ) (ga gb 
   abbrev pub view_5 : WorldView
   view_5 = ended real p 5 (turn + 1 + 1) (p.a + p.b - x - y) x y (x - x) (y - y) ending ((name_of_person p.key_a, p.asset, x) ∷ (name_of_person p.key_b, p.asset, y) ∷ [])
 
-  sees-last-a : saw real (entry 5 2 (Transfer (name real p) (split p x y) p.asset 1) (Paid y)) (a_ends view_4 (Some final_1)) ≡ a_ends view_5 (Some final_1)
+  sees-last-a : saw real (entry 5 2 (make_transfer (name real p) (split p x y) p.asset 1) (Paid y)) (a_ends view_4 (Some final_1)) ≡ a_ends view_5 (Some final_1)
   sees-last-a = simp (bytes_eq_self (name real p), same-number p.asset, w.begins.apart, from-zero y)
 
-  sees-last-b : saw real (entry 5 2 (Transfer (name real p) (split p x y) p.asset 1) (Paid y)) (b_ends view_4 (Some final_2)) ≡ b_ends view_5 (Some final_2)
+  sees-last-b : saw real (entry 5 2 (make_transfer (name real p) (split p x y) p.asset 1) (Paid y)) (b_ends view_4 (Some final_2)) ≡ b_ends view_5 (Some final_2)
   sees-last-b = simp (bytes_eq_self (name real p), same-number p.asset, w.begins.apart, from-zero y)
 
   close_4_a : Does sa a_name h5 [] (a_ends view_3 (Some final_1)) (suc ua) (a_ends view_5 (Some final_1)) (suc ua) [] []
   close_4_a =
-      does sa a_name h5 [] (a_ends view_3 (Some final_1)) (a_ends view_5 (Some final_1)) (a_ends view_5 (Some final_1)) (a_ends view_5 (Some final_1)) (suc ua) (suc ua) [] [] (ap (saw real (entry 5 2 (Transfer (name real p) (split p x y) p.asset 1) (Paid y))) (sees_transfer_a real p 0 3 4 1 (turn + 1 + 1) (p.a + p.b) turn x x y x y p.key_a ending (final_1 ∷ final_2 ∷ []) (marks_b s1 s2) (Some final_1)) ∙ sees-last-a) (none_came sa a_name (a_ends view_5 (Some final_1)) (suc ua))
+      does sa a_name h5 [] (a_ends view_3 (Some final_1)) (a_ends view_5 (Some final_1)) (a_ends view_5 (Some final_1)) (a_ends view_5 (Some final_1)) (suc ua) (suc ua) [] [] (ap (saw real (entry 5 2 (make_transfer (name real p) (split p x y) p.asset 1) (Paid y))) (sees_transfer_a real p 0 3 4 1 (turn + 1 + 1) (p.a + p.b) turn x x y x y p.key_a ending (final_1 ∷ final_2 ∷ []) (marks_b s1 s2) (Some final_1)) ∙ sees-last-a) (none_came sa a_name (a_ends view_5 (Some final_1)) (suc ua))
       (λ j c. tick_waits real p (signing_of sa) sa 0 p.key_a true view_5 (final_1 ∷ final_2 ∷ []) (marks_b s1 s2) (Some final_1) (suc ua) j c []
       (waits_ended real p 0 p.key_a view_5 (turn + 1) (turn + 1 + 1) x y x y (mark 0 s1) (mark 1 s2) (Some final_1))
       (done_a real p 5 (turn + 1 + 1) (p.a + p.b - x - y) (turn + 1) (turn + 1 + 1) x y x y (x - x) (y - y) ending ((name_of_person p.key_a, p.asset, x) ∷ (name_of_person p.key_b, p.asset, y) ∷ []) (mark 0 s1) (mark 1 s2) (Some final_1) w.begins (nothing-left x (p.a + p.b - x - y))))

@@ -4,8 +4,9 @@ use Rattle.std.specs.Prelude.{◌==◌, ◌^◌, nat_lt, Option, Some, None, min
 use Rattle.channel_values.specs.Parts.{StateParts}
 use Rattle.channel_values.specs.declared.chain.Mark.{Mark}
 use Rattle.channel_values.specs.declared.chain.Chain.{Chain}
+use Rattle.call_history.specs.Calls.{make_transfer}
 use Rattle.call_history.specs.declared.view.WorldView.{WorldView}
-use Rattle.call_history.specs.declared.call.Call.TheVariants.{Conclude, Transfer}
+use Rattle.call_history.specs.declared.call.Call.TheVariants.{Conclude}
 use Rattle.channel_values.specs.Support.{support_of, verified_marks}
 use Rattle.call_history.specs.Marked.{marked_of, is_newer}
 use Rattle.call_history.specs.declared.refusal.Reply.TheVariants.{Concluded, Paid}
@@ -174,7 +175,7 @@ module _ (p : Pair) (sa sb : SignerOf) (ua ub before turn u v x y : ℕ) (ga gb 
   h4 = paid_b real p (turn + 1) x y 1 (marks_a s2 s1)
 
   abbrev pub h5 : List Entry
-  h5 = entry 5 1 (Transfer (name real p) (split p x y) p.asset 0) (Paid x) ∷ h4
+  h5 = entry 5 1 (make_transfer (name real p) (split p x y) p.asset 0) (Paid x) ∷ h4
 
   abbrev pub view_3 : WorldView
   view_3 = ended real p 3 (turn + 1 + 1) (p.a + p.b) x y x y ending []
@@ -192,32 +193,32 @@ module _ (p : Pair) (sa sb : SignerOf) (ua ub before turn u v x y : ℕ) (ga gb 
   b_ends view last = mind real p 1 p.key_b true view (final_1 ∷ final_2 ∷ []) (marks_a s2 s1) last
 
   -- the second sees the conclusion in the same round, and is paid
-  close_2_b : Ends → Does sb b_name h3 letter_1 b_1 (suc ub) (b_ends view_3 (Some final_1)) (suc ub) [] (Transfer (name real p) (split p x y) p.asset 1 ∷ [])
+  close_2_b : Ends → Does sb b_name h3 letter_1 b_1 (suc ub) (b_ends view_3 (Some final_1)) (suc ub) [] (make_transfer (name real p) (split p x y) p.asset 1 ∷ [])
   close_2_b e =
-      does sb b_name h3 letter_1 b_1 (b_ends view_3 (Some final_1)) (b_ends view_3 (Some final_1)) (b_ends view_3 (Some final_1)) (suc ub) (suc ub) [] (Transfer (name real p) (split p x y) p.asset 1 ∷ [])
+      does sb b_name h3 letter_1 b_1 (b_ends view_3 (Some final_1)) (b_ends view_3 (Some final_1)) (b_ends view_3 (Some final_1)) (suc ub) (suc ub) [] (make_transfer (name real p) (split p x y) p.asset 1 ∷ [])
       (sees_conclude real p 1 1 (turn + 1 + 1) (turn + 1) (turn + 1 + 1) x y p.key_b (latest ∷ final_1 ∷ []) (marks_a s2 s1) (marks_b ga s1) (Some final_1) e.newer)
       (passes sb b_name a_name (bytes p sb ub final_1) (b_ends view_3 (Some final_1)) (suc ub) w.begins.apart)
-      (λ j c. tick_waits real p (signing_of sb) sb 1 p.key_b true view_3 (final_1 ∷ final_2 ∷ []) (marks_a s2 s1) (Some final_1) (suc ub) j c (Transfer (name real p) (split p x y) p.asset 1 ∷ [])
+      (λ j c. tick_waits real p (signing_of sb) sb 1 p.key_b true view_3 (final_1 ∷ final_2 ∷ []) (marks_a s2 s1) (Some final_1) (suc ub) j c (make_transfer (name real p) (split p x y) p.asset 1 ∷ [])
       (waits_ended real p 1 p.key_b view_3 (turn + 1) (turn + 1 + 1) x y x y (mark 1 s2) (mark 0 s1) (Some final_1))
       (transfers_b real p 3 (turn + 1 + 1) (p.a + p.b) (turn + 1) (turn + 1 + 1) x y x y x y ending [] (mark 1 s2) (mark 0 s1) (Some final_1) w.begins (due-second x y (p.a + p.b) e.some_y e.sum)))
 
-  close_3_a : Ends → Does sa a_name h4 letter_2 a_2 (suc ua) (a_ends view_4 (Some final_2)) (suc ua) [] (Transfer (name real p) (split p x y) p.asset 0 ∷ [])
+  close_3_a : Ends → Does sa a_name h4 letter_2 a_2 (suc ua) (a_ends view_4 (Some final_2)) (suc ua) [] (make_transfer (name real p) (split p x y) p.asset 0 ∷ [])
   close_3_a e =
-      does sa a_name h4 letter_2 a_2 (a_ends view_4 (Some final_2)) (a_ends view_4 (Some final_2)) (a_ends view_4 (Some final_2)) (suc ua) (suc ua) [] (Transfer (name real p) (split p x y) p.asset 0 ∷ [])
-      (ap (saw real (entry 4 2 (Transfer (name real p) (split p x y) p.asset 1) (Paid y))) (sees_own_conclude real p 0 1 (turn + 1 + 1) (turn + 1) (turn + 1 + 1) x y p.key_a (marks_a s2 s1) (Some final_2) e.alike)
+      does sa a_name h4 letter_2 a_2 (a_ends view_4 (Some final_2)) (a_ends view_4 (Some final_2)) (a_ends view_4 (Some final_2)) (suc ua) (suc ua) [] (make_transfer (name real p) (split p x y) p.asset 0 ∷ [])
+      (ap (saw real (entry 4 2 (make_transfer (name real p) (split p x y) p.asset 1) (Paid y))) (sees_own_conclude real p 0 1 (turn + 1 + 1) (turn + 1) (turn + 1 + 1) x y p.key_a (marks_a s2 s1) (Some final_2) e.alike)
       ∙ sees_transfer_b real p 0 3 4 2 (turn + 1 + 1) (p.a + p.b) turn y x y x y p.key_a ending (final_1 ∷ final_2 ∷ []) (marks_a s2 s1) (Some final_2))
       (passes sa a_name b_name (bytes p sa ua final_2) (a_ends view_4 (Some final_2)) (suc ua) (flips a_name b_name w.begins.apart))
-      (λ j c. tick_waits real p (signing_of sa) sa 0 p.key_a true view_4 (final_1 ∷ final_2 ∷ []) (marks_a s2 s1) (Some final_2) (suc ua) j c (Transfer (name real p) (split p x y) p.asset 0 ∷ [])
+      (λ j c. tick_waits real p (signing_of sa) sa 0 p.key_a true view_4 (final_1 ∷ final_2 ∷ []) (marks_a s2 s1) (Some final_2) (suc ua) j c (make_transfer (name real p) (split p x y) p.asset 0 ∷ [])
       (waits_ended real p 0 p.key_a view_4 (turn + 1) (turn + 1 + 1) x y x y (mark 1 s2) (mark 0 s1) (Some final_2))
       (transfers_a real p 4 (turn + 1 + 1) (p.a + p.b - y) (turn + 1) (turn + 1 + 1) x y x y x (y - y) ending ((name_of_person p.key_b, p.asset, y) ∷ []) (mark 1 s2) (mark 0 s1) (Some final_2) w.begins (due-first x y (p.a + p.b) e.some_x e.sum)))
 
-  sees-last : saw real (entry 5 1 (Transfer (name real p) (split p x y) p.asset 0) (Paid x)) (b_ends view_4 (Some final_1)) ≡ b_ends view_5 (Some final_1)
+  sees-last : saw real (entry 5 1 (make_transfer (name real p) (split p x y) p.asset 0) (Paid x)) (b_ends view_4 (Some final_1)) ≡ b_ends view_5 (Some final_1)
   sees-last = simp (bytes_eq_self (name real p), same-number p.asset, flips (name_of_person p.key_a) (name_of_person p.key_b) w.begins.apart, from-zero x)
 
   close_3_b : Ends → Does sb b_name h5 letter_2 (b_ends view_3 (Some final_1)) (suc ub) (b_ends view_5 (Some final_1)) (suc ub) [] []
   close_3_b e =
       does sb b_name h5 letter_2 (b_ends view_3 (Some final_1)) (b_ends view_5 (Some final_1)) (b_ends view_5 (Some final_1)) (b_ends view_5 (Some final_1)) (suc ub) (suc ub) [] []
-      (ap (saw real (entry 5 1 (Transfer (name real p) (split p x y) p.asset 0) (Paid x))) (sees_transfer_b real p 1 3 4 2 (turn + 1 + 1) (p.a + p.b) turn y x y x y p.key_b ending (final_1 ∷ final_2 ∷ []) (marks_a s2 s1) (Some final_1)) ∙ sees-last)
+      (ap (saw real (entry 5 1 (make_transfer (name real p) (split p x y) p.asset 0) (Paid x))) (sees_transfer_b real p 1 3 4 2 (turn + 1 + 1) (p.a + p.b) turn y x y x y p.key_b ending (final_1 ∷ final_2 ∷ []) (marks_a s2 s1) (Some final_1)) ∙ sees-last)
       (λ j c. came sb b_name (bytes p sa ua final_2) (b_ends view_5 (Some final_1)) (b_ends view_5 (Some final_1)) (suc ub) j c
       (handles_late real p (signing_of sb) sb 1 p.key_b true view_5 (final_1 ∷ final_2 ∷ []) (marks_a s2 s1) (Some final_1) (suc ub) j c (bytes p sa ua final_2) (by final_2 s2)
       (w.reads_a ua (turn + 1 + 1) x y true (below-two turn e.room) e.sum)
@@ -238,18 +239,18 @@ module _ (p : Pair) (sa sb : SignerOf) (ua ub before turn u v x y : ℕ) (ga gb 
       let t2 = scene_told_b names (deposits real p) (both p sa sb ua ub (a_runs p true older latest (marks_a ga gb) la) (b_runs p false older latest (marks_a ga gb) lb)) [] [] (told ways step (Close (name real p)) s 1) step (Close (name real p)) (b_runs p true older latest (marks_a ga gb) lb) ub t1
       (obeys_close_b p sb ub before turn u v x y (mark 1 ga) (mark 0 gb) lb e.runs) in
       let entered_3 = ap (λ (reply : Reply). entry 3 1 (Conclude ending) reply ∷ deposits real p) (replies_conclude real p (turn + 1) x y (marks_a s2 s1) e.supported) in
-      let entered_4 = ap (λ (reply : Reply). entry 4 2 (Transfer (name real p) (split p x y) p.asset 1) reply ∷ h3) (replies_transfer_b real p (turn + 1) x y 1 (marks_a s2 s1) e.sum e.some_y) in
-      let entered_5 = ap (λ (reply : Reply). entry 5 1 (Transfer (name real p) (split p x y) p.asset 0) reply ∷ h4) (replies_then_a real p (turn + 1) x y 1 (marks_a s2 s1) e.sum e.some_x) in
-      let calm_4 : StaysCalm (deposits real p) h4 = λ eye c. soothed (entry 4 2 (Transfer (name real p) (split p x y) p.asset 1) (Paid y)) h3 (transfers_soothe 4 2 p.asset 1 y (name real p) (split p x y)) eye
+      let entered_4 = ap (λ (reply : Reply). entry 4 2 (make_transfer (name real p) (split p x y) p.asset 1) reply ∷ h3) (replies_transfer_b real p (turn + 1) x y 1 (marks_a s2 s1) e.sum e.some_y) in
+      let entered_5 = ap (λ (reply : Reply). entry 5 1 (make_transfer (name real p) (split p x y) p.asset 0) reply ∷ h4) (replies_then_a real p (turn + 1) x y 1 (marks_a s2 s1) e.sum e.some_x) in
+      let calm_4 : StaysCalm (deposits real p) h4 = λ eye c. soothed (entry 4 2 (make_transfer (name real p) (split p x y) p.asset 1) (Paid y)) h3 (transfers_soothe 4 2 p.asset 1 y (name real p) (split p x y)) eye
       (soothed (entry 3 1 (Conclude ending) (Concluded (turn + 1 + 1))) (deposits real p) (conclusions_soothe 3 1 (turn + 1 + 1) ending) eye c) in
-      let calm_5 : StaysCalm h4 h5 = soothed (entry 5 1 (Transfer (name real p) (split p x y) p.asset 0) (Paid x)) h4 (transfers_soothe 5 1 p.asset 0 x (name real p) (split p x y)) in
+      let calm_5 : StaysCalm h4 h5 = soothed (entry 5 1 (make_transfer (name real p) (split p x y) p.asset 0) (Paid x)) h4 (transfers_soothe 5 1 p.asset 0 x (name real p) (split p x y)) in
       let r1 = scene_round p names (deposits real p) (deposits real p) two t2 refl refl (close_1_a e) (close_1_b e) (same (deposits real p)) in
       let r2 = scene_round p names h3 h4 two r1 entered_3 entered_4 (close_2_a e) (close_2_b e) calm_4 in
       scene_round p names h5 h5 two r2 entered_5 refl (close_3_a e) (close_3_b e) calm_5
 
   -- ---- and then nothing happens
 
-  sees-last-a : saw real (entry 5 1 (Transfer (name real p) (split p x y) p.asset 0) (Paid x)) (a_ends view_4 (Some final_2)) ≡ a_ends view_5 (Some final_2)
+  sees-last-a : saw real (entry 5 1 (make_transfer (name real p) (split p x y) p.asset 0) (Paid x)) (a_ends view_4 (Some final_2)) ≡ a_ends view_5 (Some final_2)
   sees-last-a = simp (bytes_eq_self (name real p), same-number p.asset, (flips (name_of_person p.key_a) (name_of_person p.key_b) w.begins.apart), from-zero x)
 
   close_4_a : Does sa a_name h5 [] (a_ends view_4 (Some final_2)) (suc ua) (a_ends view_5 (Some final_2)) (suc ua) [] []

@@ -11,7 +11,7 @@ use Rattle.load.specs.Paying as told
 use Rattle.load.proofs.Making.{signer_of, limit_is}
 use Rattle.load.proofs.Scene.{amounts, length-amounts, whose-turn}
 
--- ---- one more payment behind others
+-- ---- one more payment after others
 
 covered-more : (t : Bool) (x y : ℕ) (xs : List ℕ) (a : ℕ) → all_covered t x y xs → a ≤ cond (turns t xs) (first_has t x y xs) (second_has t x y xs) → all_covered t x y (xs ++ a ∷ [])
 covered-more true x y [] a all le = (le, tt)

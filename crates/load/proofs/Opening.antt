@@ -7,7 +7,7 @@ use Rattle.std.proofs.lemmas.Bool.Decides.{nat_tests}
 use Rattle.channel_values.specs.Parts.{StateParts}
 use Rattle.channel_values.specs.Digests.{name_of_person}
 use Rattle.channel_values.specs.Rules.{Rules}
-use Rattle.call_history.specs.declared.call.Call.TheVariants.{Deposit}
+use Rattle.call_history.specs.Calls.{make_deposit}
 use Rattle.call_history.proofs.Names.{bytes_eq_self}
 use Rattle.history_view.specs.Views.{unseen}
 use Rattle.channel_node.specs.Minds.{facts_of}
@@ -99,7 +99,7 @@ rest : (a b : ℕ) → a + 0 + b - a ≡ b
 rest a b = omega arith
 
 pub deposits_a : (r : Rules) (p : Pair) (last : Option StateParts) (ga gb : List ℕ) → Begins r p
-    → calls_in (facts_of (mind r p 0 p.key_a false unseen (state p 0 false p.a p.b ∷ state p 1 false p.a p.b ∷ []) (marks_b ga gb) last)) ≡ Deposit (name r p) p.asset 0 p.a ∷ []
+    → calls_in (facts_of (mind r p 0 p.key_a false unseen (state p 0 false p.a p.b ∷ state p 1 false p.a p.b ∷ []) (marks_b ga gb) last)) ≡ make_deposit (name r p) p.asset 0 p.a ∷ []
 deposits_a r p last ga gb w =
     simp (bytes_eq_self (name r p), bytes_eq_self (name_of_person p.key_a), unpaid p.a p.b w.some_a, some p.a w.some_a, just p.a, same-number p.asset)
 
@@ -109,7 +109,7 @@ deposits_late r p last ga gb w =
     simp (bytes_eq_self (name r p), bytes_eq_self (name_of_person p.key_b), w.apart, unpaid p.a p.b w.some_a, none-yet p.a w.some_a, same-number p.asset)
 
 pub deposits_b : (r : Rules) (p : Pair) (last : Option StateParts) (ga gb : List ℕ) → Begins r p
-    → calls_in (facts_of (mind r p 1 p.key_b false (seeing r p 1 p.a) (state p 0 false p.a p.b ∷ state p 1 false p.a p.b ∷ []) (marks_b ga gb) last)) ≡ Deposit (name r p) p.asset p.a p.b ∷ []
+    → calls_in (facts_of (mind r p 1 p.key_b false (seeing r p 1 p.a) (state p 0 false p.a p.b ∷ state p 1 false p.a p.b ∷ []) (marks_b ga gb) last)) ≡ make_deposit (name r p) p.asset p.a p.b ∷ []
 deposits_b r p last ga gb w =
     simp (bytes_eq_self (name r p), bytes_eq_self (name_of_person p.key_b), w.apart, half p.a p.b w.some_b, reached p.a, beyond p.a p.b w.some_b, rest p.a p.b, same-number p.asset)
 

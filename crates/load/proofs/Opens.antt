@@ -5,8 +5,8 @@ use Rattle.std.proofs.Common.{◌≡◌, ℕ, suc, ◌+◌, true, false, List, [
 use Rattle.std.specs.Prelude.{nat_lt, Option, Some, None}
 use Rattle.channel_values.specs.Parts.{StateParts}
 use Rattle.channel_values.specs.declared.chain.Mark.{Mark}
+use Rattle.call_history.specs.Calls.{make_deposit}
 use Rattle.call_history.specs.declared.call.Call.{Call}
-use Rattle.call_history.specs.declared.call.Call.TheVariants.{Deposit}
 use Rattle.call_history.specs.declared.call.Op.TheVariants as ops
 use Rattle.call_history.specs.declared.entry.Entry.{Entry}
 use Rattle.call_history.specs.declared.refusal.Reply.{Reply}
@@ -62,8 +62,8 @@ opens p sa sb ua ub names s w two a0 a1 b0 b1 start =
     let m1 : Mark = mark 0 (sig_2 p sa sb ua ub w) in
     let m2 : Mark = mark 1 (sig_3 p sa sb ua ub w) in
     let h1 : List Entry = first_entry real p 1 ∷ [] in
-    let entered_1 = ap (λ (reply : Reply). record { number = 1; by = 1; op = ops.Call (Deposit (name real p) p.asset 0 p.a); reply = reply } ∷ []) (replies_first real p w.begins w.small) in
-    let entered_2 = ap (λ (reply : Reply). record { number = 2; by = 2; op = ops.Call (Deposit (name real p) p.asset p.a p.b); reply = reply } ∷ h1) (replies_second real p 1 w.begins w.small) in
+    let entered_1 = ap (λ (reply : Reply). record { number = 1; by = 1; op = ops.Call (make_deposit (name real p) p.asset 0 p.a); reply = reply } ∷ []) (replies_first real p w.begins w.small) in
+    let entered_2 = ap (λ (reply : Reply). record { number = 2; by = 2; op = ops.Call (make_deposit (name real p) p.asset p.a p.b); reply = reply } ∷ h1) (replies_second real p 1 w.begins w.small) in
     let calm : StaysCalm [] (deposits real p) = λ eye c. soothed (second_entry real p 2) h1 (deposits_soothe 2 2 p.asset p.a p.b (p.a + p.b) (name real p)) eye
     (soothed (first_entry real p 1) [] (deposits_soothe 1 1 p.asset 0 p.a (0 + p.a) (name real p)) eye c) in
     let r1 = scene_round p names [] [] two start refl refl (round_1_a p sa sb ua ub w a0) (round_1_b p sa sb ua ub w) (same []) in

@@ -5,11 +5,11 @@ use Rattle.std.specs.Prelude.{◌^◌, nat_lt, fold, Option, Some, None, Ok}
 use Rattle.std.specs.Str.{bytes_eq}
 use Rattle.channel_values.specs.Parts.{StateParts}
 use Rattle.channel_values.specs.declared.chain.Mark.{Mark}
+use Rattle.call_history.specs.Calls.{make_deposit}
 use Rattle.call_history.proofs.Names.{bytes_eq_self}
 use Rattle.call_history.specs.Reading.{message_of}
 use Rattle.call_history.specs.Spelling.{message}
 use Rattle.call_history.specs.declared.call.Call.{Call}
-use Rattle.call_history.specs.declared.call.Call.TheVariants.{Deposit}
 use Rattle.call_history.specs.declared.entry.Entry.{Entry}
 use Rattle.call_history.specs.declared.view.WorldView.{WorldView}
 use Rattle.channel_values.specs.Digests.{name_of_person}
@@ -130,21 +130,21 @@ module _ (p : Pair) (sa sb : SignerOf) (ua ub : ℕ) (w : Fits p sa sb) where
       (λ j c. tick_signs real p (signing_of sb) sb 1 p.key_b false unseen (at 0 ∷ []) (mark 0 sig_0 ∷ []) None ub j c (at 1) a_name (at 0 ∷ at 1 ∷ []) (marks_b sig_0 sig_1) (Some (at 1)) [] room_b_0
       (signs_1 real p None sig_0 w.begins) (notes_second real p true 1 p.key_b unseen None sig_0 sig_1 (w.well_b ub (at 1) room_b_0) (w.begins.repeats 0 (omega arith))) (sends_a real p p.key_b false unseen (at 0 ∷ at 1 ∷ []) (marks_b sig_0 sig_1) (Some (at 1)) (at 1) sig_1) (deposits_late real p (Some (at 1)) sig_0 sig_1 w.begins))
 
-  pub round_3_a : nat_lt ub (signing_of sb).limit ≡ true → Does sa a_name [] ((a_name, bytes p sb ub (at 1)) ∷ []) (a_knows unseen (at 0 ∷ []) (mark 0 sig_0 ∷ []) (Some (at 0))) (suc ua) (a_knows unseen (at 0 ∷ at 1 ∷ []) (marks_b sig_0 sig_1) (Some (at 0))) (suc ua) [] (Deposit (name real p) p.asset 0 p.a ∷ [])
+  pub round_3_a : nat_lt ub (signing_of sb).limit ≡ true → Does sa a_name [] ((a_name, bytes p sb ub (at 1)) ∷ []) (a_knows unseen (at 0 ∷ []) (mark 0 sig_0 ∷ []) (Some (at 0))) (suc ua) (a_knows unseen (at 0 ∷ at 1 ∷ []) (marks_b sig_0 sig_1) (Some (at 0))) (suc ua) [] (make_deposit (name real p) p.asset 0 p.a ∷ [])
   round_3_a room_b_0 =
-      does sa a_name [] ((a_name, bytes p sb ub (at 1)) ∷ []) (a_knows unseen (at 0 ∷ []) (mark 0 sig_0 ∷ []) (Some (at 0))) (a_knows unseen (at 0 ∷ []) (mark 0 sig_0 ∷ []) (Some (at 0))) (a_knows unseen (at 0 ∷ at 1 ∷ []) (marks_b sig_0 sig_1) (Some (at 0))) (a_knows unseen (at 0 ∷ at 1 ∷ []) (marks_b sig_0 sig_1) (Some (at 0))) (suc ua) (suc ua) [] (Deposit (name real p) p.asset 0 p.a ∷ []) refl
+      does sa a_name [] ((a_name, bytes p sb ub (at 1)) ∷ []) (a_knows unseen (at 0 ∷ []) (mark 0 sig_0 ∷ []) (Some (at 0))) (a_knows unseen (at 0 ∷ []) (mark 0 sig_0 ∷ []) (Some (at 0))) (a_knows unseen (at 0 ∷ at 1 ∷ []) (marks_b sig_0 sig_1) (Some (at 0))) (a_knows unseen (at 0 ∷ at 1 ∷ []) (marks_b sig_0 sig_1) (Some (at 0))) (suc ua) (suc ua) [] (make_deposit (name real p) p.asset 0 p.a ∷ []) refl
       (λ j c. came sa a_name (bytes p sb ub (at 1)) (a_knows unseen (at 0 ∷ []) (mark 0 sig_0 ∷ []) (Some (at 0))) (a_knows unseen (at 0 ∷ at 1 ∷ []) (marks_b sig_0 sig_1) (Some (at 0))) (suc ua) j c (handles real p (signing_of sa) sa 0 p.key_a false unseen (at 0 ∷ []) (mark 0 sig_0 ∷ []) (Some (at 0)) (suc ua) j c (bytes p sb ub (at 1)) (by (at 1) sig_1) (at 0 ∷ at 1 ∷ []) (marks_b sig_0 sig_1) (Some (at 0))
       (w.reads_b ub 1 p.a p.b false (omega arith) refl) (takes_1 real p (Some (at 0)) sig_0 sig_1 w.begins (w.well_b ub (at 1) room_b_0)) (notes_second real p false 0 p.key_a unseen (Some (at 0)) sig_0 sig_1 (w.well_b ub (at 1) room_b_0) (w.begins.repeats 0 (omega arith)))))
-      (λ j c. tick_waits real p (signing_of sa) sa 0 p.key_a false unseen (at 0 ∷ at 1 ∷ []) (marks_b sig_0 sig_1) (Some (at 0)) (suc ua) j c (Deposit (name real p) p.asset 0 p.a ∷ []) (waits_unfunded real p 0 p.key_a (Some (at 0)) sig_0 sig_1 w.begins) (deposits_a real p (Some (at 0)) sig_0 sig_1 w.begins))
+      (λ j c. tick_waits real p (signing_of sa) sa 0 p.key_a false unseen (at 0 ∷ at 1 ∷ []) (marks_b sig_0 sig_1) (Some (at 0)) (suc ua) j c (make_deposit (name real p) p.asset 0 p.a ∷ []) (waits_unfunded real p 0 p.key_a (Some (at 0)) sig_0 sig_1 w.begins) (deposits_a real p (Some (at 0)) sig_0 sig_1 w.begins))
 
   abbrev pub by_first : List Entry
   by_first = first_entry real p 1 ∷ []
 
-  pub round_3_b : Does sb b_name by_first ((a_name, bytes p sb ub (at 1)) ∷ []) (b_knows unseen (at 0 ∷ at 1 ∷ []) (marks_b sig_0 sig_1) (Some (at 1))) (suc ub) (b_knows (seeing real p 1 p.a) (at 0 ∷ at 1 ∷ []) (marks_b sig_0 sig_1) (Some (at 1))) (suc ub) [] (Deposit (name real p) p.asset p.a p.b ∷ [])
+  pub round_3_b : Does sb b_name by_first ((a_name, bytes p sb ub (at 1)) ∷ []) (b_knows unseen (at 0 ∷ at 1 ∷ []) (marks_b sig_0 sig_1) (Some (at 1))) (suc ub) (b_knows (seeing real p 1 p.a) (at 0 ∷ at 1 ∷ []) (marks_b sig_0 sig_1) (Some (at 1))) (suc ub) [] (make_deposit (name real p) p.asset p.a p.b ∷ [])
   round_3_b =
-      does sb b_name by_first ((a_name, bytes p sb ub (at 1)) ∷ []) (b_knows unseen (at 0 ∷ at 1 ∷ []) (marks_b sig_0 sig_1) (Some (at 1))) (b_knows (seeing real p 1 p.a) (at 0 ∷ at 1 ∷ []) (marks_b sig_0 sig_1) (Some (at 1))) (b_knows (seeing real p 1 p.a) (at 0 ∷ at 1 ∷ []) (marks_b sig_0 sig_1) (Some (at 1))) (b_knows (seeing real p 1 p.a) (at 0 ∷ at 1 ∷ []) (marks_b sig_0 sig_1) (Some (at 1))) (suc ub) (suc ub) [] (Deposit (name real p) p.asset p.a p.b ∷ []) (sees_first real p 1 1 (0 + p.a) p.key_b false (at 0 ∷ at 1 ∷ []) (marks_b sig_0 sig_1) (Some (at 1)))
+      does sb b_name by_first ((a_name, bytes p sb ub (at 1)) ∷ []) (b_knows unseen (at 0 ∷ at 1 ∷ []) (marks_b sig_0 sig_1) (Some (at 1))) (b_knows (seeing real p 1 p.a) (at 0 ∷ at 1 ∷ []) (marks_b sig_0 sig_1) (Some (at 1))) (b_knows (seeing real p 1 p.a) (at 0 ∷ at 1 ∷ []) (marks_b sig_0 sig_1) (Some (at 1))) (b_knows (seeing real p 1 p.a) (at 0 ∷ at 1 ∷ []) (marks_b sig_0 sig_1) (Some (at 1))) (suc ub) (suc ub) [] (make_deposit (name real p) p.asset p.a p.b ∷ []) (sees_first real p 1 1 (0 + p.a) p.key_b false (at 0 ∷ at 1 ∷ []) (marks_b sig_0 sig_1) (Some (at 1)))
       (passes sb b_name a_name (bytes p sb ub (at 1)) (b_knows (seeing real p 1 p.a) (at 0 ∷ at 1 ∷ []) (marks_b sig_0 sig_1) (Some (at 1))) (suc ub) w.begins.apart)
-      (λ j c. tick_waits real p (signing_of sb) sb 1 p.key_b false (seeing real p 1 p.a) (at 0 ∷ at 1 ∷ []) (marks_b sig_0 sig_1) (Some (at 1)) (suc ub) j c (Deposit (name real p) p.asset p.a p.b ∷ []) (waits_half real p 1 p.key_b (Some (at 1)) sig_0 sig_1 w.begins) (deposits_b real p (Some (at 1)) sig_0 sig_1 w.begins))
+      (λ j c. tick_waits real p (signing_of sb) sb 1 p.key_b false (seeing real p 1 p.a) (at 0 ∷ at 1 ∷ []) (marks_b sig_0 sig_1) (Some (at 1)) (suc ub) j c (make_deposit (name real p) p.asset p.a p.b ∷ []) (waits_half real p 1 p.key_b (Some (at 1)) sig_0 sig_1 w.begins) (deposits_b real p (Some (at 1)) sig_0 sig_1 w.begins))
 
   pub round_4_a : nat_lt (suc ua) (signing_of sa).limit ≡ true → Does sa a_name (deposits real p) [] (a_knows unseen (at 0 ∷ at 1 ∷ []) (marks_b sig_0 sig_1) (Some (at 0))) (suc ua) (a_knows (funded real p) (at 1 ∷ at 2 ∷ []) (marks_a sig_2 sig_1) (Some (at 2))) (suc (suc ua)) ((b_name, bytes p sa (suc ua) (at 2)) ∷ []) []
   round_4_a room_a_1 =

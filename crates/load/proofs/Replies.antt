@@ -5,8 +5,9 @@ use Rattle.std.specs.Prelude.{◌^◌, nat_lt, Ok, min}
 use Rattle.std.proofs.lemmas.Bool.Decides.{nat_tests}
 use Rattle.channel_values.specs.declared.chain.Mark.{Mark}
 use Rattle.channel_values.specs.Rules.{Rules}
+use Rattle.call_history.specs.Calls.{make_deposit, make_transfer}
 use Rattle.call_history.specs.declared.call.Call.{Call}
-use Rattle.call_history.specs.declared.call.Call.TheVariants.{Deposit, Conclude, Transfer}
+use Rattle.call_history.specs.declared.call.Call.TheVariants.{Conclude}
 use Rattle.call_history.proofs.Names.{bytes_eq_self}
 use Rattle.load.proofs.PairNumbers.{same-number, not-less, zeroless}
 use Rattle.load.specs.Pair.{state, split, chain}
@@ -36,11 +37,11 @@ held-one a = omega arith
 held-both : (a b : ℕ) → 0 + b + a - 0 ≡ a + b
 held-both a b = omega arith
 
-pub replies_first : (r : Rules) (p : Pair) → Begins r p → Small p → reply_to r [] (ops.Call (Deposit (name r p) p.asset 0 p.a)) ≡ Held (0 + p.a)
+pub replies_first : (r : Rules) (p : Pair) → Begins r p → Small p → reply_to r [] (ops.Call (make_deposit (name r p) p.asset 0 p.a)) ≡ Held (0 + p.a)
 unfolding reply_to
 replies_first r p b w = simp (zeroless p.a b.some_a, fits-one p.a p.b w.sum)
 
-pub replies_second : (r : Rules) (p : Pair) (caller : ℕ) → Begins r p → Small p → reply_to r (first_entry r p caller ∷ []) (ops.Call (Deposit (name r p) p.asset p.a p.b)) ≡ Held (p.a + p.b)
+pub replies_second : (r : Rules) (p : Pair) (caller : ℕ) → Begins r p → Small p → reply_to r (first_entry r p caller ∷ []) (ops.Call (make_deposit (name r p) p.asset p.a p.b)) ≡ Held (p.a + p.b)
 unfolding reply_to
 replies_second r p caller b w = simp (bytes_eq_self (name r p), same-number p.asset, held-one p.a, zeroless p.b b.some_b, not-less p.a, fits-both p.a p.b w.sum)
 
@@ -60,7 +61,7 @@ all-held : (a b x y : ℕ) → x + y ≡ a + b → min (x - 0) (a + b - 0) ≡ x
 all-held a b x y e = omega arith
 
 pub replies_transfer_a : (r : Rules) (p : Pair) (turn x y caller : ℕ) (marks : List Mark) → x + y ≡ p.a + p.b → 0 < x
-    → reply_to r (concluded r p turn x y caller marks) (ops.Call (Transfer (name r p) (split p x y) p.asset 0)) ≡ Paid x
+    → reply_to r (concluded r p turn x y caller marks) (ops.Call (make_transfer (name r p) (split p x y) p.asset 0)) ≡ Paid x
 unfolding reply_to
 replies_transfer_a r p turn x y caller marks sum some = simp (bytes_eq_self, same-number p.asset, held-both p.a p.b, all-held p.a p.b x y sum, zeroless x some)
 
@@ -68,13 +69,13 @@ second-held : (a b x y : ℕ) → x + y ≡ a + b → min (y - 0) (a + b - (0 + 
 second-held a b x y e = omega arith
 
 pub replies_transfer_b : (r : Rules) (p : Pair) (turn x y caller : ℕ) (marks : List Mark) → x + y ≡ p.a + p.b → 0 < y
-    → reply_to r (concluded r p turn x y caller marks) (ops.Call (Transfer (name r p) (split p x y) p.asset 1)) ≡ Paid y
+    → reply_to r (concluded r p turn x y caller marks) (ops.Call (make_transfer (name r p) (split p x y) p.asset 1)) ≡ Paid y
 unfolding reply_to
 replies_transfer_b r p turn x y caller marks sum some = simp (bytes_eq_self, same-number p.asset, held-both p.a p.b, second-held p.a p.b x y sum, zeroless y some)
 
 -- one of the two was paid already
 abbrev pub paid_a : Rules → Pair → (turn x y caller : ℕ) → List Mark → List Entry
-paid_a r p turn x y caller marks = entry 4 1 (Transfer (name r p) (split p x y) p.asset 0) (Paid x) ∷ concluded r p turn x y caller marks
+paid_a r p turn x y caller marks = entry 4 1 (make_transfer (name r p) (split p x y) p.asset 0) (Paid x) ∷ concluded r p turn x y caller marks
 
 abbrev pub paid_b : Rules → Pair → (turn x y caller : ℕ) → List Mark → List Entry
-paid_b r p turn x y caller marks = entry 4 2 (Transfer (name r p) (split p x y) p.asset 1) (Paid y) ∷ concluded r p turn x y caller marks
+paid_b r p turn x y caller marks = entry 4 2 (make_transfer (name r p) (split p x y) p.asset 1) (Paid y) ∷ concluded r p turn x y caller marks

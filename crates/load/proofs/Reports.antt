@@ -1,4 +1,4 @@
--- The report of a load tells that both finished.
+-- The report of a load says that both finished.
 use Rattle.std.proofs.Common.{◌≡◌, ℕ, ◌≤◌, Bool, true, false, ◌&&◌, List, [], ◌∷◌, ◌++◌, length, inl, inr, refl, sym, ◌∙◌, ap, subst}
 use Rattle.std.specs.Prelude.{All, Some, None, map, flat_map, reverse}
 use Rattle.std.proofs.lemmas.List.{reverse-reverse}

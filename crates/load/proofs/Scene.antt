@@ -146,7 +146,7 @@ whose-turn seed (suc count) =
 two-on : (n k : ℕ) → n + 2 + 2 * k ≡ n + 2 * suc k
 two-on n k = omega arith
 
--- one more payment behind others
+-- one more payment after others
 paying-more : (seed : ℕ) (t : Bool) (number : ℕ) (xs : List ℕ) (x : ℕ) (s : SceneOf Numbered)
     → paying (pair_of seed) t number (xs ++ x ∷ []) s ≡ one-paid seed (turns t xs) (number + 2 * length xs) x (paying (pair_of seed) t number xs s)
 paying-more seed t number [] x s = ap (λ (n : ℕ). one-paid seed t n x s) (no-more number)

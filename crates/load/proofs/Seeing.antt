@@ -8,7 +8,8 @@ use Rattle.channel_values.specs.declared.chain.Mark.{Mark}
 use Rattle.channel_values.specs.declared.chain.Signed.{Signed}
 use Rattle.channel_values.specs.Digests.{name_of_person}
 use Rattle.channel_values.specs.Rules.{Rules}
-use Rattle.call_history.specs.declared.call.Call.TheVariants.{Deposit, Conclude, Transfer}
+use Rattle.call_history.specs.Calls.{make_deposit, make_transfer}
+use Rattle.call_history.specs.declared.call.Call.TheVariants.{Conclude}
 use Rattle.call_history.specs.declared.event.NodeRefusal.{NodeRefusal}
 use Rattle.call_history.specs.declared.view.WorldView.{WorldView}
 use Rattle.call_history.proofs.Names.{bytes_eq_self}
@@ -57,11 +58,11 @@ opened_b r p apart = simp (bytes_eq_self p.key_b, apart)
 -- ---- deposits
 
 pub sees_first : (r : Rules) (p : Pair) (me by n : ℕ) (key : List ℕ) (closing : Bool) (states : List StateParts) (marks : List Mark) (last : Option StateParts)
-    → saw r (entry 1 by (Deposit (name r p) p.asset 0 p.a) (Held n)) (mind r p me key closing unseen states marks last) ≡ mind r p me key closing (seeing r p 1 p.a) states marks last
+    → saw r (entry 1 by (make_deposit (name r p) p.asset 0 p.a) (Held n)) (mind r p me key closing unseen states marks last) ≡ mind r p me key closing (seeing r p 1 p.a) states marks last
 sees_first r p me by n key closing states marks last = simp (from-zero p.a)
 
 pub sees_second : (r : Rules) (p : Pair) (me by n : ℕ) (key : List ℕ) (closing : Bool) (states : List StateParts) (marks : List Mark) (last : Option StateParts)
-    → saw r (entry 2 by (Deposit (name r p) p.asset p.a p.b) (Held n)) (mind r p me key closing (seeing r p 1 p.a) states marks last) ≡ mind r p me key closing (funded r p) states marks last
+    → saw r (entry 2 by (make_deposit (name r p) p.asset p.a p.b) (Held n)) (mind r p me key closing (seeing r p 1 p.a) states marks last) ≡ mind r p me key closing (funded r p) states marks last
 sees_second r p me by n key closing states marks last = simp (bytes_eq_self (name r p), same-number p.asset)
 
 abbrev pub Balance : Type 0
@@ -123,13 +124,13 @@ waits_ended r p me key view before turn u v x y m1 m2 last =
 
 pub transfers_a : (r : Rules) (p : Pair) (count n held before turn u v x y left_x left_y : ℕ) (c : Chain) (paid : List Balance) (m1 m2 : Mark) (last : Option StateParts) → Begins r p
     → (min left_x held == 0) ≡ false
-    → calls_in (facts_of (mind r p 0 p.key_a true (ended r p count n held x y left_x left_y c paid) (state p before true u v ∷ state p turn true x y ∷ []) (m1 ∷ m2 ∷ []) last)) ≡ Transfer (name r p) (split p x y) p.asset 0 ∷ []
+    → calls_in (facts_of (mind r p 0 p.key_a true (ended r p count n held x y left_x left_y c paid) (state p before true u v ∷ state p turn true x y ∷ []) (m1 ∷ m2 ∷ []) last)) ≡ make_transfer (name r p) (split p x y) p.asset 0 ∷ []
 transfers_a r p count n held before turn u v x y left_x left_y c paid m1 m2 last b due =
     simp (bytes_eq_self (name r p), bytes_eq_self (name_of_person p.key_a), due, same-number p.asset)
 
 pub transfers_b : (r : Rules) (p : Pair) (count n held before turn u v x y left_x left_y : ℕ) (c : Chain) (paid : List Balance) (m1 m2 : Mark) (last : Option StateParts) → Begins r p
     → (min left_y (held - left_x) == 0) ≡ false
-    → calls_in (facts_of (mind r p 1 p.key_b true (ended r p count n held x y left_x left_y c paid) (state p before true u v ∷ state p turn true x y ∷ []) (m1 ∷ m2 ∷ []) last)) ≡ Transfer (name r p) (split p x y) p.asset 1 ∷ []
+    → calls_in (facts_of (mind r p 1 p.key_b true (ended r p count n held x y left_x left_y c paid) (state p before true u v ∷ state p turn true x y ∷ []) (m1 ∷ m2 ∷ []) last)) ≡ make_transfer (name r p) (split p x y) p.asset 1 ∷ []
 transfers_b r p count n held before turn u v x y left_x left_y c paid m1 m2 last b due =
     simp (bytes_eq_self (name r p), bytes_eq_self (name_of_person p.key_b), b.apart, due, same-number p.asset)
 
@@ -146,11 +147,11 @@ done_b r p count n held before turn u v x y left_x left_y c paid m1 m2 last b no
     simp (bytes_eq_self (name r p), bytes_eq_self (name_of_person p.key_b), b.apart, none, same-number p.asset)
 
 pub sees_transfer_a : (r : Rules) (p : Pair) (me count number by n held turn amount x y left_x left_y : ℕ) (key : List ℕ) (c : Chain) (states : List StateParts) (marks : List Mark) (last : Option StateParts)
-    → saw r (entry number by (Transfer (name r p) (split p x y) p.asset 0) (Paid amount)) (mind r p me key true (ended r p count n held x y left_x left_y c []) states marks last)
+    → saw r (entry number by (make_transfer (name r p) (split p x y) p.asset 0) (Paid amount)) (mind r p me key true (ended r p count n held x y left_x left_y c []) states marks last)
     ≡ mind r p me key true (ended r p number n (held - amount) x y (left_x - amount) left_y c ((name_of_person p.key_a, p.asset, amount) ∷ [])) states marks last
 sees_transfer_a r p me count number by n held turn amount x y left_x left_y key c states marks last = simp (bytes_eq_self (name r p), same-number p.asset, from-zero amount)
 
 pub sees_transfer_b : (r : Rules) (p : Pair) (me count number by n held turn amount x y left_x left_y : ℕ) (key : List ℕ) (c : Chain) (states : List StateParts) (marks : List Mark) (last : Option StateParts)
-    → saw r (entry number by (Transfer (name r p) (split p x y) p.asset 1) (Paid amount)) (mind r p me key true (ended r p count n held x y left_x left_y c []) states marks last)
+    → saw r (entry number by (make_transfer (name r p) (split p x y) p.asset 1) (Paid amount)) (mind r p me key true (ended r p count n held x y left_x left_y c []) states marks last)
     ≡ mind r p me key true (ended r p number n (held - amount) x y left_x (left_y - amount) c ((name_of_person p.key_b, p.asset, amount) ∷ [])) states marks last
 sees_transfer_b r p me count number by n held turn amount x y left_x left_y key c states marks last = simp (bytes_eq_self (name r p), same-number p.asset, from-zero amount)

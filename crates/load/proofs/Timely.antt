@@ -12,7 +12,7 @@ use Rattle.load.specs.Timely.{WholesAreInTime}
 use Rattle.load.specs.Whole.{IsWhole}
 
 abbrev is_challenge : Op → Bool
-is_challenge (ops.Call (Challenge chain who signature)) = true
+is_challenge (ops.Call (Challenge k)) = true
 is_challenge _ = false
 
 -- none of the five entries challenges

@@ -22,7 +22,7 @@ none-left n = omega arith
 left-none : (n held : ℕ) → n + (min 0 held + 0) ≡ n
 left-none n held = omega arith
 
--- what is told of the one whose balance stands first, and of the one behind it
+-- what is told of the one whose balance stands first, and of the one after it
 pub paid_first : (key : List ℕ) (asset n : ℕ) (rest : List Balance) → paid_amount ((key, asset, n) ∷ rest) key asset ≡ n
 paid_first key asset n rest =
     ap (λ (t : Bool). (if t then (key, asset, n) else found (is_paid key asset) (key, asset, 0) rest).2)

@@ -3,7 +3,8 @@ use Rattle.std.specs.Prelude.{ℕ, List, [], ◌∷◌}
 use Rattle.channel_values.specs.Parts.{FixedParts, fixed_with}
 use Rattle.channel_values.specs.Rules.{Rules}
 
--- The two keys, in the channel's order; what tells the channel from others of the two; and what each has at first.
+-- The two keys, in the channel's order; what distinguishes the channel from others of the two; and what each has at
+-- first.
 pub record Pair : Type 0 where
   pub key_a : List ℕ
   pub key_b : List ℕ

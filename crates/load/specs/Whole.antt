@@ -2,7 +2,8 @@
 use Rattle.std.specs.Prelude.{◌≡◌, ℕ, ◌+◌, List, [], ◌∷◌}
 use Rattle.channel_values.specs.declared.chain.Chain.{Chain}
 use Rattle.channel_values.specs.declared.value.AssetOutcome.{AssetOutcome}
-use Rattle.call_history.specs.declared.call.Call.TheVariants.{Deposit, Conclude, Transfer}
+use Rattle.call_history.specs.Calls.{make_deposit, make_transfer}
+use Rattle.call_history.specs.declared.call.Call.TheVariants.{Conclude}
 use Rattle.call_history.specs.declared.call.Op.TheVariants as ops
 use Rattle.call_history.specs.declared.refusal.Reply.TheVariants.{Held, Concluded, Paid}
 use Rattle.call_history.specs.declared.entry.Entry.{Entry}
@@ -12,7 +13,7 @@ use Rattle.load.specs.TwoPeople.{Pair, fixed, name}
 -- a person deposits this
 pub record IsDeposit (p : Pair) (by expected amount : ℕ) (e : Entry) : Type 0 where
   pub caller : e.by ≡ by
-  pub op : e.op ≡ ops.Call (Deposit (name real p) p.asset expected amount)
+  pub op : e.op ≡ ops.Call (make_deposit (name real p) p.asset expected amount)
   pub reply : e.reply ≡ Held (expected + amount)
 
 -- the channel is concluded
@@ -28,7 +29,7 @@ pub record IsTransfer (p : Pair) (e : Entry) : Type 0 where
   pub outcome : List AssetOutcome
   pub index : ℕ
   pub amount : ℕ
-  pub op : e.op ≡ ops.Call (Transfer (name real p) outcome p.asset index)
+  pub op : e.op ≡ ops.Call (make_transfer (name real p) outcome p.asset index)
   pub reply : e.reply ≡ Paid amount
 
 -- two deposits, a conclusion and two transfers, in the order of time

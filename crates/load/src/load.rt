@@ -15,7 +15,7 @@ use script_reader::Script;
 use script_steps::{STEP_LIMIT, Step};
 use std::alloc::Global;
 
-/// Appends the steps behind the payments.
+/// Appends the steps after the payments.
 fn push_ending(alloc: Global, steps: &mut Listed<Step>) -> Result<(), NoMemory>
     ensures { OnOk result (steps.new ≡ steps.old ++ ending) }
 {

@@ -8,7 +8,7 @@ use channel_values::{Listed, NoMemory};
 use script_steps::{PayStep, Step};
 use std::alloc::Global;
 
-/// The number behind another in the row of a seed.
+/// The number after another in the row of a seed.
 fn next(number: u64) -> u64
     ensures { result ≡ next number }
 {
@@ -24,7 +24,7 @@ fn payer(place: u32) -> &'static str
     if place % 2 == 1 { "A" } else { "B" }
 }
 
-/// Appends the payments of a load, each with a round behind it.
+/// Appends the payments of a load, each with a round after it.
 pub(crate) fn push_payments(
     alloc: Global,
     steps: &mut Listed<Step>,

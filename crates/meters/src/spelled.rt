@@ -55,7 +55,7 @@ fn signed(alloc: Global, seed: u8, message: &[u8]) -> Result<Vec<u8>> {
         .map_err(|_| anyhow!("nothing was signed"))
 }
 
-/// A mark on the first state: its place, and the signature behind its length.
+/// A mark on the first state: its place, and the signature after its length.
 fn put_mark(out: &mut Vec<u8>, signature: &[u8]) -> Result<(), AllocError> {
     out.push(0)?;
     let len = signature.len().min(65535) as u16;

@@ -8,7 +8,7 @@ use crate::spelled::{Fixed, conclude_bytes, outcome_bytes};
 use adjudicator::Adjudicator;
 use anyhow::{Result, anyhow, bail};
 use call_bytes::read_call;
-use call_history::{Call, Op, Reply};
+use call_history::{Call, DepositCall, Op, Reply, TransferCall};
 use channel_values::{Name, channel_name, read_outcome};
 use std::alloc::Global;
 use std::time::Instant;
@@ -22,12 +22,12 @@ fn name(number: u64) -> Name {
 
 /// A deposit of 1 of asset 0.
 fn deposit(channel: Name) -> Op {
-    Op::Call(Call::Deposit {
+    Op::Call(Call::Deposit(DepositCall {
         channel,
         asset: 0,
         expected: 0,
         amount: 1,
-    })
+    }))
 }
 
 /// Whether the op is accepted.
@@ -47,7 +47,7 @@ fn deposits(adjudicator: &mut Adjudicator, count: u64) -> bool {
     all
 }
 
-/// Whether so many deposits are accepted, each with a payment behind it.
+/// Whether so many deposits are accepted, each with a payment after it.
 fn transfers(adjudicator: &mut Adjudicator, bring: &Op, pay: &Op, count: u64) -> bool {
     let mut all = true;
     for _ in 0..count {
@@ -60,12 +60,12 @@ fn transfers(adjudicator: &mut Adjudicator, bring: &Op, pay: &Op, count: u64) ->
 /// The transfer of the one item of a channel's outcome.
 fn transfer(alloc: Global, channel: Name) -> Result<Op> {
     let outcome = read_outcome(alloc, &outcome_bytes())?;
-    Ok(Op::Call(Call::Transfer {
+    Ok(Op::Call(Call::Transfer(TransferCall {
         channel,
         outcome,
         asset: 0,
         index: 0,
-    }))
+    })))
 }
 
 /// The call that makes a channel final.

@@ -1,4 +1,4 @@
--- The laws over any rules, with the validity of values behind history and journal.
+-- The laws over any rules, with the validity of values after history and journal.
 use Rattle.std.proofs.Common.{List}
 use Rattle.call_history.specs.declared.entry.Entry.{Entry}
 use Rattle.channel_safety.specs.Journals.{Line}

@@ -100,7 +100,7 @@ told_is r h e now f time replied of accepted =
 not_none : (t : Option (ℕ × Option ℕ)) (w : Row) → t ≡ None → t ≡ row_told w → ⊥
 not_none t w a b = cc
 
--- an accepted turning entry, by what it tells
+-- an accepted turning entry, by what it says
 told_fit : (r : Rules) (h : List Entry) (e : Entry) (now : ℕ) (f : FixedParts) (rows : List Watched) (channel : List ℕ) (t : Option (ℕ × Option ℕ)) → NamesChannels r
     → now ≡ now_of h → e.reply ≡ reply_to r h e.op → fixed_of e.op ≡ Some f → is_accepted e.reply ≡ true → told_row now e.op e.reply ≡ t
     → Fits (watched_row rows channel) (row r channel h) → Fits (watched_row (rows_after (Some f) t rows) channel) (row r channel (e ∷ h))

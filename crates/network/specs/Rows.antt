@@ -9,7 +9,7 @@ use Rattle.network.specs.declared.rows.Watched.{Watched}
 abbrev pub Told : Type 0
 Told = ℕ × Option ℕ
 
--- what the map tells of a channel; turn 0 and no deadline of one that it doesn't have
+-- what the map says of a channel; turn 0 and no deadline of one that it doesn't have
 abbrev pub told_in : List (List ℕ × Told) → List ℕ → Told
 told_in entries channel = unwrap_or (lookup (bytes_eq channel) entries) (0, None)
 

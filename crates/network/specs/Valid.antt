@@ -14,6 +14,6 @@ newest_lines journal adds = lines adds (reverse journal)
 abbrev pub AddsFixed : (ℕ → List FixedParts) → Type 0
 AddsFixed adds = (place : ℕ) → AllByRecursion IsFixed (adds place)
 
--- what the command of the event behind so many adds: the fixed parts at that place, and beyond the end none
+-- what the command of the event after so many adds: the fixed parts at that place, and beyond the end none
 abbrev pub adds_of : List (List FixedParts) → ℕ → List FixedParts
 adds_of adds place = slice_index_or adds place []

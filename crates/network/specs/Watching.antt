@@ -44,7 +44,7 @@ recorded new rows = changed (is_of new.channel) (λ old. new) (unwatched new.cha
 abbrev pub row_with : List ℕ → ℕ × Option ℕ → Watched
 row_with channel told = record { channel = channel; turn = told.0; deadline = told.1 }
 
--- the rows after an entry, of which the fixed part and what it tells are given
+-- the rows after an entry, of which the fixed part and what it says are given
 abbrev pub rows_after : Option FixedParts → Option (ℕ × Option ℕ) → List Watched → List Watched
 rows_after None told rows = rows
 rows_after (Some f) None rows = rows

@@ -53,7 +53,7 @@ fn record(rows: &mut IndexMap<Name, Told>, channel: Name, told: Told) -> Result<
     Ok(())
 }
 
-/// Records what an entry tells. The time is that before it.
+/// Records what an entry says. The time is that before it.
 pub(crate) fn record_told(
     rows: &mut IndexMap<Name, Told>,
     now: u64,

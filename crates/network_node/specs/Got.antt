@@ -1,4 +1,4 @@
--- What a node that lost nothing tells of its exit are the shares of the definition just after the command.
+-- What a node that lost nothing says of its exit are the shares of the definition just after the command.
 use Rattle.std.proofs.Common.{◌≡◌, ℕ, ◌-◌, ◌≤◌, ◌==◌, Bool, true, false, cond, List, [], ◌∷◌, ◌++◌, ◌⊎◌, inl, inr, length, drop, map, refl, sym, ◌∙◌, ap, subst, arith}
 use Rattle.std.specs.Prelude.{Option, Some, None}
 use Rattle.std.specs.List.{AllByRecursion, flat_map}

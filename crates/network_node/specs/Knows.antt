@@ -1,4 +1,4 @@
--- A node that lost nothing and followed the whole history knows what its journal tells.
+-- A node that lost nothing and followed the whole history knows what its journal says.
 use Rattle.std.proofs.Common.{◌≡◌, ℕ, ◌≤◌, Bool, cond, List, [], ◌∷◌, ◌++◌, length, refl, sym, ◌∙◌, ap, subst, arith}
 use Rattle.channel_safety.proofs.Lists.{length-up}
 use Rattle.call_history.specs.History.{Legal, newest_first}

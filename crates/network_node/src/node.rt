@@ -17,7 +17,7 @@ ghost use Rattle.std.specs.Option.{option_map};
 
 use crate::mind::Mind;
 use crate::sharing::shares_known;
-use call_history::{Call, Entry, Event, HeldChain, Known, WorldView, copy_call};
+use call_history::{Call, Entry, Event, HeldChain, Known, WorldView};
 use channel_node::Knowing;
 use channel_values::{Key, Listed, NoMemory};
 use funding_plans::Plan;
@@ -81,7 +81,7 @@ fn copied_calls(alloc: Global, calls: &[Call]) -> Result<Listed<Call>, NoMemory>
 {
     let mut copies = Vec::new(alloc);
     for call in calls {
-        let copy = copy_call(call)?;
+        let copy = call.copy()?;
         copies.push(copy)?;
     }
     Ok(Listed::make(copies))

@@ -36,8 +36,8 @@ fn has_room(view: &WorldView, op: &Op) -> bool
     ensures { IsTrue result ↔ FewIn view.entry.now op.now (fixed_of op.now) }
 {
     match op {
-        Op::Call(Call::Respond { fixed, .. }) => {
-            has_few(shown(view, &channel_name(fixed.bytes())))
+        Op::Call(Call::Respond(answer)) => {
+            has_few(shown(view, &channel_name(answer.fixed.bytes())))
         }
         _ => true,
     }

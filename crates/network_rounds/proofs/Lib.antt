@@ -12,3 +12,4 @@ mod Steps
 mod Phasing
 mod Crewing
 mod Readying
+mod Sends

@@ -8,8 +8,8 @@ use Rattle.network_rounds.specs.Working.{Given, given_at}
 use Rattle.network_rounds.specs.declared.actor.Act.{Act}
 use Rattle.network_rounds.specs.declared.actor.Act.TheVariants.{Enter, Post}
 
--- What contracts see of an actor: its number, whether it tells what it has answered, and what it tells, the entries in its
--- notes, and whether it is done.
+-- What contracts see of an actor: its number, whether it says what it has answered, and what it says, the entries in
+-- its notes, and whether it is done.
 pub record Player : Type 0 where
   pub number : ℕ
   pub tells : Bool

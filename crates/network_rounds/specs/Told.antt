@@ -17,7 +17,7 @@ use Rattle.network_rounds.specs.declared.actor.Act.{Act}
 abbrev pub IsBetween : List Entry → List Entry → List Entry → Type 0
 IsBetween h seen later = StartsWith seen h × StartsWith later seen
 
--- these calls stand in a longer history, behind the first and in their order: the numbers of their entries rise
+-- these calls stand in a longer history, after the first and in their order: the numbers of their entries rise
 pub record StandIn (h later : List Entry) (gave : List Given) : Type 0 where
   pub numbers : List ℕ
   pub are : AreEntered later numbers gave
@@ -55,7 +55,7 @@ abbrev pub answer_posts : Answer → List Letter
 answer_posts a = posts_of a.act
 
 -- it was asked once and was done, or it was asked twice, the second time with all that it had been given the first, and maybe
--- more behind that
+-- more after that
 abbrev pub AreAnswers : Player → List Answer → Type 0
 AreAnswers x [] = ⊥
 AreAnswers x (a ∷ []) = (is_done a.act ≡ true) × (x.done ≡ true) × (x.notes ≡ a.notes)
@@ -67,7 +67,7 @@ abbrev pub acts_in : List Answer → List Act
 acts_in [] = []
 acts_in (a ∷ rest) = a.act ∷ acts_in rest
 
--- An actor in a round: it keeps its number, and where it tells what it answers, these are its new acts.
+-- An actor in a round: it keeps its number, and where it says what it answers, these are its new acts.
 pub record ActorRan (h later : List Entry) (x after : Player) (sent : List Letter) (gave : List Given) : Type 0 where
   pub answers : List Answer
   pub are : AreAnswers after answers
@@ -101,7 +101,7 @@ pub record Round {P : Type 0} (ways : Ways P) (crew after : CrewOf P) (h later :
   -- the nodes stay, in their order; of the actors those that weren't done
   pub nodes : Each (NodeRan ways crew.post h later) crew.nodes after.nodes sent gave
   pub cast : Each (ActorRan h later) (awake crew.cast) after.cast posted called
-  -- what the nodes sent is on its way, and behind it what the actors posted
+  -- what the nodes sent is on its way, and after it what the actors posted
   pub post : after.post ≡ all_of sent ++ all_of posted
   -- each new entry is one call that one of them gave
   pub entered : StandOnce h later (all_of gave ++ all_of called)

@@ -17,7 +17,7 @@ use Rattle.network_rounds.specs.declared.worker.Worker.TheVariants.{Node, Actor}
 abbrev pub Boxed : (D : Type 0) → (D → Type 0) → Type 0
 Boxed D V = DynBox D Global V
 
--- by whether an actor tells what it has answered, and what it tells
+-- by whether an actor says what it has answered, and what it says
 module _ {D : Type 0} {V : D → Type 0} (tells : Boxed D V → Bool) (told : Boxed D V → List Act) where
   abbrev pub player_of : Cast D V → Player
   player_of c = record { number = c.number; tells = tells c.actor; told = told c.actor; notes = c.notes.entries.items; done = c.done }

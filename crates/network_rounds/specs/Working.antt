@@ -43,7 +43,8 @@ abbrev pub RiseWithin : ℕ → ℕ → List ℕ → Type 0
 RiseWithin low high [] = low ≤ high
 RiseWithin low high (number ∷ numbers) = (low < number) × RiseWithin number high numbers
 
--- The second caller is the first once it has entered these calls, and no others: in their order, behind all that it had seen.
+-- The second caller is the first once it has entered these calls, and no others: in their order, after all that it had
+-- seen.
 pub record Works (gave : List Given) (c d : Caller Entry) : Type 0 where
   pub book : d.book ≡ c.book
   pub part : d.part ≡ c.part

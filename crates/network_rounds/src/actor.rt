@@ -11,7 +11,7 @@ use channel_values::{Listed, Name};
 #[derive(Drop)]
 pub enum Act {
     Enter(Call),
-    /// Puts a message on the way to a person.
+    /// Places a message on the way to a person.
     Post(Name, Listed<u8>),
     Rest,
     /// It isn't asked again.
@@ -26,7 +26,7 @@ pub struct Notes {
 }
 
 pub trait Actor: Drop {
-    // whether it tells what it has answered, and what it tells
+    // whether it says what it has answered, and what it says
     ghost tells: { Self → Bool };
 
     ghost told: { Self → List AnAct };

@@ -97,7 +97,7 @@ fn push_manual(out: &mut String, program: &Command) -> Result<(), NoMemory> {
     Ok(())
 }
 
-/// The names of the commands, one behind the other.
+/// The names of the commands, one after the other.
 fn push_names(out: &mut String, program: &Command) -> Result<(), NoMemory> {
     for command in program.get_subcommands() {
         if command.get_name() != "page" {
@@ -108,7 +108,7 @@ fn push_names(out: &mut String, program: &Command) -> Result<(), NoMemory> {
     Ok(())
 }
 
-/// The options of a command, one behind the other.
+/// The options of a command, one after the other.
 fn push_options(out: &mut String, command: &Command) -> Result<(), NoMemory> {
     for arg in command.get_arguments() {
         if let Some(long) = arg.get_long() {

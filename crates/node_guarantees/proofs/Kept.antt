@@ -45,14 +45,14 @@ use Rattle.node_guarantees.proofs.Staying.{Stays, wrote-event, handled-stays, ti
 
 few-op : (op : Op) → IsValidOp op → OfFew (fixed_of op)
 few-op (ops.Time t) valid = tt
-few-op (ops.Call (Deposit channel asset expected amount)) valid = tt
-few-op (ops.Call (Challenge chain who signature)) valid = valid.0.at_most_four
-few-op (ops.Call (Respond f from next)) valid = valid.0.at_most_four
+few-op (ops.Call (Deposit d)) valid = tt
+few-op (ops.Call (Challenge k)) valid = valid.0.at_most_four
+few-op (ops.Call (Respond k)) valid = valid.0.at_most_four
 few-op (ops.Call (Refute f next)) valid = valid.0.at_most_four
 few-op (ops.Call (Checkpoint chain)) valid = valid.0.at_most_four
 few-op (ops.Call (Conclude chain)) valid = valid.0.at_most_four
-few-op (ops.Call (Transfer channel o asset index)) valid = tt
-few-op (ops.Call (Claim guarantor promise target o asset position)) valid = tt
+few-op (ops.Call (Transfer k)) valid = tt
+few-op (ops.Call (Claim k)) valid = tt
 
 pub few-values : (h : List Entry) → AllByRecursion IsValidEntry h → AreFew h
 few-values [] valid = tt

@@ -136,12 +136,12 @@ module _ (a : ℕ) where
         other false e = refl
 
     entry-pays : (op : Op) (reply : Reply) (views : List ChannelView) → IsUnheld a (views_moved (flow_of op reply) views) → IsUnheld a views × (paid (flow_of op reply) ≡ 0)
-    entry-pays (ops.Call (Deposit channel asset expected amount)) (Held n) views all = (
-      got-before (Channel channel) asset amount views all,
-      pays-none (record { from = None; to = Channel channel; asset = asset; amount = amount }) refl,
+    entry-pays (ops.Call (Deposit d)) (Held n) views all = (
+      got-before (Channel d.channel) d.asset d.amount views all,
+      pays-none (record { from = None; to = Channel d.channel; asset = d.asset; amount = d.amount }) refl,
     )
-    entry-pays (ops.Call (Transfer channel outcome asset index)) (Paid n) views all = pays-held channel _ asset n views all
-    entry-pays (ops.Call (Claim guarantor promise target outcome asset position)) (Paid n) views all = pays-held guarantor _ asset n views all
+    entry-pays (ops.Call (Transfer k)) (Paid n) views all = pays-held k.channel _ k.asset n views all
+    entry-pays (ops.Call (Claim k)) (Paid n) views all = pays-held k.guarantor _ k.asset n views all
     entry-pays op reply views all = (all, refl)
 
 -- ---- events change no view

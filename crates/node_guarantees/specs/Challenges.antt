@@ -42,7 +42,7 @@ pub record IsMadeBy (made : List MadeChallenge) (seen : ℕ) (chain : Chain) (wh
   pub signed : it.signature ≡ signature
 
 abbrev pub IsOwnCall : (made : List MadeChallenge) → (seen : ℕ) → Call → Type 0
-IsOwnCall made seen (Challenge chain who signature) = IsMadeBy made seen chain who signature
+IsOwnCall made seen (Challenge k) = IsMadeBy made seen k.chain k.challenger k.signature
 IsOwnCall made seen _ = Unit {0}
 
 abbrev pub IsOwnDeed : (made : List MadeChallenge) → (seen : ℕ) → Deed → Type 0

@@ -1,4 +1,4 @@
--- What a node tells of its commands.
+-- What a node says of its commands.
 use Rattle.std.specs.Prelude.{◌≡◌, ℕ, Option, List}
 use Rattle.network.specs.declared.command.Command.{Command}
 use Rattle.channel_node.specs.Nodes.{told_of}

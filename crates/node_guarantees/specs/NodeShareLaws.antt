@@ -1,4 +1,4 @@
--- What a node knows tells the share of its person at its place.
+-- What a node knows determines the share of its person at its place.
 use Rattle.std.specs.Prelude.{◌≡◌, ◌==◌, ℕ, ◌≤◌, false, List, ◌++◌, length}
 use Rattle.std.specs.List.{AllByRecursion}
 use Rattle.channel_values.specs.Digests.{name_of_person}
@@ -19,9 +19,9 @@ use Rattle.channel_node.specs.Nodes.{NodeOf, told_of}
 use Rattle.channel_node.specs.Standing.{Stands}
 use Rattle.node_guarantees.specs.Orders.{orders_of}
 
--- It has this key, the parts that the journal's commands opened, a view that stands for these entries; and it tells which
--- channels count after the entries and events, the share in each asset, and whether the plan is funded. The orders are those
--- of the whole journal.
+-- It has this key, the parts that the journal's commands opened, a view that stands for these entries; and it says
+-- which channels count after the entries and events, the share in each asset, and whether the plan is funded. The
+-- orders are those of the whole journal.
 pub record KnowsShare (r : Rules) (key : List ℕ) (journal : List Told) (past : List Entry) (front : List Told) (m : Mind) : Type 0 where
   pub own : m.key ≡ key
   pub parts : m.parts ≡ plan (orders_of r key journal) (lines_of key front)

@@ -61,8 +61,8 @@ OwnersCallTheirOwn {P} owns told = (p : P) → owns p → CallsOwnChallenges (to
 
 -- ---- shares
 
--- The shares that a node tells, where memory didn't fail it and it followed the whole history, are those of the definition
--- over the history and its own journal.
+-- The shares that a node reports, where memory didn't fail it and it followed the whole history, are those of the
+-- definition over the history and its own journal.
 abbrev pub SharesAreReal : {P : Type 0} → Ways P → (stands : List Entry → P → Type 0) → (lost : P → Bool) → (shares : P → ℕ → ℕ) → (told : P → List Told) → Type 0
 SharesAreReal {P} ways stands lost shares told =
     (h : List Entry) (p : P) → Legal real h → AllByRecursion IsValidEntry h → stands h p → lost p ≡ false → ways.seen p ≡ length h
@@ -79,8 +79,8 @@ AreThose shares None None = Unit {0}
 AreThose shares (Some amounts) (Some front) = (asset : ℕ) → amount_then amounts asset ≡ shares front asset
 AreThose shares _ _ = ⊥
 
--- What a node tells of its exit, where memory didn't fail it, are the shares of the definition at the place just after its
--- first accepted command to exit.
+-- What a node says of its exit, where memory didn't fail it, are the shares of the definition at the place just after
+-- its first accepted command to exit.
 abbrev pub ExitsAreReal : {P : Type 0} → Ways P → (stands : List Entry → P → Type 0) → (lost : P → Bool) → (exits : P → Option (List (ℕ × ℕ)))
     → (told : P → List Told) → Type 0
 ExitsAreReal {P} ways stands lost exits told =

@@ -1,8 +1,8 @@
-//! Laws alone: what a node knows tells what its person can get. Each function is empty: its contract is the law.
+//! Laws alone: what a node knows says what its person can get. Each function is empty: its contract is the law.
 
 ghost use Rattle.node_guarantees.specs.NodeShareLaws.{NodesTellShares, PlacesTellShares, UnheldIsNothing};
 
-/// At each place of a legal history and of a journal that a node's rules give, what it knows there tells which channels
+/// At each place of a legal history and of a journal that a node's rules give, what it knows there says which channels
 /// count, the share of its person in each asset, and whether the plan is funded.
 pub fn places_tell_shares()
     ensures { PlacesTellShares }

@@ -12,7 +12,7 @@ use channel_values::NoMemory;
 use funding_plans::Plan;
 use network::Party;
 
-/// A node that keeps what it must, and whose journal tells what it did.
+/// A node that keeps what it must, and whose journal says what it did.
 pub trait ReportedNode: Party {
     // What its person can get of an asset, by what the node knows.
     ghost shares: { Self → ℕ → ℕ };
@@ -76,7 +76,7 @@ pub trait ReportedNode: Party {
     // And what it knows is what is known by its journal.
     ghost knows: { FactsAreReal Self.ways Self.stands Self.lost facts reported };
 
-    // What it tells of its exit are those of the definition just after the command.
+    // What it says of its exit are those of the definition just after the command.
     ghost got: { ExitsAreReal Self.ways Self.stands Self.lost exits reported };
 
     // Each event is what the rules and tables of the network's node give.

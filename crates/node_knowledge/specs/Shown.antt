@@ -28,9 +28,9 @@ abbrev pub HasFew : Option Chain → Type 0
 HasFew None = Unit {0}
 HasFew (Some chain) = length chain.states ≤ 255
 
--- the chain on which an op puts an answer
+-- the chain on which an op writes an answer
 abbrev pub FewUnder : Op → Option Chain → Type 0
-FewUnder (ops.Call (Respond f from next)) before = HasFew before
+FewUnder (ops.Call (Respond k)) before = HasFew before
 FewUnder _ before = Unit {0}
 
 -- with a chain of the channel of this name

@@ -53,16 +53,12 @@ pub(crate) fn shown_by(
     ensures { IfOk result (λ chain. marked_of chain ≡ shown_by op.now (option_map (λ m. m.now) before.entry)) }
 {
     match op {
-        Op::Call(Call::Challenge { chain, .. }) => chain.copy(),
+        Op::Call(Call::Challenge(challenge)) => challenge.chain.copy(),
         Op::Call(Call::Checkpoint { chain }) => chain.copy(),
         Op::Call(Call::Conclude { chain }) => chain.copy(),
-        Op::Call(
-            Call::Respond {
-                fixed: own,
-                next,
-                ..
-            },
-        ) => with_answer(alloc, before, own, next),
+        Op::Call(Call::Respond(respond)) => {
+            with_answer(alloc, before, &respond.fixed, &respond.next)
+        }
         _ => no_chain(alloc, fixed),
     }
 }

@@ -5,7 +5,7 @@ use crate::messages::{
     Brought, People, amounts, channel_of, fixed_of, key_of, message_of, open, state_of,
 };
 use call_bytes::read_message;
-use call_history::{Call, Entry, NodeRefusal, Op, Reply, Standing};
+use call_history::{Call, ChallengeCall, DepositCall, Entry, NodeRefusal, Op, Reply, Standing};
 use channel_values::{Chain, Key, Listed, Name, State, person_name};
 use lms_signatures::Signer;
 use network::{Command, NodeFault, Outs, Party};
@@ -102,16 +102,7 @@ impl Desk {
         match (outs.sends.as_slice(), outs.calls.as_slice()) {
             ([], []) => Said::Quiet,
             ([send], []) => self.sent(&send.0, send.1.as_slice()),
-            (
-                [],
-                [
-                    Call::Deposit {
-                        expected,
-                        amount,
-                        ..
-                    },
-                ],
-            ) => Said::Deposits(*expected, *amount),
+            ([], [Call::Deposit(deposit)]) => Said::Deposits(deposit.expected, deposit.amount),
             _ => Said::Other,
         }
     }
@@ -182,11 +173,11 @@ impl Desk {
             states,
             marks: Listed::make(Vec::new(self.alloc)),
         };
-        Ok(Call::Challenge {
+        Ok(Call::Challenge(ChallengeCall {
             chain,
             challenger: 1,
             signature: Listed::make(Vec::new(self.alloc)),
-        })
+        }))
     }
 
     fn challenged(&self, node: &mut Node) -> Result<Said, Fail> {
@@ -201,12 +192,12 @@ impl Desk {
         amount: u64,
         held: u64,
     ) -> Result<Said, Fail> {
-        let call = Call::Deposit {
+        let call = Call::Deposit(DepositCall {
             channel: self.channel,
             asset: 0,
             expected,
             amount,
-        };
+        });
         self.sees(node, call, Reply::Held(held))
     }
 

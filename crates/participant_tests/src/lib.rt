@@ -1,4 +1,4 @@
-//! What a participant follows, keeps, answers, tells and signs. Expected values were worked out by hand.
+//! What a participant follows, keeps, answers, says and signs. Expected values were worked out by hand.
 #![tactic(auto)]
 
 #[cfg(test)]

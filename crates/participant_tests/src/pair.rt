@@ -4,7 +4,7 @@
 ghost use Rattle.std.specs.Prelude.{◌≡◌, IfOk};
 ghost use Rattle.channel_values.specs.Rules.{people};
 
-use call_history::{Call, Op};
+use call_history::{Call, ChallengeCall, ClaimCall, DepositCall, Op, RespondCall, TransferCall};
 use channel_values::{
     AssetOutcome, Chain, Dest, Fixed, Item, Key, Listed, Mark, Name, Outcome, Shape, Signed, State,
     channel_name, person_name, state_digest, state_message,
@@ -82,21 +82,21 @@ fn allocation(alloc: Global, first: Item, second: Item) -> Result<Outcome, Fail>
 }
 
 fn deposit(channel: Name, asset: u32, amount: u64) -> Op {
-    Op::Call(Call::Deposit {
+    Op::Call(Call::Deposit(DepositCall {
         channel,
         asset,
         expected: 0,
         amount,
-    })
+    }))
 }
 
 fn transfer(channel: Name, outcome: Outcome, index: u8) -> Op {
-    Op::Call(Call::Transfer {
+    Op::Call(Call::Transfer(TransferCall {
         channel,
         outcome,
         asset: 0,
         index,
-    })
+    }))
 }
 
 pub(super) fn pair_of(alloc: Global, nonce: u64) -> Pair {
@@ -179,11 +179,11 @@ impl Pair {
 
     fn challenge(&self, first: u64, last: u64) -> Result<Op, Fail> {
         let chain = self.chain(first, last, &[1, 0])?;
-        Ok(Op::Call(Call::Challenge {
+        Ok(Op::Call(Call::Challenge(ChallengeCall {
             chain,
             challenger: 1,
             signature: unsigned(self.alloc),
-        }))
+        })))
     }
 
     fn checkpoint(&self, first: u64, last: u64) -> Result<Op, Fail> {
@@ -204,11 +204,11 @@ impl Pair {
     }
 
     fn respond(&self, from: u64, next: u64) -> Result<Op, Fail> {
-        Ok(Op::Call(Call::Respond {
+        Ok(Op::Call(Call::Respond(RespondCall {
             fixed: self.fixed()?,
             from: self.state(at(from))?,
             next: self.next(next)?,
-        }))
+        })))
     }
 
     fn fund(&self, amount: u64) -> Result<Op, Fail> {
@@ -234,14 +234,14 @@ impl Pair {
 
     fn claim(&self, position: u8) -> Result<Op, Fail> {
         let target = self.channel()?;
-        Ok(Op::Call(Call::Claim {
+        Ok(Op::Call(Call::Claim(ClaimCall {
             guarantor: LEDGER,
             guarantor_outcome: self.guarantee(target)?,
             target,
             target_outcome: self.outcome(4, 4)?,
             asset: 0,
             position,
-        }))
+        })))
     }
 
     pub(super) fn op(&self, act: Act) -> Result<Op, Fail> {

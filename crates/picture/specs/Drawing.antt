@@ -37,7 +37,7 @@ is_record (first ∷ bytes) = first == 0
 abbrev pub AreDrawn : List ℕ → Type 0
 AreDrawn bytes = is_record bytes ≡ true → IsOk (record_of bytes)
 
--- why bytes aren't drawn: a fault in a line of a text or behind the last, or the first fault of a record
+-- why bytes aren't drawn: a fault in a line of a text or after the last, or the first fault of a record
 abbrev pub HasFault : List ℕ → Undrawn → Type 0
 HasFault bytes undrawn.NoMemory = ⊤
 HasFault bytes (undrawn.Line fault) = (is_record bytes ≡ false) × IsInLines (line_feeds bytes) (Line fault)

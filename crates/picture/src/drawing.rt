@@ -123,7 +123,7 @@ fn picture_of_bytes(alloc: Global, bytes: &[u8]) -> Result<Vec<u8>, Undrawn>
     }
 }
 
-/// The picture of what the source tells, or the end without one.
+/// The picture of what the source says, or the end without one.
 fn work<S: Source>(alloc: Global, words: &[Label], source: &mut S) -> Result<Vec<u8>, Status>
     ensures done { IfOk result (λ svg. EndsAs words.now (told S.remaining S.faults source.old source.new) Status.Done) }
     ensures ends { IfErr result (EndsAs words.now (told S.remaining S.faults source.old source.new)) }
@@ -146,7 +146,7 @@ fn work<S: Source>(alloc: Global, words: &[Label], source: &mut S) -> Result<Vec
     }
 }
 
-/// Reads the text or the record of a run, and puts its picture.
+/// Reads the text or the record of a run, and writes its picture.
 pub fn draw<S: Source, K: Sink>(
     alloc: Global,
     words: &[Label],

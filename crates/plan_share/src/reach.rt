@@ -142,7 +142,7 @@ impl<'a> Page<'a> {
         joint.left()
     }
 
-    /// Puts the reach of a part's channel before the reaches so far, where a later part may stand on it.
+    /// Places the reach of a part's channel before the reaches so far, where a later part may stand on it.
     pub(crate) fn follow(&self, rows: &mut Vec<(Name, u128)>, part: &Part) -> Result<(), NoMemory>
         ensures { OnOk result (reaches rows.new.items
             ≡ worth.reach_after (books_of self.now) (reaches rows.old.items) part.now) }

@@ -38,7 +38,7 @@ fn seen_at(alloc: Global, now: u64) -> Result<WorldView, ByteFault> {
 
 fn called(calls: &[Call]) -> Option<u8> {
     match calls {
-        [Call::Transfer { index, .. }] => Some(*index),
+        [Call::Transfer(transfer)] => Some(transfer.index),
         _ => None,
     }
 }

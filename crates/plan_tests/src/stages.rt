@@ -309,14 +309,7 @@ const CALLED: [(Setting, Latest, First); 6] = [
 
 fn first_of(calls: &[Call]) -> First {
     match calls {
-        [
-            Call::Deposit {
-                expected,
-                amount,
-                ..
-            },
-            ..
-        ] => First::Deposit(*expected, *amount),
+        [Call::Deposit(deposit), ..] => First::Deposit(deposit.expected, deposit.amount),
         [Call::Conclude { .. }, ..] => First::Conclude,
         _ => First::Nothing,
     }

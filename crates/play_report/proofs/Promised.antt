@@ -1,4 +1,4 @@
--- A report that is made of what the nodes of a play tell, tells the play and keeps its promises.
+-- A report that is made of what the nodes of a play tell, describes the play and keeps its promises.
 use Rattle.std.proofs.Common.{◌≡◌, ℕ, Bool, true, false, cond, List, [], ◌∷◌, ◌++◌, map, flat_map, length, reverse, filter, refl, sym, ◌∙◌, ap, subst, ◌⊎◌, inl, inr}
 use Rattle.std.specs.Prelude.{All, Option, Some, None}
 use Rattle.std.specs.List.{AllByRecursion}
@@ -108,7 +108,7 @@ amounts-same : (some other : ℕ → ℕ) (assets : List ℕ) → ((asset : ℕ)
 amounts-same some other [] same = refl
 amounts-same some other (asset ∷ assets) same = λ i. (asset, same asset i) ∷ amounts-same some other assets same i
 
--- what each node tells is what its journal tells
+-- what each node says is what its journal says
 of-each : {A B C : Type 0} (f : A → List C) (g : B → List C) (j : A → B) (members : List A) → ((m : A) → In m members → f m ≡ g (j m)) → flat_map f members ≡ flat_map g (map j members)
 of-each f g j [] same = refl
 of-each f g j (m ∷ members) same = λ i. same m (inl refl) i ++ of-each f g j members (λ n k. same n (inr k)) i
@@ -160,7 +160,7 @@ module _ {P : Type 0} (ways : Ways P) (stands : List Entry → P → Type 0) (lo
       subst (λ (n : ℕ). HasFollowed ways lost n m.node) (sym (length-reverse r.history))
       (in_all (λ (n : MemberOf P). HasFollowed ways lost (length r.history) n.node) m scene.world.members made.followed i)
 
-  -- ---- it tells the scene
+  -- ---- it describes the scene
 
   abbrev assets : List ℕ
   assets = assets_of (flows_of r.history)

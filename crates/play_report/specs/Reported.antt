@@ -1,4 +1,4 @@
--- What a report tells of a play, and what it promises of each person with a node.
+-- What a report says of a play, and what it promises of each person with a node.
 use Rattle.std.specs.Prelude.{◌≡◌, ℕ, true, List, [], map, flat_map, Option, Some, None, IsTrue, ◌↔◌}
 use Rattle.channel_values.specs.Parts.{FixedParts}
 use Rattle.channel_values.specs.Digests.{name_of_person}

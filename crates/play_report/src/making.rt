@@ -135,8 +135,8 @@ pub fn report_of<P: ReportedNode>(
     })
 }
 
-/// Plays the steps, and tells what came of them. The signers are those of the people that the steps declare. Of a load the
-/// report notes what it was made from.
+/// Plays the steps, and says what came of them. The signers are those of the people that the steps declare. Of a load
+/// the report notes what it was made from.
 pub fn report_play<P: ReportedNode, D: Docket>(
     alloc: Global,
     steps: &[Step],

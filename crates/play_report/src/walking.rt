@@ -6,7 +6,7 @@ ghost use Rattle.channel_safety.specs.Valid.{IsValidEvent};
 ghost use Rattle.play_report.specs.Members.{AllFixed};
 ghost use Rattle.play_report.specs.Reported.{journal_of};
 
-use call_history::{Event, copy_event};
+use call_history::Event;
 use channel_safety::events_are_valid;
 use channel_values::{Listed, NoMemory};
 use network::{Member, Party};
@@ -19,7 +19,7 @@ fn copy_events(alloc: Global, events: &[Event]) -> Result<Vec<Event>, NoMemory>
 {
     let mut copies = Vec::new(alloc);
     for event in events {
-        let copy = copy_event(event)?;
+        let copy = event.copy()?;
         copies.push(copy)?;
     }
     Ok(copies)

@@ -1,8 +1,7 @@
--- The test that nothing is forged tells it.
+-- The test that nothing is forged shows it.
 use Rattle.std.proofs.Common.{◌≡◌, ℕ, Bool, true, ◌&&◌, List, [], ◌∷◌, ◌++◌, ◌⊎◌, inl, inr, length, refl, sym, ◌∙◌, ap, subst, nat_le, Option, Some, None, Result, Ok, Err}
 use Rattle.std.specs.List.{list_all}
 use Rattle.channel_values.specs.Parts.{FixedParts}
-use Rattle.channel_values.specs.declared.chain.Chain.{Chain}
 use Rattle.channel_values.specs.declared.chain.Signed.{Signed}
 use Rattle.channel_values.specs.declared.fault.ByteFault.{ByteFault}
 use Rattle.channel_values.specs.Messages.{message_of_challenge}
@@ -11,6 +10,7 @@ use Rattle.call_history.proofs.Names.{same_bytes, bytes_eq_self}
 use Rattle.call_history.specs.Rows.{fixed_of}
 use Rattle.call_history.specs.Spelling.{Message}
 use Rattle.call_history.specs.Reading.{message_of}
+use Rattle.call_history.specs.declared.call.ChallengeCall.{ChallengeCall}
 use Rattle.call_history.specs.declared.call.Call.TheVariants.{Challenge}
 use Rattle.call_history.specs.declared.call.Op.{Op}
 use Rattle.call_history.specs.declared.call.Op.TheVariants as ops
@@ -60,15 +60,13 @@ is-signed_by r journal seen m w =
 -- ---- which strings an op and a message have
 
 record Challenged (r : Rules) (op : Op) (x : Inscription) : Type 0 where
-  pub chain : Chain
-  pub who : ℕ
-  pub signature : List ℕ
-  pub is : op ≡ ops.Call (Challenge chain who signature)
-  pub same : x ≡ record { message = message_of_challenge (top_digest r chain.fixed chain.states) who; signature = signature }
+  pub call : ChallengeCall
+  pub is : op ≡ ops.Call (Challenge call)
+  pub same : x ≡ record { message = message_of_challenge (top_digest r call.chain.fixed call.chain.states) call.challenger; signature = call.signature }
 
 challenged : (r : Rules) (op : Op) (x : Inscription) → In x (on_challenge r op) → Challenged r op x
-challenged r (ops.Call (Challenge chain who signature)) x (inl e) = record { chain = chain; who = who; signature = signature; is = refl; same = e }
-challenged r (ops.Call (Challenge chain who signature)) x (inr i) = absurd i
+challenged r (ops.Call (Challenge k)) x (inl e) = record { call = k; is = refl; same = e }
+challenged r (ops.Call (Challenge k)) x (inr i) = absurd i
 challenged r _ x i = absurd i
 
 record OnState (r : Rules) (o : Option FixedParts) (signed : List Signed) (x : Inscription) : Type 0 where
@@ -186,9 +184,10 @@ entry-passes r key h journal u later past e split x i v = go (In-append_cases x 
     go : In x (on_challenge r e.op) ⊎ In x (on_states r (fixed_of e.op) (signed_in e.op)) → is_signed_by r journal (length past) x.message ≡ true
     go (inl j) =
         let c = challenged r e.op x j in
-        let m = message_of_challenge (top_digest r c.chain.fixed c.chain.states) c.who in
-        let y : Inscription = record { message = m; signature = c.signature } in
-        back y c.same (is-signed_by r journal (length past) m (u.challenges later past e c.chain c.who c.signature split c.is (verified y c.same)))
+        let k = c.call in
+        let m = message_of_challenge (top_digest r k.chain.fixed k.chain.states) k.challenger in
+        let y : Inscription = record { message = m; signature = k.signature } in
+        back y c.same (is-signed_by r journal (length past) m (u.challenges later past e k.chain k.challenger k.signature split c.is (verified y c.same)))
     go (inr j) =
         let c = of-state r (fixed_of e.op) (signed_in e.op) x j in
         let y : Inscription = on_state r (r.named c.fixed) c.state in

@@ -188,8 +188,8 @@ end-order r c seen adds journal (Some mid) = end-watched r c seen mid (lines add
 
 op-order : (r : Rules) (adds : ℕ → List FixedParts) (journal : List Event) (newer : List Entry) (seen now : ℕ) (op : Op)
     → op_is_watched r (lines adds (onto journal [])) newer seen now op ≡ op_is_answered r journal newer seen now op
-op-order r adds journal newer seen now (ops.Call (Challenge chain who signature)) =
-    end-order r (r.named chain.fixed) (suc seen) adds journal (until_end r (r.named chain.fixed) (now + chain.fixed.duration) newer)
+op-order r adds journal newer seen now (ops.Call (Challenge k)) =
+    end-order r (r.named k.chain.fixed) (suc seen) adds journal (until_end r (r.named k.chain.fixed) (now + k.chain.fixed.duration) newer)
 op-order r adds journal newer seen now _ = refl
 
 answers-order : (r : Rules) (adds : ℕ → List FixedParts) (journal : List Event) (xs past : List Entry)

@@ -1,15 +1,15 @@
--- The test that watchers are in time tells it.
+-- The test that watchers are in time shows it.
 use Rattle.std.proofs.Common.{◌≡◌, ℕ, suc, ◌+◌, ◌-◌, ◌<◌, ◌≤◌, nat_le, Bool, true, false, cond, ◌&&◌, ◌||◌, List, [], ◌∷◌, ◌++◌, inl, inr, length, take, drop, refl, sym, ◌∙◌, ap, subst, arith, Option, Some, None, is_some}
 use Rattle.std.specs.List.{list_any, list_all, AllByRecursion}
 use Rattle.std.specs.Option.{option_map}
 use Rattle.std.proofs.lemmas.List.{append_assoc, length-append, length-take-le, take-append-drop}
-use Rattle.channel_values.specs.declared.chain.Chain.{Chain}
 use Rattle.channel_values.specs.declared.chain.Signed.{Signed}
 use Rattle.channel_values.specs.Rules.{Rules}
 use Rattle.call_history.proofs.Names.{same_bytes, bytes_eq_self}
 use Rattle.call_history.specs.Rows.{fixed_of}
 use Rattle.call_history.specs.History.{is_accepted, is_named, turning, time_set, now_of}
 use Rattle.call_history.specs.declared.call.Call.{Call}
+use Rattle.call_history.specs.declared.call.ChallengeCall.{ChallengeCall}
 use Rattle.call_history.specs.declared.call.Call.TheVariants.{Challenge}
 use Rattle.call_history.specs.declared.call.Op.{Op}
 use Rattle.call_history.specs.declared.call.Op.TheVariants as ops
@@ -328,14 +328,14 @@ in-time r h journal valid lines t later mid past e m f x s split out i noted ear
 passes : (r : Rules) (h : List Entry) (journal : List Line) → InTime r h journal → is_in_time r h journal ≡ true
 passes r h journal timely = watched-all r journal [] h at
   where
-    run-out : (later past : List Entry) (m : Entry) (chain : Chain) (who : ℕ) (signature : List ℕ) → h ≡ later ++ m ∷ past → is_accepted m.reply ≡ true
-        → m.op ≡ ops.Call (Challenge chain who signature)
-        → (u : Option (List Entry)) → EndedIf r (r.named chain.fixed) (now_of past + chain.fixed.duration) (onto later []) u
-        → end_is_watched r (r.named chain.fixed) (suc (length past)) journal u ≡ true
-    run-out later past m chain who signature split accepted is None w = refl
-    run-out later past m chain who signature split accepted is (Some told) w =
-        let c = r.named chain.fixed in
-        let deadline = now_of past + chain.fixed.duration in
+    run-out : (later past : List Entry) (m : Entry) (k : ChallengeCall) → h ≡ later ++ m ∷ past → is_accepted m.reply ≡ true
+        → m.op ≡ ops.Call (Challenge k)
+        → (u : Option (List Entry)) → EndedIf r (r.named k.chain.fixed) (now_of past + k.chain.fixed.duration) (onto later []) u
+        → end_is_watched r (r.named k.chain.fixed) (suc (length past)) journal u ≡ true
+    run-out later past m k split accepted is None w = refl
+    run-out later past m k split accepted is (Some told) w =
+        let c = r.named k.chain.fixed in
+        let deadline = now_of past + k.chain.fixed.duration in
         let last = suc (length past) + length told in
         let mid = onto told [] in
         let e = w.last in
@@ -348,9 +348,9 @@ passes r h journal timely = watched-all r journal [] h at
         let all : length (mid ++ m ∷ past) ≡ length mid + length (m ∷ past) = length-append mid (m ∷ past) in
         let out : RunsOut r c e mid m past =
         record {
-          chain = chain;
-          who = who;
-          signature = signature;
+          chain = k.chain;
+          who = k.challenger;
+          signature = k.signature;
           time = end.0;
           challenge = is;
           turns = and-both (is_accepted m.reply) (is_named r c (fixed_of m.op)) accepted (ap (λ (op : Op). is_named r c (fixed_of op)) is ∙ bytes_eq_self c);
@@ -365,7 +365,7 @@ passes r h journal timely = watched-all r journal [] h at
         let x = f.item in
         let some = noted-some (noted_in c x.deed) (and-left (is_some (noted_in c x.deed)) (nat_le x.seen last) f.passes) in
         let seen : x.seen ≤ last = le-true x.seen last (and-right (is_some (noted_in c x.deed)) (nat_le x.seen last) f.passes) in
-        looked-back r c journal told m past (timely (onto w.rest []) mid past e m chain.fixed x some.0 place out f.there some.1 (omega arith)))
+        looked-back r c journal told m past (timely (onto w.rest []) mid past e m k.chain.fixed x some.0 place out f.there some.1 (omega arith)))
       where
         noted-some : (o : Option Signed) → is_some o ≡ true → (s : Signed) × (o ≡ Some s)
         noted-some None h = never h
@@ -373,10 +373,10 @@ passes r h journal timely = watched-all r journal [] h at
 
     op-watched : (later past : List Entry) (m : Entry) → h ≡ later ++ m ∷ past → is_accepted m.reply ≡ true → (op : Op) → m.op ≡ op
         → op_is_watched r journal (onto later []) (length past) (now_of past) op ≡ true
-    op-watched later past m split accepted (ops.Call (Challenge chain who signature)) is =
-        run-out later past m chain who signature split accepted is
-        (until_end r (r.named chain.fixed) (now_of past + chain.fixed.duration) (onto later []))
-        (ended r (r.named chain.fixed) (now_of past + chain.fixed.duration) (onto later []))
+    op-watched later past m split accepted (ops.Call (Challenge k)) is =
+        run-out later past m k split accepted is
+        (until_end r (r.named k.chain.fixed) (now_of past + k.chain.fixed.duration) (onto later []))
+        (ended r (r.named k.chain.fixed) (now_of past + k.chain.fixed.duration) (onto later []))
     op-watched later past m split accepted _ is = refl
 
     at : (later past : List Entry) (m : Entry) → h ≡ later ++ m ∷ past → entry_is_watched r journal (onto later []) (length past) (now_of past) m ≡ true

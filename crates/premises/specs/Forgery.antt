@@ -26,7 +26,7 @@ messages_are_own r key (x ∷ front) =
 abbrev pub is_unforged : Rules → List ℕ → List Entry → List Line → Bool
 is_unforged r key h journal = entries_are_own r key journal h && messages_are_own r key journal
 
--- the test tells
+-- the test says
 abbrev pub ForgeryIsTold : Type 0
 ForgeryIsTold = (r : Rules) (key : List ℕ) (h : List Entry) (journal : List Line)
     → IsTrue (is_unforged r key h journal) ↔ Unforged r key h journal

@@ -44,9 +44,9 @@ end_is_answered r channel seen journal None = true
 end_is_answered r channel seen journal (Some mid) = fold (next_look r channel seen mid) true journal
 
 abbrev pub op_is_answered : Rules → List Event → List Entry → ℕ → ℕ → Op → Bool
-op_is_answered r journal newer seen now (ops.Call (Challenge chain who signature)) =
-    end_is_answered r (r.named chain.fixed) (suc seen) journal
-    (until_end r (r.named chain.fixed) (now + chain.fixed.duration) newer)
+op_is_answered r journal newer seen now (ops.Call (Challenge k)) =
+    end_is_answered r (r.named k.chain.fixed) (suc seen) journal
+    (until_end r (r.named k.chain.fixed) (now + k.chain.fixed.duration) newer)
 op_is_answered r journal newer seen now _ = true
 
 abbrev pub entry_is_answered : Rules → List Event → List Entry → ℕ → ℕ → Entry → Bool

@@ -33,8 +33,11 @@ on_states r (Some f) signed = map (on_state r (r.named f)) signed
 
 -- the challenger's own
 abbrev pub on_challenge : Rules → Op → List Inscription
-on_challenge r (ops.Call (Challenge chain who signature)) =
-    record { message = message_of_challenge (top_digest r chain.fixed chain.states) who; signature = signature } ∷ []
+on_challenge r (ops.Call (Challenge k)) =
+    record {
+      message = message_of_challenge (top_digest r k.chain.fixed k.chain.states) k.challenger;
+      signature = k.signature;
+    } ∷ []
 on_challenge r _ = []
 
 -- of an op

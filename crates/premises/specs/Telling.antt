@@ -21,7 +21,7 @@ abbrev pub none_collide : (List ℕ → List ℕ) → List (List ℕ) → Bool
 none_collide digest [] = true
 none_collide digest (s ∷ rest) = list_all (are_apart digest s) rest && none_collide digest rest
 
--- the test tells
+-- the test says
 abbrev pub CollisionIsTold : Type 0
 CollisionIsTold = (strings : List (List ℕ)) → IsTrue (none_collide sha256 strings) ↔ NoneCollide strings
 

@@ -68,9 +68,9 @@ end_is_watched r channel seen journal (Some mid) =
 
 -- of an accepted op after so many entries, at this time, before the entries `newer`
 abbrev pub op_is_watched : Rules → List Line → List Entry → ℕ → ℕ → Op → Bool
-op_is_watched r journal newer seen now (ops.Call (Challenge chain who signature)) =
-    end_is_watched r (r.named chain.fixed) (suc seen) journal
-    (until_end r (r.named chain.fixed) (now + chain.fixed.duration) newer)
+op_is_watched r journal newer seen now (ops.Call (Challenge k)) =
+    end_is_watched r (r.named k.chain.fixed) (suc seen) journal
+    (until_end r (r.named k.chain.fixed) (now + k.chain.fixed.duration) newer)
 op_is_watched r journal newer seen now _ = true
 
 abbrev pub entry_is_watched : Rules → List Line → List Entry → ℕ → ℕ → Entry → Bool
@@ -85,12 +85,12 @@ are_watched r journal newer (m ∷ past) =
 abbrev pub is_in_time : Rules → List Entry → List Line → Bool
 is_in_time r h journal = are_watched r journal [] h
 
--- ---- what it tells
+-- ---- what it says
 
 abbrev pub IsValidLine : Line → Type 0
 IsValidLine x = IsValidDeed x.deed
 
--- the test tells, where the ops and the calls of looks are such as their types say
+-- the test says, where the ops and the calls of looks are such as their types say
 abbrev pub TimingIsTold : Type 0
 TimingIsTold =
     (r : Rules) (h : List Entry) (journal : List Line)

@@ -11,7 +11,7 @@ ghost use Rattle.premises.specs.Forgery.{is_own};
 ghost use Rattle.premises.specs.Strings.{own_of, told, told_by, op_passes, message_passes, entries_pass, messages_pass};
 
 use call_bytes::read_message;
-use call_history::{Call, Deed, Entry, Event, Op, newest};
+use call_history::{Call, ChallengeCall, Deed, Entry, Event, Op, RespondCall, newest};
 use channel_values::{
     ByteFault, Chain, Fixed, Key, Listed, Mark, Name, NoMemory, Signed, State, challenge_message,
     channel_name, state_digest, state_message,
@@ -188,22 +188,18 @@ fn signed_is_own(key: &Key, own: &[Own], seen: usize, fixed: &Fixed, next: &Sign
 
 /// The challenger's own signature, on the last of the states; where there is none, on no digest.
 #[tactic(auto, unfolding(channel_values::specs::Messages::message_of_challenge))]
-fn challenge_is_own(
-    key: &Key,
-    own: &[Own],
-    seen: usize,
-    chain: &Chain,
-    who: u8,
-    signature: &[u8],
-) -> bool
+fn challenge_is_own(key: &Key, own: &[Own], seen: usize, challenge: &ChallengeCall) -> bool
     ensures { result
         ≡ is_own real key.now (told_by own.now seen)
         (record {
           message = message_of_challenge
-              (top_digest real chain.now.fixed chain.now.states) who;
-          signature = signature.now;
+              (top_digest real challenge.now.chain.fixed challenge.now.chain.states) challenge.now.challenger;
+          signature = challenge.now.signature;
         }) }
 {
+    let chain = &challenge.chain;
+    let who = challenge.challenger;
+    let signature = challenge.signature.as_slice();
     match newest(chain.states.as_slice()) {
         None => is_own_by(key, own, seen, &[6, who], signature),
         Some(state) => {
@@ -218,22 +214,15 @@ fn op_is_own(key: &Key, own: &[Own], seen: usize, op: &Op) -> bool
     ensures { result ≡ op_passes real key.now own.now seen (strings.in_op real op.now) }
 {
     match op {
-        Op::Call(
-            Call::Challenge {
-                chain,
-                challenger,
-                signature,
-            },
-        ) => {
-            challenge_is_own(key, own, seen, chain, *challenger, signature.as_slice())
-                && chain_is_own(key, own, seen, chain)
+        Op::Call(Call::Challenge(challenge)) => {
+            challenge_is_own(key, own, seen, challenge)
+                && chain_is_own(key, own, seen, &challenge.chain)
         }
         Op::Call(Call::Checkpoint { chain }) | Op::Call(Call::Conclude { chain }) => {
             chain_is_own(key, own, seen, chain)
         }
-        Op::Call(Call::Respond { fixed, next, .. }) | Op::Call(Call::Refute { fixed, next }) => {
-            signed_is_own(key, own, seen, fixed, next)
-        }
+        Op::Call(Call::Respond(RespondCall { fixed, next, .. }))
+        | Op::Call(Call::Refute { fixed, next }) => signed_is_own(key, own, seen, fixed, next),
         _ => true,
     }
 }

@@ -131,18 +131,18 @@ fn add_call(strings: &mut Vec<Listed<u8>>, call: &Call) -> Result<(), NoMemory>
     ensures { OnOk result (strings.new.items ≡ strings.old.items ++ of_call call.now) }
 {
     match call {
-        Call::Challenge { chain, .. } => add_chain(strings, chain),
+        Call::Challenge(challenge) => add_chain(strings, &challenge.chain),
         Call::Checkpoint { chain } => add_chain(strings, chain),
         Call::Conclude { chain } => add_chain(strings, chain),
-        Call::Respond { fixed, from, next } => add_answer(strings, fixed, from, &next.state),
+        Call::Respond(answer) => {
+            add_answer(strings, &answer.fixed, &answer.from, &answer.next.state)
+        }
         Call::Refute { fixed, next } => add_next(strings, fixed, &next.state),
-        Call::Transfer { outcome, .. } => add_outcome(strings, outcome),
-        Call::Claim {
-            guarantor_outcome,
-            target_outcome,
-            ..
-        } => add_outcomes(strings, guarantor_outcome, target_outcome),
-        Call::Deposit { .. } => Ok(()),
+        Call::Transfer(transfer) => add_outcome(strings, &transfer.outcome),
+        Call::Claim(claim) => {
+            add_outcomes(strings, &claim.guarantor_outcome, &claim.target_outcome)
+        }
+        Call::Deposit(_) => Ok(()),
     }
 }
 

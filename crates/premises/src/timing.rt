@@ -13,7 +13,9 @@ ghost use Rattle.premises.specs.Timing as timing;
 ghost use Rattle.premises.specs.Looks.{noted_channel, channel_noted, next_look, end_is_answered, op_is_answered, entry_is_answered, are_answered};
 
 use call_bytes::{is_op, read_message};
-use call_history::{Call, Deed, Entry, Event, Op, fixed_of, time_after, time_set};
+use call_history::{
+    Call, ChallengeCall, Deed, Entry, Event, Op, RespondCall, fixed_of, time_after, time_set,
+};
 use channel_values::{ByteFault, Fixed, Listed, Name, NoMemory, channel_name};
 use std::alloc::Global;
 
@@ -38,9 +40,10 @@ fn fixed_of_call(call: &Call) -> Option<&Fixed>
     ensures { option_map (λ m. m.now) result ≡ fixed_of (ops.Call call.now) }
 {
     match call {
-        Call::Challenge { chain, .. } | Call::Checkpoint { chain } | Call::Conclude { chain } =>
-            Some(&chain.fixed),
-        Call::Respond { fixed, .. } | Call::Refute { fixed, .. } => Some(fixed),
+        Call::Challenge(ChallengeCall { chain, .. })
+        | Call::Checkpoint { chain }
+        | Call::Conclude { chain } => Some(&chain.fixed),
+        Call::Respond(RespondCall { fixed, .. }) | Call::Refute { fixed, .. } => Some(fixed),
         _ => None,
     }
 }
@@ -228,9 +231,9 @@ fn entry_is_answered(
     ensures { result ≡ entry_is_answered real journal.now newer.now seen now entry.now }
 {
     match &entry.op {
-        Op::Call(Call::Challenge { chain, .. }) => {
+        Op::Call(Call::Challenge(challenge)) => {
             !entry.reply.is_accepted()
-                || challenge_is_answered(journal, noted, newer, seen, now, &chain.fixed)
+                || challenge_is_answered(journal, noted, newer, seen, now, &challenge.chain.fixed)
         }
         _ => true,
     }

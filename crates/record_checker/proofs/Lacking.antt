@@ -1,4 +1,4 @@
--- What tells the first faults of endings is so of the history.
+-- What shows the first faults of endings is so of the history.
 use Rattle.std.proofs.Common.{◌≡◌, ℕ, List, subst, ◌↔◌}
 use Rattle.std.specs.Prelude.{Option, Result, Ok, Err, IfOk}
 use Rattle.channel_values.specs.declared.fault.NoMemory.{NoMemory}

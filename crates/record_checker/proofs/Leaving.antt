@@ -50,7 +50,7 @@ either_way true o = refl
 either_way false o = refl
 
 leaves_settled : (op : Op) (channel : List ℕ) (o : Option (List AssetOutcome)) → touches (changed_by op) channel ≡ false → cond (is_named real channel (fixed_of op)) (settles op o) o ≡ o
-leaves_settled (ops.Call (Challenge chain who signature)) channel o other = ap (λ b. cond b (settles (ops.Call (Challenge chain who signature)) o) o) other
+leaves_settled (ops.Call (Challenge k)) channel o other = ap (λ b. cond b (settles (ops.Call (Challenge k)) o) o) other
 leaves_settled (ops.Call (Conclude chain)) channel o other = ap (λ b. cond b (settles (ops.Call (Conclude chain)) o) o) other
 leaves_settled op channel o other = either_way (is_named real channel (fixed_of op)) o
 
@@ -65,10 +65,10 @@ pays_other p channel asset place other =
     omega (arith, sum_by-cons (pays channel asset place) p [], nothing)
 
 pays_nothing : (op : Op) (reply : Reply) (channel : List ℕ) (asset place : ℕ) → touches (cond (is_accepted reply) (changed_by op) None) channel ≡ false → paid_of_item (payment_of op reply) channel asset place ≡ 0
-pays_nothing (ops.Call (Transfer name outcome kind index)) (Paid n) channel asset place other =
-    pays_other (record { channel = name; asset = kind; place = index; amount = n }) channel asset place other
-pays_nothing (ops.Call (Claim guarantor promise target outcome kind position)) (Paid n) channel asset place other =
-    pays_other (record { channel = target; asset = kind; place = place_in (shape_in outcome kind) (listed_dest (shape_in promise kind) position); amount = n }) channel asset place other
+pays_nothing (ops.Call (Transfer k)) (Paid n) channel asset place other =
+    pays_other (record { channel = k.channel; asset = k.asset; place = k.index; amount = n }) channel asset place other
+pays_nothing (ops.Call (Claim k)) (Paid n) channel asset place other =
+    pays_other (record { channel = k.target; asset = k.asset; place = place_in (shape_in k.target_outcome k.asset) (listed_dest (shape_in k.guarantor_outcome k.asset) k.position); amount = n }) channel asset place other
 pays_nothing op reply channel asset place other = refl
 
 module _ (h : List Entry) (e : Entry) (channel : List ℕ) (other : touches (changed e) channel ≡ false) where
@@ -109,7 +109,7 @@ module _ (h : List Entry) (e : Entry) (now : ℕ) (channel : List ℕ) (rest : O
 -- ---- it can be followed
 
 none_short : (op : Op) → is_short op None ≡ true
-none_short (ops.Call (Respond f from next)) = refl
+none_short (ops.Call (Respond k)) = refl
 none_short op = refl
 
 small_sum : (held amount : ℕ) → held ≡ 0 → amount < 2 ^ 64 → held + amount < 2 ^ 64

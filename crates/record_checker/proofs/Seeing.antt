@@ -1,4 +1,4 @@
--- What tells the conditions of plans.
+-- What shows the conditions of plans.
 use Rattle.std.proofs.Common.{◌≡◌, Bool, true, false, not, ◌&&◌, leb, List, [], ◌∷◌, refl, sym, ◌∙◌, ap}
 use Rattle.std.specs.Prelude.{Option, Some, None, count_by}
 use Rattle.std.proofs.lemmas.Bool.{leb-true, le-leb}

@@ -116,7 +116,7 @@ EndsAs a g TooLong text =
 EndsAs a g NoMemory text = ⊥
 EndsAs a g WriteFault text = ⊥
 
--- the words are the one word, and the source tells these bytes, which are short enough, and doesn't fail
+-- the words are the one word, and the source gives these bytes, which are short enough, and doesn't fail
 pub record Tells (a : Asked) (bytes : List ℕ) (g : Given) : Type 0 where
   pub asks_it : asks a g.words ≡ true
   pub told : g.before ≡ Some bytes

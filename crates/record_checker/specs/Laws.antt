@@ -1,4 +1,4 @@
--- What a verdict tells: no two verdicts hold of one record.
+-- What a verdict says: no two verdicts hold of one record.
 use Rattle.std.specs.Prelude.{◌≡◌}
 use Rattle.run_record.specs.declared.run_record.Record.{Record}
 use Rattle.record_checker.specs.Faults.{Says}

@@ -35,10 +35,10 @@ pub record IsPast (h : List Entry) (a : Standing) (rests : Rests) : Type 0 where
 
 -- the channel of whose outcome a call may change what is left
 abbrev pub changed_by : Op → Option (List ℕ)
-changed_by (ops.Call (Challenge chain who signature)) = Some (name_of chain.fixed)
+changed_by (ops.Call (Challenge k)) = Some (name_of k.chain.fixed)
 changed_by (ops.Call (Conclude chain)) = Some (name_of chain.fixed)
-changed_by (ops.Call (Transfer channel outcome asset index)) = Some channel
-changed_by (ops.Call (Claim guarantor promise target outcome asset position)) = Some target
+changed_by (ops.Call (Transfer k)) = Some k.channel
+changed_by (ops.Call (Claim k)) = Some k.target
 changed_by _ = None
 
 abbrev pub changed : Entry → Option (List ℕ)

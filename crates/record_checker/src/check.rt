@@ -39,7 +39,7 @@ impl Answering for Check {
     }
 }
 
-/// Reads a record, checks it, and puts one line.
+/// Reads a record, checks it, and writes one line.
 pub fn run_check<S: Source, K: Sink>(
     alloc: Global,
     words: &[Label],

@@ -1,4 +1,4 @@
-//! Checks records of runs, and tells what is wrong with one.
+//! Checks records of runs, and says what is wrong with one.
 #![tactic(auto)]
 
 mod answering;

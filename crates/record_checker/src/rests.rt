@@ -10,7 +10,7 @@ ghost use Rattle.record_checker.specs.Past.{AreRests};
 ghost use Rattle.history_view.specs.Views.{view_of};
 ghost use Rattle.support_rules.specs.Real.{real};
 
-use call_history::{Call, ChannelView, Entry, Op, Reply, WorldView, flow_of};
+use call_history::{Call, ChallengeCall, ChannelView, Entry, Op, Reply, WorldView, flow_of};
 use channel_values::{Listed, Name, NoMemory, Outcome, channel_name};
 use history_view::{follow, view_of};
 use indexmap::IndexMap;
@@ -59,11 +59,11 @@ fn changed_by(op: &Op) -> Option<Name>
     ensures { result ≡ past.changed_by op.now }
 {
     match op {
-        Op::Call(Call::Challenge { chain, .. } | Call::Conclude { chain }) => {
+        Op::Call(Call::Challenge(ChallengeCall { chain, .. }) | Call::Conclude { chain }) => {
             Some(channel_name(chain.fixed.bytes()))
         }
-        Op::Call(Call::Transfer { channel, .. }) => Some(*channel),
-        Op::Call(Call::Claim { target, .. }) => Some(*target),
+        Op::Call(Call::Transfer(transfer)) => Some(transfer.channel),
+        Op::Call(Call::Claim(claim)) => Some(claim.target),
         _ => None,
     }
 }

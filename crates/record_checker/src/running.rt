@@ -119,7 +119,7 @@ fn work<A: Answering, S: Source>(
     }
 }
 
-/// Does all that such a program does: reads a record, checks it, and puts the answer, or one line on what is wrong.
+/// Does all that such a program does: reads a record, checks it, and writes the answer, or one line on what is wrong.
 #[tactic(auto, using(crate::proofs::Completes::completes))]
 pub fn run_on_record<A: Answering, S: Source, K: Sink>(
     alloc: Global,

@@ -10,7 +10,7 @@ use channel_values::{
     ByteFault, StepFault, SupportFault, place_of, take_byte, take_name, take_u64,
 };
 
-/// What a number stands for, with the bytes behind it; its place is the fault where it stands for nothing.
+/// What a number stands for, with the bytes after it; its place is the fault where it stands for nothing.
 pub(crate) fn or_bad<T: Copy>(
     place: usize,
     found: Option<T>,
@@ -94,7 +94,7 @@ fn take_named(
     or_bad(place, named_of(tag, name), rest)
 }
 
-/// What a refusal keeps, behind a tag that stands at a place.
+/// What a refusal keeps, after a tag that stands at a place.
 fn take_kept(
     whole: usize,
     place: usize,
@@ -146,7 +146,7 @@ fn take_accepted(
     or_bad(place, accepted_of(tag, n), rest)
 }
 
-/// What a reply says, behind a tag that stands at a place.
+/// What a reply says, after a tag that stands at a place.
 fn take_told(whole: usize, place: usize, tag: u8, bytes: &[u8]) -> Result<(Reply, &[u8]), ByteFault>
     ensures { TakesValue result (reads.told_at whole place tag bytes.now) }
 {

@@ -1,4 +1,4 @@
-//! The run that a record tells, for a picture: as the lines would say it that were printed of it, and whom each payment
+//! The run that a record describes, for a picture: as the printed lines would describe it, and whom each payment
 //! goes to.
 #![tactic(auto)]
 

@@ -76,14 +76,18 @@ abbrev pub top_text : List StateParts → List ℕ
 top_text states = turn_or_dash (newest states)
 
 abbrev pub call_text : Labels → Call → List ℕ
-call_text labels (Deposit channel asset expected amount) = codes "deposit" & channel_text labels channel & decimal asset & decimal expected & decimal amount
-call_text labels (Challenge chain who signature) = codes "challenge" & fixed_text labels chain.fixed & top_text chain.states
-call_text labels (Respond fixed from next) = codes "respond" & fixed_text labels fixed & decimal next.state.turn
+call_text labels (Deposit d) =
+    codes "deposit" & channel_text labels d.channel & decimal d.asset & decimal d.expected & decimal d.amount
+call_text labels (Challenge k) = codes "challenge" & fixed_text labels k.chain.fixed & top_text k.chain.states
+call_text labels (Respond k) = codes "respond" & fixed_text labels k.fixed & decimal k.next.state.turn
 call_text labels (Refute fixed next) = codes "refute" & fixed_text labels fixed & decimal next.state.turn
 call_text labels (Checkpoint chain) = codes "checkpoint" & fixed_text labels chain.fixed & top_text chain.states
 call_text labels (Conclude chain) = codes "conclude" & fixed_text labels chain.fixed & top_text chain.states
-call_text labels (Transfer channel outcome asset index) = codes "transfer" & channel_text labels channel & decimal asset & decimal index
-call_text labels (Claim guarantor promise target outcome asset position) = codes "claim" & channel_text labels guarantor & channel_text labels target & decimal asset & decimal position
+call_text labels (Transfer k) =
+    codes "transfer" & channel_text labels k.channel & decimal k.asset & decimal k.index
+call_text labels (Claim k) =
+    codes "claim" & channel_text labels k.guarantor & channel_text labels k.target & decimal k.asset
+    & decimal k.position
 
 abbrev pub op_text : Labels → Op → List ℕ
 op_text labels (ops.Call call) = call_text labels call
@@ -144,7 +148,8 @@ mode_text standings.Final = codes "final"
 abbrev pub node_refusal_text : Labels → NodeRefusal → List ℕ
 node_refusal_text labels node_refusals.BadBytes = codes "1 BadBytes"
 node_refusal_text labels node_refusals.UnknownChannel = codes "2 UnknownChannel"
-node_refusal_text labels (node_refusals.NotOpen channel mode) = codes "3 NotOpen" & channel_text labels channel & mode_text mode
+node_refusal_text labels (node_refusals.NotOpen channel mode) =
+    codes "3 NotOpen" & channel_text labels channel & mode_text mode
 node_refusal_text labels (node_refusals.NotNext wanted) = codes "4 NotNext" & decimal wanted
 node_refusal_text labels node_refusals.BadSignature = codes "5 BadSignature"
 node_refusal_text labels node_refusals.NotAStep = codes "6 NotAStep"
@@ -184,12 +189,14 @@ balance_line word name asset amount = if amount == 0 then [] else word & name & 
 
 -- what a channel holds of an asset
 abbrev pub held_line : Labels → List Flow → Pair → List ℕ
-held_line labels flows (Channel channel, asset) = balance_line (codes "held") (channel_text labels channel) asset (held_in flows channel asset)
+held_line labels flows (Channel channel, asset) =
+    balance_line (codes "held") (channel_text labels channel) asset (held_in flows channel asset)
 held_line labels flows (Person person, asset) = []
 
 -- what a person was paid of an asset
 abbrev pub paid_line : Labels → List Flow → Pair → List ℕ
-paid_line labels flows (Person person, asset) = balance_line (codes "paid") (dest_text labels (Person person)) asset (paid_in flows person asset)
+paid_line labels flows (Person person, asset) =
+    balance_line (codes "paid") (dest_text labels (Person person)) asset (paid_in flows person asset)
 paid_line labels flows (Channel channel, asset) = []
 
 -- what channels hold and persons were paid, in the order of first receipt

@@ -57,40 +57,37 @@ fn call_text(alloc: Global, labels: &[(Dest, Label)], call: &Call) -> Result<Str
     ensures { IfOk result (λ text. string_bytes text ≡ call_text labels.now call.now) }
 {
     match call {
-        Call::Deposit {
-            channel,
-            asset,
-            expected,
-            amount,
-        } => {
-            let name = channel_text(alloc, labels, channel)?;
+        Call::Deposit(deposit) => {
+            let name = channel_text(alloc, labels, &deposit.channel)?;
+            let asset = deposit.asset;
+            let expected = deposit.expected;
+            let amount = deposit.amount;
             format!(in alloc; "deposit {name} {asset} {expected} {amount}")
         }
-        Call::Challenge { chain, .. } => chain_text(alloc, labels, "challenge", chain),
-        Call::Respond { fixed, next, .. } => {
-            next_text(alloc, labels, "respond", fixed, &next.state)
+        Call::Challenge(challenge) => chain_text(alloc, labels, "challenge", &challenge.chain),
+        Call::Respond(respond) => {
+            next_text(
+                alloc,
+                labels,
+                "respond",
+                &respond.fixed,
+                &respond.next.state,
+            )
         }
         Call::Refute { fixed, next } => next_text(alloc, labels, "refute", fixed, &next.state),
         Call::Checkpoint { chain } => chain_text(alloc, labels, "checkpoint", chain),
         Call::Conclude { chain } => chain_text(alloc, labels, "conclude", chain),
-        Call::Transfer {
-            channel,
-            asset,
-            index,
-            ..
-        } => {
-            let name = channel_text(alloc, labels, channel)?;
+        Call::Transfer(transfer) => {
+            let name = channel_text(alloc, labels, &transfer.channel)?;
+            let asset = transfer.asset;
+            let index = transfer.index;
             format!(in alloc; "transfer {name} {asset} {index}")
         }
-        Call::Claim {
-            guarantor,
-            target,
-            asset,
-            position,
-            ..
-        } => {
-            let guarantor = channel_text(alloc, labels, guarantor)?;
-            let target = channel_text(alloc, labels, target)?;
+        Call::Claim(claim) => {
+            let guarantor = channel_text(alloc, labels, &claim.guarantor)?;
+            let target = channel_text(alloc, labels, &claim.target)?;
+            let asset = claim.asset;
+            let position = claim.position;
             format!(in alloc; "claim {guarantor} {target} {asset} {position}")
         }
     }

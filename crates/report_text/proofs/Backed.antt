@@ -16,6 +16,7 @@ use Rattle.call_history.specs.History.{Legal, flow_of, flow_to, flows_of, held_o
 use Rattle.call_history.specs.Refusing.{told, refuse_if}
 use Rattle.call_history.specs.Replies.{is_unfinished, ends_otherwise, deposit, transfer, claim}
 use Rattle.call_history.specs.declared.call.Call.TheVariants.{Deposit, Challenge, Respond, Refute, Checkpoint, Conclude, Transfer, Claim}
+use Rattle.call_history.specs.declared.call.DepositCall.{DepositCall}
 use Rattle.call_history.specs.declared.call.Op.{Op}
 use Rattle.call_history.specs.declared.call.Op.TheVariants as ops
 use Rattle.call_history.specs.declared.entry.Entry.{Entry}
@@ -101,16 +102,16 @@ due_told_some (Err refusal) h = record { is = tt }
 
 reply_some : (r : Rules) (h : List Entry) (op : Op) → PaysSome (reply_to r h op)
 unfolding reply_to
-reply_some r h (ops.Call (Deposit channel asset expected amount)) = told_some Held _ (λ n. record { is = tt })
-reply_some r h (ops.Call (Challenge chain who signature)) = told_some (λ (new : Row). Until (now_of h + chain.fixed.duration)) _ (λ n. record { is = tt })
-reply_some r h (ops.Call (Respond fixed from next)) = told_some (λ (new : Row). Opened new.turn) _ (λ n. record { is = tt })
+reply_some r h (ops.Call (Deposit d)) = told_some Held _ (λ n. record { is = tt })
+reply_some r h (ops.Call (Challenge k)) = told_some (λ (new : Row). Until (now_of h + k.chain.fixed.duration)) _ (λ n. record { is = tt })
+reply_some r h (ops.Call (Respond k)) = told_some (λ (new : Row). Opened new.turn) _ (λ n. record { is = tt })
 reply_some r h (ops.Call (Refute fixed next)) = told_some (λ (new : Row). Opened new.turn) _ (λ n. record { is = tt })
 reply_some r h (ops.Call (Checkpoint chain)) = told_some (λ (new : Row). Opened new.turn) _ (λ n. record { is = tt })
 reply_some r h (ops.Call (Conclude chain)) = told_some (λ (new : Row). Concluded new.turn) _ (λ n. record { is = tt })
-reply_some r h (ops.Call (Transfer channel outcome asset index)) =
-    due_told_some _ (transfer_is_some r (row r channel h) (now_of h) (paid_of h channel asset) (held_of h channel asset) channel outcome asset index)
-reply_some r h (ops.Call (Claim guarantor promise target outcome asset position)) =
-    due_told_some _ (claim_is_some r (row r guarantor h) (row r target h) (now_of h) (paid_of h target asset) (held_of h guarantor asset) guarantor promise target outcome asset position)
+reply_some r h (ops.Call (Transfer k)) =
+    due_told_some _ (transfer_is_some r (row r k.channel h) (now_of h) (paid_of h k.channel k.asset) (held_of h k.channel k.asset) k.channel k.outcome k.asset k.index)
+reply_some r h (ops.Call (Claim k)) =
+    due_told_some _ (claim_is_some r (row r k.guarantor h) (row r k.target h) (now_of h) (paid_of h k.target k.asset) (held_of h k.guarantor k.asset) k.guarantor k.guarantor_outcome k.target k.target_outcome k.asset k.position)
 reply_some r h (ops.Time t) = told_some Now _ (λ n. record { is = tt })
 
 paid_some : (r : Rules) (h : List Entry) (op : Op) (n : ℕ) → reply_to r h op ≡ Paid n → 0 < n
@@ -133,10 +134,9 @@ held_some held deposited expected amount n e = by (amount == 0) refl e
     by true t e = absurd (cc)
     by false t e = above amount t
 
-deposit_some : (r : Rules) (h : List Entry) (channel : List ℕ) (asset expected amount n : ℕ)
-    → Held n ≡ reply_to r h (ops.Call (Deposit channel asset expected amount)) → 0 < amount
+deposit_some : (r : Rules) (h : List Entry) (d : DepositCall) (n : ℕ) → Held n ≡ reply_to r h (ops.Call (Deposit d)) → 0 < d.amount
 unfolding reply_to
-deposit_some r h channel asset expected amount n e = held_some (held_of h channel asset) (deposited_of h asset) expected amount n (sym e)
+deposit_some r h d n e = held_some (held_of h d.channel d.asset) (deposited_of h d.asset) d.expected d.amount n (sym e)
 
 -- ---- what is carried was deposited
 
@@ -177,14 +177,14 @@ paid_from flows source (Some to) kind n asset c some most before =
 
 entry_brings : (r : Rules) (h : List Entry) (op : Op) (reply : Reply) (asset : ℕ) → reply ≡ reply_to r h op → AreCovered (flows_of h)
     → Brought (flows_of h) asset → Brought (flow_of op reply ++ flows_of h) asset
-entry_brings r h (ops.Call (Deposit channel kind expected amount)) (Held n) asset is c before =
-    from_outside (flows_of h) (record { from = None; to = Channel channel; asset = kind; amount = amount }) asset refl (deposit_some r h channel kind expected amount n is) before
-entry_brings r h (ops.Call (Transfer channel outcome kind index)) (Paid n) asset is c before =
-    paid_from (flows_of h) channel _ kind n asset c (paid_some r h (ops.Call (Transfer channel outcome kind index)) n (sym is))
-    (pays_what_is_held r h (ops.Call (Transfer channel outcome kind index)) n (sym is)) before
-entry_brings r h (ops.Call (Claim guarantor promise target outcome kind position)) (Paid n) asset is c before =
-    paid_from (flows_of h) guarantor _ kind n asset c (paid_some r h (ops.Call (Claim guarantor promise target outcome kind position)) n (sym is))
-    (pays_what_is_held r h (ops.Call (Claim guarantor promise target outcome kind position)) n (sym is)) before
+entry_brings r h (ops.Call (Deposit d)) (Held n) asset is c before =
+    from_outside (flows_of h) (record { from = None; to = Channel d.channel; asset = d.asset; amount = d.amount }) asset refl (deposit_some r h d n is) before
+entry_brings r h (ops.Call (Transfer k)) (Paid n) asset is c before =
+    paid_from (flows_of h) k.channel _ k.asset n asset c (paid_some r h (ops.Call (Transfer k)) n (sym is))
+    (pays_what_is_held r h (ops.Call (Transfer k)) n (sym is)) before
+entry_brings r h (ops.Call (Claim k)) (Paid n) asset is c before =
+    paid_from (flows_of h) k.guarantor _ k.asset n asset c (paid_some r h (ops.Call (Claim k)) n (sym is))
+    (pays_what_is_held r h (ops.Call (Claim k)) n (sym is)) before
 entry_brings r h op reply asset is c before = before
 
 pub brought : (r : Rules) (h : List Entry) → Legal r h → (asset : ℕ) → Brought (flows_of h) asset

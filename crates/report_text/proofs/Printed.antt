@@ -106,7 +106,7 @@ carried_if asset (f ∷ flows) h = by (f.asset == asset) refl (is_outside f.from
         later (omega (arith, h, sum_by-cons (enters asset) f flows, ap (λ b. cond b (carries asset f) 0) p, ap (λ b. cond b f.amount 0) e))
     by false e false p later = later (omega (arith, h, sum_by-cons (enters asset) f flows, ap (λ b. cond b (carries asset f) 0) p))
 
--- the order of the entries tells neither
+-- the order of the entries says neither
 sum_turned : (f : Flow → ℕ) (h : List Entry) → sum_by f (flows_of (reverse h)) ≡ sum_by f (flows_of h)
 sum_turned f [] = refl
 sum_turned f (e ∷ later) =
@@ -189,7 +189,7 @@ apart_from : (seen : List Pair) (flows : List Flow) → AreApart is_pair seen �
 apart_from seen [] h = h
 apart_from seen (f ∷ flows) h = apart_from (add_new seen (f.to, f.asset)) flows (apart_new (f.to, f.asset) seen h)
 
--- behind those seen
+-- after those seen
 grows_new : (p : Pair) (pairs : List Pair) → (rest : List Pair) × (add_new pairs p ≡ pairs ++ rest)
 grows_new p pairs = by (is_there p pairs)
   where

@@ -33,7 +33,7 @@ pub record AssetsAreThoseDeposited (h : List Entry) : Type 0 where
 abbrev pub is_received : Pair → List Flow → Bool
 is_received pair flows = list_any (λ f. is_pair (f.to, f.asset) pair) flows
 
--- each destination and asset that received something stands once, and behind those that received something before
+-- each destination and asset that received something stands once, and after those that received something before
 pub record ReceiversComeOnce (flows : List Flow) : Type 0 where
   pub once : AreApart is_pair (receivers_of flows)
   pub listed : (pair : Pair) → is_there pair (receivers_of flows) ≡ is_received pair flows

@@ -17,7 +17,7 @@ abbrev pub deed_lines : Option Load → Report → List ℕ
 deed_lines None r = flat_map (entry_line r.labels) r.history ++ command_lines r.labels (all_refused r.journals)
 deed_lines (Some load) r = load_line load
 
--- what stands behind those
+-- what stands after those
 abbrev pub tail_of : Report → List ℕ
 tail_of r =
     end_line r.history

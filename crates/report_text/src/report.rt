@@ -63,7 +63,7 @@ pub fn text_of(report: &Report) -> Result<Vec<u8>, NoMemory>
     Ok(text.into_bytes())
 }
 
-/// What stands in the text of a report behind the entries and the refused commands.
+/// What stands in the text of a report after the entries and the refused commands.
 pub fn tail_of(report: &Report) -> Result<Vec<u8>, NoMemory>
     requires { Legal real (newest_first report.now.history) }
     ensures { IfOk result (λ text. text.items ≡ tail_of report.now) }

@@ -192,7 +192,7 @@ fn append_deeds(alloc: Global, text: &mut String, report: &Report) -> Result<(),
     Ok(())
 }
 
-/// Appends what stands behind the entries and the refused commands.
+/// Appends what stands after the entries and the refused commands.
 pub(crate) fn append_tail(alloc: Global, text: &mut String, report: &Report) -> Result<(), NoMemory>
     requires { Legal real (newest_first report.now.history) }
     ensures { OnOk result (string_bytes text.new ≡ string_bytes text.old ++ tail_of report.now) }

@@ -27,7 +27,7 @@ fn add(amounts: &mut [u64], at: usize, amount: u64) {
     }
 }
 
-/// Takes an amount, and tells what was lacking.
+/// Takes an amount, and says what was lacking.
 fn take(amounts: &mut [u64], at: usize, amount: u64) -> u64 {
     match amounts.get_mut(at) {
         Some(place) => {
@@ -67,7 +67,7 @@ fn edges_of(alloc: Global, amounts: &[u64]) -> Result<Vec<u64>, AllocError> {
     Ok(edges)
 }
 
-/// The first entry behind a column, of so many.
+/// The first entry after a column, of so many.
 pub fn end_of_column(column: usize, columns: usize, entries: usize) -> usize {
     let end = column.saturating_add(1).saturating_mul(entries);
     end.checked_div(columns).unwrap_or(entries)

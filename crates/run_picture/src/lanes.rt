@@ -249,7 +249,7 @@ fn draw_marks(
     Ok(drawn)
 }
 
-/// Draws the lanes, and tells how many marks there are.
+/// Draws the lanes, and says how many marks there are.
 pub(crate) fn draw_lanes(
     sketch: &mut Sketch,
     frame: Frame,

@@ -17,7 +17,7 @@ struct Row {
 }
 
 impl Row {
-    /// Puts a text behind a sign, and goes on behind it.
+    /// Places a text after a sign, and goes on after it.
     fn text(&mut self, sketch: &mut Sketch, text: &[u8]) -> Result<(), AllocError> {
         let at = (plus(self.x, 24), plus(self.y, 4));
         sketch.text(Look::Plain, at, Runs::Right, &[text])?;

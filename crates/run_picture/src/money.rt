@@ -98,7 +98,7 @@ fn draw_arrow(
     sketch.line(look, (x, start), (x, end), title)
 }
 
-/// Whether a number of so many digits has room below the band of a channel, behind the one before it and ahead of the
+/// Whether a number of so many digits has room below the band of a channel, after the one before it and ahead of the
 /// panel; it is taken then.
 fn takes(ends: &mut [u64], channel: usize, from: u64, digits: usize) -> bool {
     let next = plus(from, (digits as u64).saturating_mul(7));
@@ -111,7 +111,7 @@ fn takes(ends: &mut [u64], channel: usize, from: u64, digits: usize) -> bool {
     }
 }
 
-/// Puts an amount below the band of a channel, where there is room.
+/// Places an amount below the band of a channel, where there is room.
 fn draw_amount(
     sketch: &mut Sketch,
     ends: &mut [u64],
@@ -321,7 +321,7 @@ fn widest_room(frame: Frame, chart: Chart, columns: &Columns, layer: usize) -> R
     widest
 }
 
-/// Puts a name at the right of its room, where it fits.
+/// Places a name at the right of its room, where it fits.
 fn draw_name(sketch: &mut Sketch, room: Room, name: &[u8]) -> Result<(), AllocError> {
     let name = short(name);
     let letters = name[0].len().saturating_add(name[1].len());
@@ -378,7 +378,7 @@ fn draw_heading(sketch: &mut Sketch, end: &AssetEnd, top: u64) -> Result<(), All
     sketch.text(Look::Strong, at, Runs::Right, &[text.as_bytes()])
 }
 
-/// Draws the area of an asset, and tells where it ends.
+/// Draws the area of an asset, and says where it ends.
 pub(crate) fn draw_area(
     sketch: &mut Sketch,
     frame: Frame,

@@ -1,4 +1,4 @@
-//! Who was paid, where it isn't told. A text names the payer and the item, and not who is paid by it; but it tells what
+//! Who was paid, where it isn't told. A text names the payer and the item, and not who is paid by it; but it says what
 //! each person was paid and what each channel holds, and so mostly leaves one way.
 
 use crate::flows::{Flow, Flows, Goes};

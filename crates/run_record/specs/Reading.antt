@@ -135,7 +135,7 @@ share_at whole bytes = do
 abbrev pub next_at : {X : Type 0} → (ℕ → List ℕ → Result (X × List ℕ) ByteFault) → ℕ → List X → List ℕ → Result (X × List ℕ) ByteFault
 next_at one whole seen bytes = one whole bytes
 
--- a list behind a count of one byte, at most a limit, and behind one of four bytes
+-- a list after a count of one byte, at most a limit, and after one of four bytes
 unfoldable pub few_at : {X : Type 0} → (limit : ℕ) → (ℕ → List ℕ → Result (X × List ℕ) ByteFault) → ℕ → List ℕ → Result (List X × List ℕ) ByteFault
 few_at limit one whole bytes = do
   count ← count_at whole limit bytes

@@ -73,7 +73,7 @@ Amount = ℕ × ℕ
 unfoldable pub share : Amount → List ℕ
 share s = to_be_bytes w32 s.0 ++ wide s.1
 
--- a list behind a count of one byte, and behind one of four
+-- a list after a count of one byte, and after one of four
 abbrev pub few : {X : Type 0} → (X → List ℕ) → List X → List ℕ
 few spell xs = count (length xs) ∷ flat_map spell xs
 

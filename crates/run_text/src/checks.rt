@@ -55,7 +55,7 @@ fn check_deposited(entries: &[Entry], assets: &[AssetEnd]) -> Result<(), Wanted>
     Ok(())
 }
 
-/// The balances of each asset add up to what its line tells.
+/// The balances of each asset add up to what its line says.
 fn check_balances(run: &Run) -> Result<(), Wanted> {
     for end in &run.assets {
         if sum_of(&run.held, end.asset) != end.held {
@@ -125,7 +125,7 @@ fn check_last_person(run: &Run) -> Result<(), Wanted> {
     }
 }
 
-/// The stage that a line goes to, where it may stand behind those before.
+/// The stage that a line goes to, where it may stand after those before.
 pub(crate) fn check_stage(run: &Run, before: Stage, line: &Line) -> Result<Stage, Wanted> {
     let Some(stage) = Stage::of(line) else {
         return Ok(before);

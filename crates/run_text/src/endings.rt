@@ -119,7 +119,7 @@ fn read_exit<'a>(words: &mut Words<'a>) -> Result<Line<'a>, Wanted> {
     Ok(Line::Exit(ExitLine { name, asset, share }))
 }
 
-/// What a line that is no entry tells: its first word, and the words behind it.
+/// What a line that is no entry says: its first word, and the words after it.
 pub(crate) fn read_ending<'a>(line: &'a [u8], words: &mut Words<'a>) -> Result<Line<'a>, Wanted> {
     match words.keyword() {
         "load" => read_load(words),

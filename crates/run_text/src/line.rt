@@ -1,4 +1,4 @@
-//! What a line tells.
+//! What a line says.
 
 use crate::endings::read_ending;
 use crate::entries::read_entry;
@@ -16,7 +16,7 @@ pub(crate) struct PersonLine<'a> {
 }
 
 impl PersonLine<'_> {
-    /// What it tells of its asset, before any exit.
+    /// What it says of its asset, before any exit.
     pub(crate) fn told(&self) -> PersonAsset {
         PersonAsset {
             asset: self.asset,
@@ -65,7 +65,7 @@ fn read_words<'a>(line: &'a [u8], words: &mut Words<'a>) -> Result<Line<'a>, Wan
     }
 }
 
-/// What a line tells, to its end.
+/// What a line says, to its end.
 pub(crate) fn read_line(line: &[u8]) -> Result<Line<'_>, Wanted> {
     let mut words = Words::of(line);
     let told = read_words(line, &mut words)?;

@@ -1,6 +1,6 @@
-//! What a printed text or a record tells. Names, and lines where they are kept, are bytes of the text itself.
+//! What a printed text or a record says. Names, and lines where they are kept, are bytes of the text itself.
 
-/// A run, as its text or its record tells it.
+/// A run, as its text or its record shows it.
 #[derive(Debug, Drop)]
 pub struct Run<'a> {
     /// The script that the program made itself, if it did: then entries aren't told.
@@ -31,7 +31,7 @@ pub struct Entry<'a> {
     pub by: u64,
     pub call: Call<'a>,
     pub reply: Reply<'a>,
-    /// Whom it pays, which a record alone tells.
+    /// Whom it pays, which a record alone says.
     pub payee: Option<Payee<'a>>,
 }
 

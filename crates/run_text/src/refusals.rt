@@ -4,7 +4,7 @@ use crate::model::Said;
 use crate::words::Words;
 use text_lines::Wanted;
 
-/// What stands behind the name of a refusal.
+/// What stands after the name of a refusal.
 #[derive(Clone, Copy, PartialEq, Eq)]
 enum Values {
     Nothing,
@@ -15,7 +15,7 @@ enum Values {
     SupportFault,
 }
 
-/// The name of the refusal of a call, and what stands behind it.
+/// The name of the refusal of a call, and what stands after it.
 fn of_call(number: u64) -> Option<(&'static str, Values)> {
     Some(match number {
         1 => ("IsFinal", Values::Nothing),
@@ -47,7 +47,7 @@ fn of_call(number: u64) -> Option<(&'static str, Values)> {
     })
 }
 
-/// The name of a node's refusal, and what stands behind it.
+/// The name of a node's refusal, and what stands after it.
 fn of_node(number: u64) -> Option<(&'static str, Values)> {
     Some(match number {
         1 => ("BadBytes", Values::Nothing),

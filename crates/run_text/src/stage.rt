@@ -37,7 +37,7 @@ impl Stage {
         self.place() >= Stage::End.place()
     }
 
-    /// Whether a line of this stage may stand behind one of the stage before: `load` or `hop` is the first, and `end`
+    /// Whether a line of this stage may stand after one of the stage before: `load` or `hop` is the first, and `end`
     /// stands once.
     fn may_follow(self, before: Stage) -> bool {
         match self {
@@ -47,7 +47,7 @@ impl Stage {
         }
     }
 
-    /// What is wanted in place of a line of this stage, behind one of the stage before.
+    /// What is wanted in place of a line of this stage, after one of the stage before.
     pub(crate) fn check_after(self, before: Stage) -> Result<(), Wanted> {
         if !self.may_follow(before) {
             return Err(Wanted::LaterLine);
@@ -58,7 +58,7 @@ impl Stage {
         Ok(())
     }
 
-    /// The stage of a line; `None` of those that stand behind a line `premises`.
+    /// The stage of a line; `None` of those that stand after a line `premises`.
     pub(crate) fn of(line: &Line) -> Option<Stage> {
         match line {
             Line::Made(_) => Some(Stage::Made),

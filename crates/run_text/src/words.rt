@@ -58,7 +58,7 @@ fn is_name(word: &[u8]) -> bool {
     declared || (word.len() == 64 && word.iter().all(|byte| is_digit_of_name(*byte)))
 }
 
-/// What stands before the first space, and what behind it, if there is one.
+/// What stands before the first space, and what after it, if there is one.
 fn cut(text: &[u8]) -> (&[u8], Option<&[u8]>) {
     match text.iter().position(|byte| *byte == b' ') {
         None => (text, None),
@@ -130,19 +130,19 @@ impl<'a> Words<'a> {
         }
     }
 
-    /// The number behind a word.
+    /// The number after a word.
     pub(crate) fn number_after(&mut self, word: &'static str) -> Result<u64, Wanted> {
         self.word(word)?;
         self.number()
     }
 
-    /// The share behind a word.
+    /// The share after a word.
     pub(crate) fn share_after(&mut self, word: &'static str) -> Result<u128, Wanted> {
         self.word(word)?;
         self.share()
     }
 
-    /// What is said behind a word.
+    /// What is said after a word.
     pub(crate) fn yes_or_no_after(&mut self, word: &'static str) -> Result<bool, Wanted> {
         self.word(word)?;
         self.yes_or_no()

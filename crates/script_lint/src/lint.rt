@@ -155,7 +155,8 @@ fn work<S: Source>(alloc: Global, words: &[Label], source: &mut S) -> Result<End
     }
 }
 
-/// Reads a script by the rules of a run or of a race, by the one word, and puts how many steps it has, or its first fault.
+/// Reads a script by the rules of a run or of a race, by the one word, and writes how many steps it has, or its first
+/// fault.
 pub fn run_lint<S: Source, K: Sink>(
     alloc: Global,
     words: &[Label],

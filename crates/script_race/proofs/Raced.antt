@@ -1,4 +1,4 @@
--- The report of the parts of a race tells it and keeps its promises, and watchers were in time.
+-- The report of the parts of a race shows it and keeps its promises, and watchers were in time.
 use Rattle.std.proofs.Common.{◌≡◌, ℕ, Bool, true, List, reverse, sym, ◌∙◌, ap, subst}
 use Rattle.std.specs.Prelude.{All, Option, None}
 use Rattle.std.proofs.lemmas.List.{reverse-reverse}

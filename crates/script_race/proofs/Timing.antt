@@ -71,7 +71,7 @@ time_next h last now is low e =
 one_less : (n last h : ℕ) → n ≡ last → last ≡ h + 1 → n - 1 ≡ h
 one_less n last h e is = omega (arith, e, is)
 
--- the number of what the driver enters tells how long the history was
+-- the number of what the driver enters says how long the history was
 pub count_before : (h last : List Entry) (op : Op) (n : ℕ) → n ≡ length last → last ≡ entered_on h op → n - 1 ≡ length h
 count_before h last op n e is =
     one_less n (length last) (length h) e (ap length is ∙ length-append h (record { number = suc (length h); by = 0; op = op; reply = reply_to real (newest_first h) op } ∷ []))

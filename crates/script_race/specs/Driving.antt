@@ -42,7 +42,7 @@ pub record KeepRaces {P : Type 0} (ways : Ways P) (stands : List Entry → P →
   pub writes : WritesJournals ways lost
 
 module _ {P D : Type 0} {V : D → Type 0} where
-  -- what the parts of a race stand for, by whether an actor tells what it has answered, and what it tells
+  -- what the parts of a race stand for, by whether an actor says what it has answered, and what it says
   abbrev pub race_of : (tells : (d : D) × V d → Bool) (told : (d : D) × V d → List Act) → Race P D V → RaceOf P
   race_of tells told r =
       record {

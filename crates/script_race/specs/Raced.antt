@@ -1,4 +1,4 @@
--- What a report tells of a race, and what it promises of each person with a node.
+-- What a report says of a race, and what it promises of each person with a node.
 use Rattle.std.specs.Prelude.{ℕ, List, None}
 use Rattle.channel_values.specs.Collisions.{NoneCollide}
 use Rattle.call_history.specs.History.{Legal}
@@ -24,8 +24,8 @@ RacersAreInTime {P} ways stands =
     (h : List Entry) (p : P) (ends : List ℕ) → Legal real h → stands h p → IsRaced h (ways.lines p) ends → OpensLasting (ways.lines p)
     → AreValid h (ways.lines p) → NoneCollide (hashed h (ways.lines p)) → InTime real h (ways.lines p)
 
--- The report is that of a race of these steps with this cast: it tells what the race came to and keeps its promises, and the
--- watchers of each person with a node were in time.
+-- The report is that of a race of these steps with this cast: it describes what the race came to and keeps its
+-- promises, and the watchers of each person with a node were in time.
 pub record IsOfRace {P : Type 0} (ways : Ways P) (cast : List Player) (r : Report) (steps : List Step) : Type 0 where
   pub race : RaceOf P
   pub races : IsRaceOf ways steps cast race

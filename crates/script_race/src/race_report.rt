@@ -20,8 +20,8 @@ use std::alloc::Global;
 use std::sync::Wait;
 use std::thread::Threads;
 
-/// Plays the steps in a race with this cast, whose notes are empty, and tells what came of them. The signers are those of the
-/// people that the steps declare.
+/// Plays the steps in a race with this cast, whose notes are empty, and says what came of them. The signers are those
+/// of the people that the steps declare.
 pub fn report_race<R: Threads + Wait + Sync, P: ReportedNode + Send>(
     rt: &R,
     alloc: Global,

@@ -122,7 +122,7 @@ keeps c d s h =
     } in
     subst (λ (x : Step). Keeps c x) same all
 
--- the steps behind those seen
+-- the steps after those seen
 next_checked : (c : Context) (seen all : List Step) (ds : Items) (n : ℕ) (r : Result Step Rule) → ((s : Step) → r ≡ Ok s → Keeps c s)
     → ((s : Step) → steps_from (after c s) (seen ++ s ∷ []) ds ≡ Ok all → (rest : List Step) × (all ≡ (seen ++ s ∷ []) ++ rest) × AreChecked (after c s) rest)
     → script.◌>>=◌ (at_step n r) (λ s. steps_from (after c s) (seen ++ s ∷ []) ds) ≡ Ok all → (rest : List Step) × (all ≡ seen ++ rest) × AreChecked c rest

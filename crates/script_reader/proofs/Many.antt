@@ -8,7 +8,7 @@ use Rattle.script_steps.specs.Rules.{◌>>=◌}
 use Rattle.script_reader.specs.Kinds.{many_in}
 use Rattle.script_steps.specs.declared.step.Rule.{Rule}
 
--- what is read of the values that are left, behind those seen
+-- what is read of the values that are left, after those seen
 abbrev pub many_left : {X : Type 0} → (Data → Result X Rule) → List X → List Value → Result (List X) Rule
 many_left one seen vs = many_in one seen (items_view vs)
 

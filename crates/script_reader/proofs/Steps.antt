@@ -13,7 +13,7 @@ use Rattle.script_steps.specs.declared.context.Context.{Context}
 use Rattle.script_steps.specs.declared.step.Step.{Step}
 use Rattle.script_reader.specs.declared.script.ScriptFault.{ScriptFault}
 
--- what is read of the values that are left, behind the steps seen
+-- what is read of the values that are left, after the steps seen
 abbrev pub steps_left : Context → List Step → List Value → Result (List Step) ScriptFault
 steps_left c seen vs = steps_from c seen (items_view vs)
 

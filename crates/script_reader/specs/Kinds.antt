@@ -52,7 +52,7 @@ abbrev pub item_count : Items → ℕ
 item_count no_items = 0
 item_count (item d ds) = suc (item_count ds)
 
--- what one item after another is, behind those seen
+-- what one item after another is, after those seen
 abbrev pub many_in : {X : Type 0} → (Data → Result X Rule) → List X → Items → Result (List X) Rule
 many_in one seen no_items = Ok seen
 many_in one seen (item d ds) = one d >>= λ x. many_in one (seen ++ x ∷ []) ds

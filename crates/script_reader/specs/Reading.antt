@@ -33,7 +33,7 @@ knows_names c (written.OpenVirtual k) = are_known c (open_virtual_uses k.who k.l
 abbrev pub may_race : Context → Step → Bool
 may_race c s = not c.race || runs_in_race s
 
--- the rules behind the names, in their order
+-- the rules after the names, in their order
 abbrev pub limited : Context → Step → Result Step Rule
 limited c s = do
   fit ← holds rules.Limit (fits c s)

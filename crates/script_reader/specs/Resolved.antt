@@ -53,7 +53,7 @@ item_of c h = do
   to ← dest_of c h.to
   Ok (record { to = to; amount = h.amount })
 
--- what one after another gives, behind those seen
+-- what one after another gives, after those seen
 abbrev pub each : {A X : Type 0} → (A → Result X Rule) → List X → List A → Result (List X) Rule
 each one seen [] = Ok seen
 each one seen (a ∷ rest) = one a >>= λ x. each one (seen ++ x ∷ []) rest

@@ -32,12 +32,12 @@ abbrev pub ◌>>=◌ : {A B : Type 0} → Result A ScriptFault → (A → Result
 abbrev pub start : Bool → Context
 start race = record { race = race; people = []; channels = []; states = []; signers = []; rounds = 0 }
 
--- the steps that the items are, behind those seen, after which c is declared
+-- the steps that the items are, after those seen, after which c is declared
 abbrev pub steps_from : Context → List Step → Items → Result (List Step) ScriptFault
 steps_from c seen no_items = Ok seen
 steps_from c seen (item d ds) = at_step (length seen + 1) (step_of c d) >>= λ s. steps_from (after c s) (seen ++ s ∷ []) ds
 
--- the steps of a JSON value, behind those after which c is declared, or its first fault
+-- the steps of a JSON value, after those after which c is declared, or its first fault
 abbrev pub script_of : Context → Data → Result (List Step) ScriptFault
 script_of c d = do
   items ← at_step 0 (listed d)

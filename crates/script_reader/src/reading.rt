@@ -75,7 +75,7 @@ fn led(alloc: Global, context: &Context, value: &Value) -> Result<Step, StepFaul
     resolved(alloc, context, written)
 }
 
-/// Tries the rules behind the names, in their order, and takes note of what the step declares.
+/// Tries the rules after the names, in their order, and takes note of what the step declares.
 fn limited(alloc: Global, context: &mut Context, step: &Step) -> Result<Option<Signer>, StepFault>
     ensures limited { Gives (λ _. step.now) result (limited context.old step.now) }
     ensures noted { IfOk result (λ _. context.new ≡ after context.old step.now) }

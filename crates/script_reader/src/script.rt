@@ -169,7 +169,7 @@ fn script_of(
     }
 }
 
-/// Reads a script behind what the context says is declared.
+/// Reads a script after what the context says is declared.
 pub(crate) fn read_behind(
     alloc: Global,
     context: Context,

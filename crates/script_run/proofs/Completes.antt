@@ -57,7 +57,7 @@ completes ways cast g WriteFault report e s = absurd e
 completes ways cast g TooLong None e s = absurd (not_long g s.0 e s.1 s.2)
 completes ways cast g TooLong (Some r) e s = absurd e
 
--- a report comes with an end alone that tells it
+-- a report comes with an end alone that shows it
 pub is_told : {P : Type 0} (ways : Ways P) (cast : List Player) (g : Given) (status : Status) (report : Option Report) → EndsAs ways cast g status report → IfSome report (IsToldOf ways cast g)
 is_told ways cast g Done (Some r) e = e
 is_told ways cast g Done None e = tt

@@ -1,4 +1,4 @@
--- The report of a load tells that it paid what it says.
+-- The report of a load says that it paid what it says.
 use Rattle.std.proofs.Common.{◌≡◌, ℕ, Bool, true, false, cond, List, Option, Some, None, Result, Ok, Err, refl, sym, ap, subst}
 use Rattle.std.specs.Prelude.{IfOk, IfSome}
 use Rattle.load.proofs.Reports.{loads_pay}

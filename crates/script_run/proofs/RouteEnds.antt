@@ -46,7 +46,7 @@ module _ {P : Type 0} (ways : Ways P) where
   ends_as words WriteFault report text e = absurd e
   ends_as words TooLong report text e = absurd e
 
-  -- a report comes with an end alone that tells it
+  -- a report comes with an end alone that shows it
   pub is_told : (words : List (List ℕ)) (status : Status) (report : Option Report) (text : List ℕ) → EndsAs ways words status report text → IfSome report (IsToldOf ways words)
   is_told words Done (Some report) text e = (e.0, e.1, e.2)
   is_told words Done None text e = tt

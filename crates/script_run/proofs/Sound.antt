@@ -1,4 +1,4 @@
--- A report that tells a scene and keeps its promises has a sound record.
+-- A report that describes a scene and keeps its promises has a sound record.
 use Rattle.std.proofs.Common.{◌≡◌, ℕ, true, List, [], ◌∷◌, map, sym, subst}
 use Rattle.std.specs.List.{All}
 use Rattle.std.specs.Prelude.{Option}

@@ -65,10 +65,10 @@ module _ {P : Type 0} (ways : Ways P) where
     -- with its share; and once its channels are final and the calls of its exit stand after that, what it could get
     -- just after it was commanded to exit is paid to it, whatever others enter between.
     pub keeps : IfSome report (Keeps commands)
-    -- The words ask for what comes to the report, which tells the play of the script, whose steps command this. Each
-    -- printed share is what the person can get by the definition, over the whole history and its journal; each exit,
-    -- just after its node's first accepted command to exit. Each journal is by the rules of the node. In a race the
-    -- watchers were in time.
+    -- The words ask for what comes to the report, which describes the play of the script, whose steps command this.
+    -- Each printed share is what the person can get by the definition, over the whole history and its journal; each
+    -- exit, just after its node's first accepted command to exit. Each journal is by the rules of the node. In a race
+    -- the watchers were in time.
     pub tells : IfSome report (λ r. TellsOf ways commands r cast g)
     -- A load pays what it says: its history is two deposits, a conclusion and two transfers; both people were paid
     -- what they have after its payments, and no channel holds anything; no command was refused, and the shares that
@@ -115,7 +115,7 @@ module _ {P : Type 0} (ways : Ways P) where
     pub commands : ℕ → Option Command
     -- The report keeps the promises of a play: to both who pay each other, and to both intermediaries.
     pub keeps : IfSome report (Keeps commands)
-    -- The words ask for the route of the report, which tells the play of its steps.
+    -- The words ask for the route of the report, which describes the play of its steps.
     pub tells : IfSome report (λ r. (asks : Ending × ℕ) × (routes.wanted words ≡ Some asks)
         × TellsPlay ways commands r None (hop_steps asks.0 asks.1))
     -- Words that ask for a route lead to it, and others to none, unless memory runs out or the sink fails.

@@ -63,7 +63,7 @@ wanted words = if are_apart then asked words else None
 abbrev pub head_line : Ending → ℕ → List ℕ
 head_line ending count = codes "hop" & word_of ending & ended (decimal count)
 
--- what was asked for, and the lines of a run behind its entries and refused commands
+-- what was asked for, and the lines of a run after its entries and refused commands
 abbrev pub route_text : Ending → ℕ → Report → List ℕ
 route_text ending count report = head_line ending count ++ tail_of report
 
@@ -75,7 +75,7 @@ status_of None = Usage
 status_of (Some asks) = Done
 
 module _ {P : Type 0} (ways : Ways P) (words : List (List ℕ)) where
-  -- the words ask for the hop of this report, which tells its play and keeps the promises of one
+  -- the words ask for the hop of this report, which describes its play and keeps the promises of one
   abbrev pub IsToldOf : Report → Type 0
   IsToldOf report = (asks : Ending × ℕ) × (wanted words ≡ Some asks) × IsPlayed ways None report (hop_steps asks.0 asks.1)
 

@@ -31,7 +31,7 @@ pub record Given : Type 0 where
   pub faults_before : ℕ
   pub faults_after : ℕ
 
--- what a run was handed, by what its source tells
+-- what a run was handed, by what its source says
 abbrev pub given : {S : Type 0} → source.Ghosts S → List (List ℕ) → S → S → Given
 given s words old new = record { words = words; before = s.remaining old; after = s.remaining new; faults_before = s.faults old; faults_after = s.faults new }
 
@@ -94,7 +94,7 @@ module _ (AsPlay : Option Note → List Step → Type 0) (AsRace : List Step →
 
 -- Of these nodes, and of the actors that a race has beside them.
 module _ {P : Type 0} (ways : Ways P) (cast : List Player) where
-  -- the words ask for what comes to this report, which tells its play and keeps the promises of one
+  -- the words ask for what comes to this report, which describes its play and keeps the promises of one
   abbrev pub IsToldOf : Given → Report → Type 0
   IsToldOf g report = Asks g (λ a. Comes (λ load steps. IsPlayed ways load report steps) (λ steps. IsOfRace ways cast report steps) g a)
 
@@ -141,7 +141,7 @@ owed ReadFault report = ended (codes "read fault")
 owed WriteFault report = []
 owed TooLong report = ended (codes "too long")
 
--- the source tells a script for a run or a race that is short enough, and doesn't fail
+-- the source gives a script for a run or a race that is short enough, and doesn't fail
 pub record TellsScript (race : Bool) (g : Given) : Type 0 where
   pub bytes : List ℕ
   pub told : g.before ≡ Some bytes
@@ -160,7 +160,7 @@ HasScript (Load seed count) g = ⊤
 abbrev pub IsRunnable : Given → Type 0
 IsRunnable g = Asks g (λ a. HasScript a g)
 
--- these words, and a source that tells these bytes, and doesn't fail
+-- these words, and a source that gives these bytes, and doesn't fail
 pub record IsCalm (words : List (List ℕ)) (bytes : List ℕ) (g : Given) : Type 0 where
   pub words_are : g.words ≡ words
   pub told : g.before ≡ Some bytes

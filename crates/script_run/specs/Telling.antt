@@ -1,4 +1,4 @@
--- Whose play a report is: the script of which it tells, what it tells of it, and that each journal is by the rules of
+-- Whose play a report is: the script that it describes, what it says of it, and that each journal is by the rules of
 -- the node.
 use Rattle.std.specs.Prelude.{◌≡◌, ℕ, List, Option, None}
 use Rattle.call_history.specs.History.{newest_first}
@@ -38,6 +38,6 @@ module _ {P : Type 0} (ways : Ways P) (commands : ℕ → Option Command) (r : R
     pub ruled : AreByRules commands r
     pub in_time : Pairwise (IsInTimeIf commands r) r.journals r.premises
 
-  -- the words ask for what the report tells
+  -- the words ask for what the report describes
   abbrev pub TellsOf : List Player → Given → Type 0
   TellsOf cast g = Asks g (λ a. Comes TellsPlay (TellsRace cast) g a)

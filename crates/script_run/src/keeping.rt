@@ -42,14 +42,14 @@ fn keeps_call(call: &Call) -> bool
     ensures { IsTrue result ↔ KeepsCall call.now }
 {
     match call {
-        Call::Challenge {
-            chain,
-            signature,
-            ..
-        } => keeps_chain(chain) && signature.as_slice().len() <= MOST_SIGNATURE_BYTES,
-        Call::Respond { next, .. } | Call::Refute { next, .. } => is_short(next),
+        Call::Challenge(challenge) => {
+            keeps_chain(&challenge.chain)
+                && challenge.signature.as_slice().len() <= MOST_SIGNATURE_BYTES
+        }
+        Call::Respond(answer) => is_short(&answer.next),
+        Call::Refute { next, .. } => is_short(next),
         Call::Checkpoint { chain } | Call::Conclude { chain } => keeps_chain(chain),
-        Call::Deposit { .. } | Call::Transfer { .. } | Call::Claim { .. } => true,
+        Call::Deposit(_) | Call::Transfer(_) | Call::Claim(_) => true,
     }
 }
 

@@ -104,7 +104,7 @@ fn end_of_run(alloc: Global, end: Result<RunEnded, NoMemory>) -> Result<Ended, N
     }
 }
 
-/// Puts what an end owes.
+/// Writes what an end owes.
 #[tactic(auto, using(crate::proofs::RecordPutting::none_put, crate::proofs::RecordPutting::all_put, crate::proofs::RecordPutting::part_put))]
 fn put_end<K: Sink>(end: Result<Ended, NoMemory>, sink: &mut K) -> Status
     ensures { (cast : List Player) (g : Given)
@@ -120,8 +120,9 @@ fn put_end<K: Sink>(end: Result<Ended, NoMemory>, sink: &mut K) -> Status
     }
 }
 
-/// Plays the script that it reads, and puts the record of what was played. It starts no thread and waits for nobody, so
-/// it returns. It answers nothing where the words ask for the record of a race: then nothing was read and nothing put.
+/// Plays the script that it reads, and writes the record of what was played. It starts no thread and waits for nobody,
+/// so it returns. It answers nothing where the words ask for the record of a race: then nothing was read and nothing
+/// put.
 pub fn record_in_one_thread<S: Source, K: Sink>(
     alloc: Global,
     words: &[Label],
@@ -142,8 +143,8 @@ pub fn record_in_one_thread<S: Source, K: Sink>(
     Some(put_end(end, sink))
 }
 
-/// Plays the script that it reads, and puts the record of what was played. What is no race is done in one thread. In a
-/// race the cast, of at most 16 actors that have seen nothing, acts beside the nodes.
+/// Plays the script that it reads, and writes the record of what was played. What is no race is done in one thread. In
+/// a race the cast, of at most 16 actors that have seen nothing, acts beside the nodes.
 pub fn run_record<R: Threads + Wait + Sync, S: Source, K: Sink>(
     rt: &R,
     alloc: Global,

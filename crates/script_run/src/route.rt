@@ -122,8 +122,8 @@ fn work(alloc: Global, words: &[Label]) -> Result<Routed, NoMemory>
     }
 }
 
-/// Plays the payments over two intermediaries that the words ask for, and puts the text of the play. It starts no thread
-/// and waits for nobody, so it returns.
+/// Plays the payments over two intermediaries that the words ask for, and writes the text of the play. It starts no
+/// thread and waits for nobody, so it returns.
 #[tactic(auto, using(crate::proofs::RoutePutting::none_put, crate::proofs::RoutePutting::all_put, crate::proofs::RoutePutting::part_put))]
 pub fn run_route<K: Sink>(alloc: Global, words: &[Label], sink: &mut K) -> RouteEnded
     ensures { IsRoute ways words.now (sunk K.Sink sink.old sink.new) result.status result.report }

@@ -279,7 +279,7 @@ fn owed(alloc: Global, ended: &Ended) -> Result<Vec<u8>, NoMemory>
     }
 }
 
-/// Puts what an end owes.
+/// Writes what an end owes.
 #[tactic(auto, using(crate::proofs::Putting::none_put, crate::proofs::Putting::all_put, crate::proofs::Putting::part_put))]
 fn put_end<P: ReportedNode, K: Sink>(
     alloc: Global,
@@ -307,8 +307,8 @@ fn put_end<P: ReportedNode, K: Sink>(
     }
 }
 
-/// Plays the script that it reads or that of a load, and puts the text of its report. It starts no thread and waits for
-/// nobody, so it returns. It answers nothing where the words ask for a race: then nothing was read and nothing put.
+/// Plays the script that it reads or that of a load, and writes the text of its report. It starts no thread and waits
+/// for nobody, so it returns. It answers nothing where the words ask for a race: then nothing was read and nothing written.
 pub fn run_in_one_thread<S: Source, K: Sink>(
     alloc: Global,
     words: &[Label],
@@ -324,15 +324,15 @@ pub fn run_in_one_thread<S: Source, K: Sink>(
     Some(put_end::<Node, K>(alloc, end, sink))
 }
 
-/// Reads the script or makes that of a load, plays it and puts the text of its report. What is no race is done in one
+/// Reads the script or makes that of a load, plays it and writes the text of its report. What is no race is done in one
 /// thread. In a race the cast, of at most 16 actors that have seen nothing, acts beside the nodes.
 ///
 /// What it promises stands in the record `IsRun`, clause by clause:
-/// - `ended`, `write_fault`, `no_memory`: each status has its cause, and what it owes was put: whole, in part, not at all.
+/// - `ended`, `write_fault`, `no_memory`: each status has its cause, and what it owes was written: whole, in part, not at all.
 /// - `legal`: each reply of the history is the sequential adjudicator's at its place.
 /// - `conserved`: of each asset, what was deposited is what the channels hold and what the persons were paid.
 /// - `keeps`: each person with a node keeps its share and is paid on its exit, where its premises hold.
-/// - `tells`: the report tells the play of the script that was asked for.
+/// - `tells`: the report describes the play of the script that was asked for.
 /// - `pays`: a load pays what it says.
 /// - `complete`: a sound script runs to its end, unless memory runs out or the sink fails.
 pub fn run_words<R: Threads + Wait + Sync, S: Source, K: Sink>(

@@ -1,4 +1,4 @@
-//! What a step declares, behind what earlier steps declared.
+//! What a step declares, after what earlier steps declared.
 
 ghost use Rattle.std.specs.Prelude.{◌≡◌, ◌<◌, ◌==◌, ◌||◌, ◌^◌, IsTrue, IfOk, OnOk};
 ghost use Rattle.std.specs.List.{list_any};

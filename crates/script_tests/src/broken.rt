@@ -23,7 +23,7 @@ pub(super) fn breaks(
 pub(super) const BEFORE: &str =
     r#"{"do":"person","name":"A","seed":"aaaaaaaaaaaaaaaaaaaaaaaaaaaaaaaaaaaaaaaaaaaaaaaaaaaaaaaaaaaaaaaa","h":5,"node":false,"watchers":0},{"do":"person","name":"B","seed":"bbbbbbbbbbbbbbbbbbbbbbbbbbbbbbbbbbbbbbbbbbbbbbbbbbbbbbbbbbbbbbbb","h":5,"node":false,"watchers":0},{"do":"channel","name":"C","people":["A","B"],"nonce":1,"app":"payment","duration":10},{"do":"sign","name":"S","channel":"C","by":"A","turn":0,"final":false,"outcome":[{"asset":0,"items":[["A",5],["B",3]]}],"votes":0,"proposal":[]},{"do":"sign","name":"T","channel":"C","by":"B","turn":1,"final":false,"outcome":[{"asset":0,"items":[["A",5],["B",3]]}],"votes":0,"proposal":[]}"#;
 
-/// The script of these steps behind the first five.
+/// The script of these steps after the first five.
 pub(super) fn script_with(alloc: Global, steps: &str) -> Result<String, AllocError> {
     format!(in alloc; "{{\"steps\":[{BEFORE},{steps}]}}")
 }

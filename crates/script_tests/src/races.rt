@@ -1,4 +1,4 @@
-//! Steps that break a rule behind two people, a channel and two states, in a race too, with the step and the rule worked
+//! Steps that break a rule after two people, a channel and two states, in a race too, with the step and the rule worked
 //! out by hand from the grammar.
 
 use crate::broken::{breaks, script_with};

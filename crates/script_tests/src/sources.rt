@@ -39,7 +39,7 @@ fn one_byte_at_a_time(rt: HostRuntime) -> Result<(), Fail> {
     Ok(())
 }
 
-/// 10,000 bytes are taken by three calls of at most 4,096 bytes, and a fourth tells the end.
+/// 10,000 bytes are taken by three calls of at most 4,096 bytes, and a fourth finds the end.
 #[test]
 fn a_source_fails_at_each_call(rt: HostRuntime) -> Result<(), Fail> {
     let alloc = rt.alloc();

@@ -13,7 +13,8 @@ use Rattle.call_history.specs.Rows.{turned, fixed_of}
 use Rattle.call_history.specs.History.{Legal, is_accepted, is_named, now_of, turning, row, settles, settled}
 use Rattle.call_history.specs.Marked.{Marked, nothing, marked_of, is_supported}
 use Rattle.call_history.specs.Shown.{shown_by, shown}
-use Rattle.call_history.specs.declared.call.Call.TheVariants.{Challenge, Conclude}
+use Rattle.call_history.specs.Calls.{make_challenge}
+use Rattle.call_history.specs.declared.call.Call.TheVariants.{Conclude}
 use Rattle.call_history.specs.declared.call.Op.{Op}
 use Rattle.call_history.specs.declared.call.Op.TheVariants as ops
 use Rattle.call_history.specs.declared.row.Row.{Row}
@@ -113,10 +114,10 @@ module _ (r : Rules) (key : List ℕ) (F : FixedParts) (h : List Entry) (journal
           m-legal = legal-suffix r (later ++ e ∷ m.mid) (m.entry ∷ m.older) (subst (Legal r) m-is on.legal)
 
           fixed : m.chain.fixed ≡ F
-          fixed = fixed-is r key F h journal on (later ++ e ∷ m.mid) m.older m.entry m.chain.fixed (ops.Call (Challenge m.chain m.who m.sig)) m-is m.turns m.op refl
+          fixed = fixed-is r key F h journal on (later ++ e ∷ m.mid) m.older m.entry m.chain.fixed (ops.Call (make_challenge m.chain m.who m.sig)) m-is m.turns m.op refl
 
           ok : is_supported r m.chain.fixed (marked_of m.chain) ≡ true
-          ok = (challenge_ok r m.older m.chain m.who m.sig (taken r m.older m.entry (Challenge m.chain m.who m.sig) m-legal m.op (and-left (is_accepted m.entry.reply) (is_named r (r.named F) (fixed_of m.entry.op)) m.turns))).supported
+          ok = (challenge_ok r m.older m.chain m.who m.sig (taken r m.older m.entry (make_challenge m.chain m.who m.sig) m-legal m.op (and-left (is_accepted m.entry.reply) (is_named r (r.named F) (fixed_of m.entry.op)) m.turns))).supported
 
           shows : shown r (r.named F) m.older m.entry ≡ marked_of m.chain
           shows = cond-true (turning r (r.named F) m.entry) (shown_by r (r.named F) m.older m.entry.op) nothing m.turns ∙ ap (shown_by r (r.named F) m.older) m.op

@@ -34,12 +34,12 @@ conclude_still r past chain h =
 
 module _ (r : Rules) (c : List ℕ) (past : List Entry) (e : Entry) (legal : Legal r (e ∷ past)) (final : is_final (mode r c past) ≡ true) where
   no_call : (op : Op) → e.op ≡ op → is_accepted e.reply ≡ true → is_named r c (fixed_of op) ≡ true → ⊥
-  no_call (ops.Call (Challenge chain who signature)) is ok named = clash (is_final (mode r c past)) final
-      (subst (λ (n : List ℕ). is_final (mode r n past) ≡ false) (same_bytes (r.named chain.fixed) c named)
-      (challenge_ok r past chain who signature (taken r past e (Challenge chain who signature) legal is ok)).still)
-  no_call (ops.Call (Respond fixed from next)) is ok named = not_both (mode r c past) final
-      (subst (λ (n : List ℕ). is_challenged (mode r n past) ≡ true) (same_bytes (r.named fixed) c named)
-      (respond_ok r past fixed from next (taken r past e (Respond fixed from next) legal is ok)).challenged)
+  no_call (ops.Call (Challenge k)) is ok named = clash (is_final (mode r c past)) final
+      (subst (λ (n : List ℕ). is_final (mode r n past) ≡ false) (same_bytes (r.named k.chain.fixed) c named)
+      (challenge_ok r past k.chain k.challenger k.signature (taken r past e (Challenge k) legal is ok)).still)
+  no_call (ops.Call (Respond k)) is ok named = not_both (mode r c past) final
+      (subst (λ (n : List ℕ). is_challenged (mode r n past) ≡ true) (same_bytes (r.named k.fixed) c named)
+      (respond_ok r past k.fixed k.from k.next (taken r past e (Respond k) legal is ok)).challenged)
   no_call (ops.Call (Refute fixed next)) is ok named = not_both (mode r c past) final
       (subst (λ (n : List ℕ). is_challenged (mode r n past) ≡ true) (same_bytes (r.named fixed) c named)
       (refute_ok r past fixed next (taken r past e (Refute fixed next) legal is ok)).challenged)

@@ -11,7 +11,7 @@ use Rattle.channel_values.specs.Rules.{Rules, people, top_turn, top_outcome, Kee
 use Rattle.call_history.specs.Rest.{rest_outcome}
 use Rattle.call_history.specs.History.{Legal, turning, row, mode, paid_of, rest_of_channel}
 use Rattle.call_history.specs.Shown.{shown}
-use Rattle.call_history.specs.declared.call.Call.TheVariants.{Challenge}
+use Rattle.call_history.specs.Calls.{make_challenge}
 use Rattle.call_history.specs.declared.call.Op.TheVariants as ops
 use Rattle.call_history.specs.declared.entry.Entry.{Entry}
 use Rattle.call_history.specs.declared.event.Deed.{Deed}
@@ -173,9 +173,9 @@ module _ (r : Rules) (key me : List ℕ) (orders : ℕ → Order) (h : List Entr
     ends : EndsBy r f h e past
     ends = go (becomes_final r (r.named f) e past lasting (not-final (mode r (r.named f) past) open') (final-is (mode r (r.named f) (e ∷ past)) final))
       where
-        lasting : (chain : Chain) (who : ℕ) (sig : List ℕ) → turning r (r.named f) e ≡ true → e.op ≡ ops.Call (Challenge chain who sig) → 0 < chain.fixed.duration
+        lasting : (chain : Chain) (who : ℕ) (sig : List ℕ) → turning r (r.named f) e ≡ true → e.op ≡ ops.Call (make_challenge chain who sig) → 0 < chain.fixed.duration
         lasting chain who sig turns op =
-            subst (λ (G : FixedParts). 0 < G.duration) (sym (fixed-is r key f h journal on after.later past e chain.fixed (ops.Call (Challenge chain who sig)) after.entries turns op refl))
+            subst (λ (G : FixedParts). 0 < G.duration) (sym (fixed-is r key f h journal on after.later past e chain.fixed (ops.Call (make_challenge chain who sig)) after.entries turns op refl))
             (let started : 1 ≤ f.duration = (valid.fixed f (inr (channel.line, channel.there, channel.opens))).started in omega arith)
 
         go : Concluded r (r.named f) e ⊎ Expired r (r.named f) e past → EndsBy r f h e past

@@ -16,7 +16,7 @@ use Rattle.call_history.specs.Rest.{rest_shape, rest_outcome}
 use Rattle.call_history.specs.History.{Legal, turning, mode, settled, paid_of}
 use Rattle.call_history.specs.Marked.{Marked}
 use Rattle.call_history.specs.Shown.{shown}
-use Rattle.call_history.specs.declared.call.Call.TheVariants.{Challenge}
+use Rattle.call_history.specs.Calls.{make_challenge}
 use Rattle.call_history.specs.declared.call.Op.TheVariants as ops
 use Rattle.call_history.specs.declared.entry.Entry.{Entry}
 use Rattle.call_history.proofs.Payouts.{shape_rest}
@@ -110,9 +110,9 @@ module _ (r : Rules) (key me : List ℕ) (h : List Entry) (journal : List Line) 
     ends : EndsBy r f h e older
     ends = go (becomes_final r (r.named f) e older lasting (not-final (mode r (r.named f) older) open') (final-is (mode r (r.named f) (e ∷ older)) final))
       where
-        lasting : (chain : Chain) (who : ℕ) (sig : List ℕ) → turning r (r.named f) e ≡ true → e.op ≡ ops.Call (Challenge chain who sig) → 0 < chain.fixed.duration
+        lasting : (chain : Chain) (who : ℕ) (sig : List ℕ) → turning r (r.named f) e ≡ true → e.op ≡ ops.Call (make_challenge chain who sig) → 0 < chain.fixed.duration
         lasting chain who sig turns op =
-            subst (λ (G : FixedParts). 0 < G.duration) (sym (fixed-is r key f h journal on later older e chain.fixed (ops.Call (Challenge chain who sig)) is turns op refl))
+            subst (λ (G : FixedParts). 0 < G.duration) (sym (fixed-is r key f h journal on later older e chain.fixed (ops.Call (make_challenge chain who sig)) is turns op refl))
             (let started : 1 ≤ f.duration = (valid.fixed f (inr (channel.line, channel.there, channel.opens))).started in omega arith)
 
         go : Concluded r (r.named f) e ⊎ Expired r (r.named f) e older → EndsBy r f h e older

@@ -73,9 +73,9 @@ held-over_line r f past x front rising h =
 -- ---- an entry that moves no funds
 
 no_funds : (op : Op) (reply : Reply) → moves_funds op ≡ false → (flow_of op reply ≡ []) × (payment_of op reply ≡ [])
-no_funds (ops.Call (Deposit channel asset expected amount)) reply h = cc
-no_funds (ops.Call (Transfer channel outcome asset index)) reply h = cc
-no_funds (ops.Call (Claim guarantor promise target outcome asset position)) reply h = cc
+no_funds (ops.Call (Deposit d)) reply h = cc
+no_funds (ops.Call (Transfer t)) reply h = cc
+no_funds (ops.Call (Claim k)) reply h = cc
 no_funds op reply h = (refl, refl)
 
 module _ (asset : ℕ) (me : List ℕ) (on : List (List ℕ)) (n : List ℕ) where

@@ -19,7 +19,9 @@ use Rattle.call_history.specs.Refusing.{told}
 use Rattle.call_history.specs.Rest.{lower_at}
 use Rattle.call_history.specs.Replies as replies
 use Rattle.call_history.specs.History.{Legal, is_accepted, now_of, row, mode, settled, item_dest, listed_dest, place_in, flow_to, flow_of, flows_of, held_of, paid_to, paid_of, payment_of, deposited_of, reply_to}
+use Rattle.call_history.specs.Calls.{make_transfer, make_claim}
 use Rattle.call_history.specs.declared.call.Call.TheVariants.{Deposit, Transfer, Claim}
+use Rattle.call_history.specs.declared.call.DepositCall.{DepositCall}
 use Rattle.call_history.specs.declared.call.Op.{Op}
 use Rattle.call_history.specs.declared.call.Op.TheVariants as ops
 use Rattle.call_history.specs.declared.entry.Entry.{Entry}
@@ -52,9 +54,9 @@ use Rattle.share_laws.proofs.Finals.{final-is}
 -- ---- nothing is paid out
 
 pub refused_moves_nothing : (op : Op) (reply : Reply) → is_accepted reply ≡ false → (flow_of op reply ≡ []) × (payment_of op reply ≡ [])
-refused_moves_nothing (ops.Call (Deposit channel asset expected amount)) (No refusal) h = (refl, refl)
-refused_moves_nothing (ops.Call (Transfer channel outcome asset index)) (No refusal) h = (refl, refl)
-refused_moves_nothing (ops.Call (Claim guarantor promise target outcome asset position)) (No refusal) h = (refl, refl)
+refused_moves_nothing (ops.Call (Deposit d)) (No refusal) h = (refl, refl)
+refused_moves_nothing (ops.Call (Transfer t)) (No refusal) h = (refl, refl)
+refused_moves_nothing (ops.Call (Claim k)) (No refusal) h = (refl, refl)
 refused_moves_nothing op (No refusal) h = (refl, refl)
 refused_moves_nothing op reply h = cc
 
@@ -141,14 +143,14 @@ module _ (r : Rules) (e : Entry) (past : List Entry) (front : List Line) (fs : L
   refused : is_accepted e.reply ≡ false → Moves r e past front fs me
   refused h = by_nothing (no_flow past e me (refused_moves_nothing e.op e.reply h).0 (refused_moves_nothing e.op e.reply h).1)
 
-  by_deposit : (channel : List ℕ) (asset expected amount : ℕ) → e.op ≡ ops.Call (Deposit channel asset expected amount) → (x : Result ℕ Refusal) → e.reply ≡ told Held x → Moves r e past front fs me
-  by_deposit channel asset expected amount is (Ok n) reply =
-      by_nothing (deposited past e me channel asset amount (covered r past legal.0)
-      (ap (λ (op : Op). flow_of op e.reply) is ∙ ap (λ (y : Reply). flow_of (ops.Call (Deposit channel asset expected amount)) y) reply)
-      (ap (λ (op : Op). payment_of op e.reply) is ∙ ap (λ (y : Reply). payment_of (ops.Call (Deposit channel asset expected amount)) y) reply))
-  by_deposit channel asset expected amount is (Err refusal) reply = refused (ap is_accepted reply)
+  by_deposit : (d : DepositCall) → e.op ≡ ops.Call (Deposit d) → (x : Result ℕ Refusal) → e.reply ≡ told Held x → Moves r e past front fs me
+  by_deposit d is (Ok n) reply =
+      by_nothing (deposited past e me d.channel d.asset d.amount (covered r past legal.0)
+      (ap (λ (op : Op). flow_of op e.reply) is ∙ ap (λ (y : Reply). flow_of (ops.Call (Deposit d)) y) reply)
+      (ap (λ (op : Op). payment_of op e.reply) is ∙ ap (λ (y : Reply). payment_of (ops.Call (Deposit d)) y) reply))
+  by_deposit d is (Err refusal) reply = refused (ap is_accepted reply)
 
-  by_transfer : (channel : List ℕ) (outcome : List AssetOutcome) (asset index : ℕ) → e.op ≡ ops.Call (Transfer channel outcome asset index) →
+  by_transfer : (channel : List ℕ) (outcome : List AssetOutcome) (asset index : ℕ) → e.op ≡ ops.Call (make_transfer channel outcome asset index) →
       (x : Result Due Refusal) → replies.transfer r (row r channel past) (now_of past) (paid_of past channel asset) (held_of past channel asset) channel outcome asset index ≡ x →
       e.reply ≡ told (λ due. Paid due.amount) x → Moves r e past front fs me
   by_transfer channel outcome asset index is (Err refusal) answer reply = refused (ap is_accepted reply)
@@ -159,7 +161,7 @@ module _ (r : Rules) (e : Entry) (past : List Entry) (front : List Line) (fs : L
   }
     where
       call : Op
-      call = ops.Call (Transfer channel outcome asset index)
+      call = ops.Call (make_transfer channel outcome asset index)
 
       ok : Ends r (row r channel past) (now_of past) outcome × TransferDue (paid_of past channel asset) (held_of past channel asset) (shape_in outcome asset) index d
       ok = transfer_ok r (row r channel past) (now_of past) (paid_of past channel asset) (held_of past channel asset) channel outcome asset index d answer
@@ -207,7 +209,7 @@ module _ (r : Rules) (e : Entry) (past : List Entry) (front : List Line) (fs : L
           (counts-after r e past front fs channel asset index d.amount changed a taken) (list-after r e past front fs channel asset index d.amount changed a taken)
 
   by_claim : (guarantor : List ℕ) (promise : List AssetOutcome) (target : List ℕ) (outcome : List AssetOutcome) (asset position : ℕ) →
-      e.op ≡ ops.Call (Claim guarantor promise target outcome asset position) → (x : Result Due Refusal) →
+      e.op ≡ ops.Call (make_claim guarantor promise target outcome asset position) → (x : Result Due Refusal) →
       replies.claim r (row r guarantor past) (row r target past) (now_of past) (paid_of past target asset) (held_of past guarantor asset) guarantor promise target outcome asset position ≡ x →
       e.reply ≡ told (λ due. Paid due.amount) x → Moves r e past front fs me
   by_claim guarantor promise target outcome asset position is (Err refusal) answer reply = refused (ap is_accepted reply)
@@ -218,7 +220,7 @@ module _ (r : Rules) (e : Entry) (past : List Entry) (front : List Line) (fs : L
   }
     where
       call : Op
-      call = ops.Call (Claim guarantor promise target outcome asset position)
+      call = ops.Call (make_claim guarantor promise target outcome asset position)
 
       ok : ClaimOk r (row r guarantor past) (row r target past) (now_of past) (paid_of past target asset) (held_of past guarantor asset) promise target outcome asset position d
       ok = claim_ok r (row r guarantor past) (row r target past) (now_of past) (paid_of past target asset) (held_of past guarantor asset) guarantor promise target outcome asset position d answer
@@ -281,12 +283,11 @@ module _ (r : Rules) (e : Entry) (past : List Entry) (front : List Line) (fs : L
 
   pub by_op : (op : Op) → e.op ≡ op → e.reply ≡ reply_to r past op → (moves_funds op || not (is_accepted e.reply)) ≡ true → Moves r e past front fs me
   unfolding reply_to
-  by_op (ops.Call (Deposit channel asset expected amount)) is reply h =
-      by_deposit channel asset expected amount is (replies.deposit (held_of past channel asset) (deposited_of past asset) expected amount) reply
-  by_op (ops.Call (Transfer channel outcome asset index)) is reply h =
-      by_transfer channel outcome asset index is _ refl reply
-  by_op (ops.Call (Claim guarantor promise target outcome asset position)) is reply h =
-      by_claim guarantor promise target outcome asset position is _ refl reply
+  by_op (ops.Call (Deposit d)) is reply h =
+      by_deposit d is (replies.deposit (held_of past d.channel d.asset) (deposited_of past d.asset) d.expected d.amount) reply
+  by_op (ops.Call (Transfer t)) is reply h = by_transfer t.channel t.outcome t.asset t.index is _ refl reply
+  by_op (ops.Call (Claim k)) is reply h =
+      by_claim k.guarantor k.guarantor_outcome k.target k.target_outcome k.asset k.position is _ refl reply
   by_op op is reply h = refused (no (is_accepted e.reply) h)
     where
       no : (t : Bool) → not t ≡ true → t ≡ false

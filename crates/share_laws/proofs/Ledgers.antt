@@ -168,7 +168,7 @@ module _ (held : List ℕ → ℕ) (counts : List ℕ → Bool) (list : List ℕ
 
     -- ---- an end
 
-    -- its reach alone tells what an end has
+    -- its reach alone says what an end has
     end_worth : (List ℕ → List Item) → Virtual → ℕ → ℕ
     end_worth items v r =
         aff (items v.channel) (cond (has (items v.joint) (Channel v.channel)) (held v.channel + min (amt (items v.joint) (Channel v.channel)) r) 0) (Person me)

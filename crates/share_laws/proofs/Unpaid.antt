@@ -17,6 +17,8 @@ use Rattle.call_history.specs.Rest.{less_paid, rest_shape, rest_outcome}
 use Rattle.call_history.specs.Replies as replies
 use Rattle.call_history.specs.History.{Legal, now_of, row, mode, held_of, paid_of, payment_of, payments_of, place_in, listed_dest, reply_to}
 use Rattle.call_history.specs.declared.call.Call.TheVariants.{Transfer, Claim}
+use Rattle.call_history.specs.declared.call.ClaimCall.{ClaimCall}
+use Rattle.call_history.specs.declared.call.TransferCall.{TransferCall}
 use Rattle.call_history.specs.declared.call.Op.{Op}
 use Rattle.call_history.specs.declared.call.Op.TheVariants as ops
 use Rattle.call_history.specs.declared.entry.Entry.{Entry}
@@ -43,25 +45,25 @@ module _ (r : Rules) (past : List Entry) (n : List ℕ) (open' : is_final (mode 
       go true e = absurd (clash (is_final (mode r n past)) (subst (λ (m : List ℕ). is_final (mode r m past) ≡ true) (same_bytes channel n e) final) open')
       go false e = refl
 
-  by_transfer : (channel : List ℕ) (outcome : List AssetOutcome) (asset index : ℕ) (x : Result Due Refusal) →
-      replies.transfer r (row r channel past) (now_of past) (paid_of past channel asset) (held_of past channel asset) channel outcome asset index ≡ x →
-      paid_of_item (payment_of (ops.Call (Transfer channel outcome asset index)) (told (λ due. Paid due.amount) x)) n a i ≡ 0
-  by_transfer channel outcome asset index (Ok d) e =
-      of_another channel asset index d.amount (transfer_ok r (row r channel past) (now_of past) (paid_of past channel asset) (held_of past channel asset) channel outcome asset index d e).0.final
-  by_transfer channel outcome asset index (Err refusal) e = refl
+  by_transfer : (t : TransferCall) (x : Result Due Refusal) →
+      replies.transfer r (row r t.channel past) (now_of past) (paid_of past t.channel t.asset) (held_of past t.channel t.asset) t.channel t.outcome t.asset t.index ≡ x →
+      paid_of_item (payment_of (ops.Call (Transfer t)) (told (λ due. Paid due.amount) x)) n a i ≡ 0
+  by_transfer t (Ok d) e =
+      of_another t.channel t.asset t.index d.amount (transfer_ok r (row r t.channel past) (now_of past) (paid_of past t.channel t.asset) (held_of past t.channel t.asset) t.channel t.outcome t.asset t.index d e).0.final
+  by_transfer t (Err refusal) e = refl
 
-  by_claim : (guarantor : List ℕ) (promise : List AssetOutcome) (target : List ℕ) (outcome : List AssetOutcome) (asset position : ℕ) (x : Result Due Refusal) →
-      replies.claim r (row r guarantor past) (row r target past) (now_of past) (paid_of past target asset) (held_of past guarantor asset) guarantor promise target outcome asset position ≡ x →
-      paid_of_item (payment_of (ops.Call (Claim guarantor promise target outcome asset position)) (told (λ due. Paid due.amount) x)) n a i ≡ 0
-  by_claim guarantor promise target outcome asset position (Ok d) e =
-      of_another target asset (place_in (shape_in outcome asset) (listed_dest (shape_in promise asset) position)) d.amount
-      (claim_ok r (row r guarantor past) (row r target past) (now_of past) (paid_of past target asset) (held_of past guarantor asset) guarantor promise target outcome asset position d e).owner.final
-  by_claim guarantor promise target outcome asset position (Err refusal) e = refl
+  by_claim : (k : ClaimCall) (x : Result Due Refusal) →
+      replies.claim r (row r k.guarantor past) (row r k.target past) (now_of past) (paid_of past k.target k.asset) (held_of past k.guarantor k.asset) k.guarantor k.guarantor_outcome k.target k.target_outcome k.asset k.position ≡ x →
+      paid_of_item (payment_of (ops.Call (Claim k)) (told (λ due. Paid due.amount) x)) n a i ≡ 0
+  by_claim k (Ok d) e =
+      of_another k.target k.asset (place_in (shape_in k.target_outcome k.asset) (listed_dest (shape_in k.guarantor_outcome k.asset) k.position)) d.amount
+      (claim_ok r (row r k.guarantor past) (row r k.target past) (now_of past) (paid_of past k.target k.asset) (held_of past k.guarantor k.asset) k.guarantor k.guarantor_outcome k.target k.target_outcome k.asset k.position d e).owner.final
+  by_claim k (Err refusal) e = refl
 
   by_op : (op : Op) → paid_of_item (payment_of op (reply_to r past op)) n a i ≡ 0
   unfolding reply_to
-  by_op (ops.Call (Transfer channel outcome asset index)) = by_transfer channel outcome asset index _ refl
-  by_op (ops.Call (Claim guarantor promise target outcome asset position)) = by_claim guarantor promise target outcome asset position _ refl
+  by_op (ops.Call (Transfer t)) = by_transfer t _ refl
+  by_op (ops.Call (Claim k)) = by_claim k _ refl
   by_op op = refl
 
 -- nor by the entry by which it becomes final

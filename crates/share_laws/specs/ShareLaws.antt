@@ -12,9 +12,9 @@ use Rattle.channel_safety.specs.Occurring.{NoCollision}
 use Rattle.share_laws.specs.Sound.{IsSound}
 
 abbrev pub moves_funds : Op → Bool
-moves_funds (ops.Call (Deposit channel asset expected amount)) = true
-moves_funds (ops.Call (Transfer channel outcome asset index)) = true
-moves_funds (ops.Call (Claim guarantor promise target outcome asset position)) = true
+moves_funds (ops.Call (Deposit d)) = true
+moves_funds (ops.Call (Transfer t)) = true
+moves_funds (ops.Call (Claim k)) = true
 moves_funds _ = false
 
 -- the lines, but for looks, had seen no more than these entries

@@ -140,6 +140,6 @@ module _ {S E : Type 0} where
     pub at_most : m.0.part ≤ whole
     pub all : m.0.part ≡ whole → (k : ℕ) → times k m.0.made ≡ once k (length (longer m.0.seen m.0.told))
 
-  -- the same, as a step tells it
+  -- the same, as a step shows it
   abbrev pub learned : Step S → Me S (View E) → ℕ → Me S (View E) → Type 0
   learned st m found m' = Learns m m'

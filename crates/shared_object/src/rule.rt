@@ -1,4 +1,4 @@
-//! The rule of the table under a book, and what each step tells. These types are for the proofs alone.
+//! The rule of the table under a book, and what each step says. These types are for the proofs alone.
 
 use crate::desk::Desk;
 use crate::one_thread::OneThread;

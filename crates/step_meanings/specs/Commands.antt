@@ -12,7 +12,7 @@ abbrev pub command_in : Effect → Option Command
 command_in (Tell numbers command) = Some command
 command_in _ = None
 
--- The command of the step behind so many of these, where names stand for this before them. A command names people and
+-- The command of the step after so many of these, where names stand for this before them. A command names people and
 -- channels alone, so states that are caught on the way need no name here.
 abbrev pub command_behind : Names → List Step → ℕ → Option Command
 command_behind n [] count = None

@@ -8,6 +8,7 @@ use Rattle.channel_values.specs.Reading.{fixed_of, state_of}
 use Rattle.channel_values.specs.declared.value.Dest.TheVariants as dests
 use Rattle.support_rules.specs.Ballots.{data_of}
 use Rattle.lms_signatures.specs.Signing.{Signing}
+use Rattle.call_history.specs.Calls.{make_deposit, make_challenge, make_respond, make_transfer, make_claim}
 use Rattle.call_history.specs.Spelling.{message}
 use Rattle.call_history.specs.declared.call.Call.{Call}
 use Rattle.call_history.specs.declared.call.Call.TheVariants as calls
@@ -142,7 +143,7 @@ virtual_funding k ledgers guarantors joint channel =
 abbrev pub meant : Names → Step → Option Meaning
 meant n (steps.Deposit k) = do
   to ← digest_or_digits (fixed_by n.channels k.channel) k.channel
-  Some (calling n (calls.Deposit to k.asset k.expected k.amount))
+  Some (calling n (make_deposit to k.asset k.expected k.amount))
 meant n (steps.Time to) = Some (doing n (Enter (ops.Time to)))
 meant n (steps.Person k) =
     Some (doing (with_person n k.name k.seed k.h k.node) (joins_if k.node (length n.people + 1) (fresh k.seed k.h) k.watchers))
@@ -167,12 +168,14 @@ meant n (steps.Challenge k) = do
   f ← fixed_by n.channels k.channel
   key ← key_by n.people k.by
   signed ← sign_challenge n.people k.by f (listed n.states k.chain) (position_of f.keys key)
-  Some (calling (record n { people = signed.people }) (calls.Challenge (chain_of f (listed n.states k.chain)) (position_of f.keys key) signed.signature))
+  Some (
+      calling (record n { people = signed.people })
+      (make_challenge (chain_of f (listed n.states k.chain)) (position_of f.keys key) signed.signature))
 meant n (steps.Respond k) = do
   f ← fixed_by n.channels k.channel
   before ← state_by n.states k.from
   answer ← state_by n.states k.state
-  Some (calling n (calls.Respond f before.signed.state answer.signed))
+  Some (calling n (make_respond f before.signed.state answer.signed))
 meant n (steps.Refute channel next) = do
   f ← fixed_by n.channels channel
   answer ← state_by n.states next
@@ -186,13 +189,16 @@ meant n (steps.Conclude channel chain) = do
 meant n (steps.Transfer k) = do
   f ← fixed_by n.channels k.channel
   ending ← state_by n.states k.state
-  Some (calling n (calls.Transfer (name_of f) ending.signed.state.outcome k.asset k.index))
+  Some (calling n (make_transfer (name_of f) ending.signed.state.outcome k.asset k.index))
 meant n (steps.Claim k) = do
   payer ← fixed_by n.channels k.guarantor
   promised ← state_by n.states k.state
   f ← fixed_by n.channels k.target
   ended ← state_by n.states k.target_state
-  Some (calling n (calls.Claim (name_of payer) promised.signed.state.outcome (name_of f) ended.signed.state.outcome k.asset k.position))
+  Some (
+      calling n
+      (make_claim (name_of payer) promised.signed.state.outcome (name_of f) ended.signed.state.outcome
+      k.asset k.position))
 meant n (steps.Open k) = do
   f ← fixed_by n.channels k.channel
   Some (telling n k.who (commands.Open f k.outcome))

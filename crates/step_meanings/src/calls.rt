@@ -8,7 +8,7 @@ ghost use Rattle.step_meanings.specs.Meanings.{doing, meaning};
 use crate::chains::{chain_of, listed};
 use crate::effect::Effect;
 use crate::names::{Names, channel_by, digest_or_digits, position_of, sign_challenge};
-use call_history::{Call, Op};
+use call_history::{Call, ChallengeCall, ClaimCall, DepositCall, Op, RespondCall, TransferCall};
 use channel_values::{Label, NoMemory};
 use script_steps::{ChallengeStep, ClaimStep, DepositStep, RespondStep, TransferStep};
 
@@ -20,12 +20,12 @@ pub(crate) fn deposit(known: &Names, keys: &DepositStep) -> Effect
     let Some(channel) = digest_or_digits(declared, keys.channel.as_str()) else {
         return Effect::Nothing;
     };
-    Effect::Enter(Op::Call(Call::Deposit {
+    Effect::Enter(Op::Call(Call::Deposit(DepositCall {
         channel,
         asset: keys.asset as u32,
         expected: keys.expected,
         amount: keys.amount,
-    }))
+    })))
 }
 
 pub(crate) fn respond(known: &Names, keys: &RespondStep) -> Result<Effect, NoMemory>
@@ -41,7 +41,7 @@ pub(crate) fn respond(known: &Names, keys: &RespondStep) -> Result<Effect, NoMem
         return Ok(Effect::Nothing);
     };
     let from = before.state;
-    Ok(Effect::Enter(Op::Call(Call::Respond { fixed, from, next })))
+    Ok(Effect::Enter(Op::Call(Call::Respond(RespondCall { fixed, from, next }))))
 }
 
 pub(crate) fn refute(known: &Names, channel: &Label, next: &Label) -> Result<Effect, NoMemory>
@@ -91,12 +91,12 @@ pub(crate) fn transfer(known: &Names, keys: &TransferStep) -> Result<Effect, NoM
     let Some(outcome) = known.outcome_by(&keys.state)? else {
         return Ok(Effect::Nothing);
     };
-    Ok(Effect::Enter(Op::Call(Call::Transfer {
+    Ok(Effect::Enter(Op::Call(Call::Transfer(TransferCall {
         channel,
         outcome,
         asset: keys.asset as u32,
         index: keys.index as u8,
-    })))
+    }))))
 }
 
 /// A claim, by the outcomes of two named states, of the guarantor and of its target.
@@ -116,14 +116,14 @@ pub(crate) fn claim(known: &Names, keys: &ClaimStep) -> Result<Effect, NoMemory>
     let Some(target_outcome) = known.outcome_by(&keys.target_state)? else {
         return Ok(Effect::Nothing);
     };
-    Ok(Effect::Enter(Op::Call(Call::Claim {
+    Ok(Effect::Enter(Op::Call(Call::Claim(ClaimCall {
         guarantor,
         guarantor_outcome,
         target,
         target_outcome,
         asset: keys.asset as u32,
         position: keys.position as u8,
-    })))
+    }))))
 }
 
 /// A challenge, signed where the chain has a state.
@@ -156,9 +156,9 @@ pub(crate) fn challenge(known: &mut Names, keys: &ChallengeStep) -> Result<Effec
         return Ok(Effect::Nothing);
     };
     let chain = chain_of(known.alloc(), &fixed, &listed)?;
-    Ok(Effect::Enter(Op::Call(Call::Challenge {
+    Ok(Effect::Enter(Op::Call(Call::Challenge(ChallengeCall {
         chain,
         challenger,
         signature,
-    })))
+    }))))
 }

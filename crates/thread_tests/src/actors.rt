@@ -3,7 +3,7 @@
 ghost use Rattle.std.specs.Prelude.{false, []};
 
 use crate::gate::LOOKS;
-use call_history::Call;
+use call_history::{Call, DepositCall};
 use network_rounds::{Act, Actor, Cast, Notes};
 use std::alloc::Global;
 use std::sync::Arc;
@@ -47,12 +47,12 @@ impl Actor for Counter {
     ghost told = { λ _. [] };
 
     fn act(&mut self, seen: &Notes) -> Act {
-        Act::Enter(Call::Deposit {
+        Act::Enter(Call::Deposit(DepositCall {
             channel: [7; 32],
             asset: 0,
             expected: 0,
             amount: seen.entries.len() as u64 + 1,
-        })
+        }))
     }
 }
 

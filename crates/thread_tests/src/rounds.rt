@@ -6,7 +6,7 @@ ghost use Rattle.network_rounds.specs.Members.{HasFollowed};
 use crate::crews::{calling, counting, mixed};
 use crate::gate::Pairing;
 use adjudicator::Adjudicator;
-use call_history::{Call, Entry, Op, Reply};
+use call_history::{Call, DepositCall, Entry, Op, Reply};
 use network::Party;
 use network_node::Node;
 use network_rounds::{Cast, Clear, Crew, Gate, race_round};
@@ -72,11 +72,13 @@ fn row(entry: &Entry) -> Option<Row> {
     match (&entry.op, &entry.reply) {
         (
             Op::Call(
-                Call::Deposit {
-                    asset: 0,
-                    amount,
-                    ..
-                },
+                Call::Deposit(
+                    DepositCall {
+                        asset: 0,
+                        amount,
+                        ..
+                    },
+                ),
             ),
             Reply::Held(held),
         ) => Some((entry.by, *amount, *held)),

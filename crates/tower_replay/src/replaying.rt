@@ -51,7 +51,7 @@ impl<R: Threads + Wait + Sync> Answering for Replay<'_, R> {
     }
 }
 
-/// Reads a record, lets a tower of its people look after each entry of its history, and puts what the tower answers.
+/// Reads a record, lets a tower of its people look after each entry of its history, and writes what the tower answers.
 pub fn run_tower<R: Threads + Wait + Sync, S: Source, K: Sink>(
     rt: &R,
     alloc: Global,

@@ -1,7 +1,7 @@
 //! Chains of payment channels of two people with keys, and challenges with them. The first person moves to even turns, and
 //! pays 1 at turns 4 and 6.
 
-use call_history::{Call, Entry, Op, Reply};
+use call_history::{Call, ChallengeCall, Entry, Op, Reply};
 use channel_values::{
     AssetOutcome, Chain, Dest, Fixed, Item, Key, Listed, Mark, Name, Outcome, Shape, State,
     channel_name, person_name, state_digest, state_message,
@@ -130,11 +130,11 @@ pub fn challenge(alloc: Global, nonce: u64, last: u64) -> Option<Entry> {
     Some(Entry {
         number: 1,
         by: 2,
-        op: Op::Call(Call::Challenge {
+        op: Op::Call(Call::Challenge(ChallengeCall {
             chain,
             challenger: 1,
             signature: Listed::make(Vec::new(alloc)),
-        }),
+        })),
         reply: Reply::Until(10),
     })
 }

@@ -269,7 +269,7 @@ fn fault_behind(alloc: Global, rest: &[u8]) -> Result<Option<ByteFault>, Fail> {
     Ok(chain_fault(alloc, &bytes))
 }
 
-/// The bytes behind the fixed part, and the first fault.
+/// The bytes after the fixed part, and the first fault.
 const CHAINS: [(&[u8], Option<ByteFault>); 6] = [
     (&[0, 0], None),
     (&[5], Some(ByteFault::OverLimit(126))),
@@ -456,7 +456,7 @@ fn one_item_of_bytes(rt: HostRuntime) -> Result<(), Fail> {
     Ok(())
 }
 
-/// Whether the copy of a text is right, and the copy of its bytes with a 7 behind them.
+/// Whether the copy of a text is right, and the copy of its bytes with a 7 after them.
 fn copies(alloc: Global) -> Result<(bool, bool), Fail> {
     let mut label = Label::make(String::from_str(alloc, "at")?);
     label.push('é')?;

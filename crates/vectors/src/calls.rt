@@ -10,14 +10,14 @@ ghost use Rattle.call_history.specs.declared.call.Op.TheVariants as ops;
 
 use anyhow::{Context, Result};
 use call_bytes::{read_call, read_message, write_call, write_message};
-use call_history::{Entry, Op, Reply, copy_entry};
+use call_history::{Entry, Op, Reply};
 use channel_values::{ByteFault, NoMemory};
 
 /// Appends the bytes of the call of an entry's copy.
 fn write_copy(entry: &Entry, out: &mut Vec<u8>) -> Result<(), NoMemory>
     requires { (c : AnyCall) → entry.now.op ≡ ops.Call c → KeepsCall c }
 {
-    let copy = copy_entry(entry)?;
+    let copy = entry.copy()?;
     match &copy.op {
         Op::Call(call) => write_call(call, out),
         Op::Time(_) => Ok(()),

@@ -1,4 +1,4 @@
--- What a client is answered depends on its own calls alone, and the list of a look tells it.
+-- What a client is answered depends on its own calls alone, and the list of a look shows it.
 use Rattle.std.proofs.Common.{◌≡◌, ℕ, List, [], ◌∷◌, ◌++◌, Bool, true, false, not, ◌||◌, cond, Option, Some, None, refl, sym, ◌∙◌, ap, subst, true≢false}
 use Rattle.std.specs.Prelude.{is_some}
 use Rattle.std.specs.Option.{option_map}

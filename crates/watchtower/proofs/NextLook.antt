@@ -1,4 +1,4 @@
--- A tower that stands for a front of a legal history can look at the next entry, and tells one entry's lines more.
+-- A tower that stands for a front of a legal history can look at the next entry, and gives one entry's lines more.
 use Rattle.std.proofs.Common.{◌≡◌, ◌+◌, ◌<◌, ℕ, true, List, [], ◌∷◌, ◌++◌, take, drop, length, get_or, refl, sym, ◌∙◌, ap, subst, append_assoc}
 use Rattle.std.specs.Prelude.{reverse, Result, Ok, Err, OnOk}
 use Rattle.std.proofs.lemmas.List.{take_more, take-append-drop, reverse-append}

@@ -75,7 +75,7 @@ abbrev pub after_all : Rules → Towering → List Act → Towering
 after_all r t [] = t
 after_all r t (act ∷ acts) = after_all r (after r t act) acts
 
--- after any calls the list that a look answers tells each client its calls
+-- after any calls the list that a look answers gives each client its calls
 abbrev pub EachIsTold : Type 0
 EachIsTold =
     (r : Rules) (q : List ℕ) (acts : List Act)

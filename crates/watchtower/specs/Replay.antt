@@ -61,7 +61,7 @@ abbrev pub last_line : (entries clients calls : ℕ) → List ℕ
 last_line entries clients calls =
     codes "end entries" & decimal entries & codes "clients" & decimal clients & codes "calls" & ended (decimal calls)
 
--- the lines, one behind the other, and a last one with counts
+-- the lines, one after the other, and a last one with counts
 abbrev pub lines_text : List (List ℕ) → (entries clients : ℕ) → List ℕ
 lines_text lines entries clients = flat_map (λ line. line) lines ++ last_line entries clients (length lines)
 

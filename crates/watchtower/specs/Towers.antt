@@ -65,7 +65,7 @@ abbrev pub replaced : HeldChain → List HeldChain → Option ℕ → List HeldC
 replaced new chains None = chains ++ new ∷ []
 replaced new chains (Some place) = slice_set chains place new
 
--- the chains with one more: in the place of that of its channel, or behind the others
+-- the chains with one more: in the place of that of its channel, or after the others
 abbrev pub handed : HeldChain → List HeldChain → List HeldChain
 handed new chains = replaced new chains (position (is_of new.channel) chains)
 
@@ -95,7 +95,7 @@ fault_among r new (Some chains) = chain_fault r new chains
 abbrev pub hand_fault : Rules → List ℕ → HeldChain → List Client → Option HandFault
 hand_fault r name new clients = fault_among r new (chains_of name clients)
 
--- the fault that an answer tells; want of memory is none of the table
+-- the fault that an answer gives; want of memory is none of the table
 abbrev pub fault_told : Result (Unit {0}) HandFault → Option HandFault
 fault_told (Ok done) = None
 fault_told (Err faults.NoMemory) = None

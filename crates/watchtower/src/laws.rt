@@ -9,7 +9,7 @@ pub fn clients_are_apart()
     ensures { ClientsAreApart }
 {}
 
-/// The list that a look answers tells each client the calls for its own chains, after any calls of the tower.
+/// The list that a look answers gives each client the calls for its own chains, after any calls of the tower.
 pub fn each_is_told()
     ensures { EachIsTold }
 {}

@@ -92,7 +92,7 @@ fn last_line(
     format!(in alloc; "end entries {entries} clients {clients} calls {calls}\n")
 }
 
-/// The lines, one behind the other, and a last one with counts.
+/// The lines, one after the other, and a last one with counts.
 pub(crate) fn text_of(
     alloc: Global,
     lines: &[Listed<u8>],

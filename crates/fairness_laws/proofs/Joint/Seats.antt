@@ -44,7 +44,7 @@ module _ (s : Signing) (h : List Entry) (journal : List Told) (fair : IsFair s h
   abbrev L : List Line
   L = lines_of s.key front
 
-  -- a name tells the fixed part, and so the application
+  -- a name determines the fixed part, and so the application
   pub same-fixed : (f k : FixedParts) → In f (channels L) → In k (channels L) → real.named f ≡ real.named k → f ≡ k
   same-fixed f k j l e = one-fixed s h journal fair past front at.front_is past front at.front_is f k j l e
 

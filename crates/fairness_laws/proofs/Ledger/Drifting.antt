@@ -51,7 +51,7 @@ child-eq x y e1 e2 e3 e4 e5 e6 =
     ∙ (ap (λ (z : ℕ). record { asset = y.asset; name = y.name; first = y.first; second = y.second; a = z; b = x.b }) e5
     ∙ ap (λ (z : ℕ). record { asset = y.asset; name = y.name; first = y.first; second = y.second; a = y.a; b = z }) e6))))
 
--- by the channel that tells it
+-- by the channel that shows it
 pub is-past : (s : Signing) (h : List Entry) (journal : List Told) (fair : IsFair s h journal) (past : List Entry) (front : List Told) (place : IsFront h journal past front)
     (l : List ℕ) (p : Part) (k : Lent) (a : LendsAt s past front l p k) → k.is_up ≡ true → Past a.fixed (lines_of s.key front)
 is-past s h journal fair past front place l p k a e = past-of s h journal fair.nodes past front place a.fixed a.opening a.gate a.seat (sym a.is_up ∙ e)

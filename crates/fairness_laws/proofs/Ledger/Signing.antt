@@ -251,7 +251,7 @@ module _ (s : Signing) (h : List Entry) (journal : List Told) (fair : IsFair s h
 
   -- ---- drift
 
-  -- what is signed in the channel that tells whether the ledger has gone up
+  -- what is signed in the channel that says whether the ledger has gone up
   module _ (l : List ℕ) (p : Part) (k : Lent) (i : In p m.parts) (is : lends_at s past front l p ≡ Some k) (same : channel ≡ gate-of p) where
     off-ledger : is_ledger s.key journal channel ≡ false
     off-ledger =

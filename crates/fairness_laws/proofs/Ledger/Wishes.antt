@@ -1,4 +1,4 @@
--- What a part on ledgers wants there, and in the channel that tells whether they have gone up.
+-- What a part on ledgers wants there, and in the channel that says whether they have gone up.
 use Rattle.std.proofs.Common.{◌≡◌, ℕ, ◌<◌, ◌≤◌, Bool, true, false, ◌&&◌, ◌||◌, List, ◌⊎◌, inl, inr, length, refl, sym, ◌∙◌, ap, subst, arith}
 use Rattle.std.specs.Prelude.{nat_le, Option, Some, None}
 use Rattle.std.specs.Str.{bytes_eq}
@@ -62,7 +62,7 @@ two-three n h = omega arith
 below-three : (n m : ℕ) → n < m → m ≤ 3 → n < 3
 below-three n m h k = omega arith
 
--- the channel that tells whether the ledger has gone up, and what a ledger sets aside for, are the part's
+-- the channel that says whether the ledger has gone up, and what a ledger sets aside for, are the part's
 pub gate-among : (p : Part) → is_among (gate-of p) (channels_of p) ≡ true
 gate-among p = in-among (gate-of p) (channels_of p) (gate-in p)
 
@@ -123,7 +123,7 @@ module _ (s : Signing) (h : List Entry) (journal : List Told) (fair : IsFair s h
   pub end-differs : (v : Virtual) → In (kinds.End v) m.parts → (bytes_eq v.channel v.joint ≡ false) × (bytes_eq v.channel (own_guarantor v) ≡ false)
   end-differs v i = end-apart m.parts (plan-is s h journal fair past front at) v i
 
-  -- that tells whether a ledger has gone up is no ledger
+  -- that says whether a ledger has gone up is no ledger
   pub gate-off : (p : Part) → In p m.parts → (l : List ℕ) (k : Lent) → lends_at s past front l p ≡ Some k → bears (gate-of p) p ≡ false
   gate-off (kinds.Root c) i l k is = absurd (none-eq k is)
   gate-off (kinds.OnLedger m c) i l k is = refl
@@ -163,7 +163,7 @@ module _ (s : Signing) (h : List Entry) (journal : List Told) (fair : IsFair s h
           )
       by (kinds.Middle v) y (inr (inr j)) = absurd j
 
-  -- the people of the channel that tells whether the ledger has gone up
+  -- the people of the channel that says whether the ledger has gone up
   pub gate-people : (p : Part) (i : In p m.parts) (l : List ℕ) (k : Lent) → lends_at s past front l p ≡ Some k → (f : FixedParts) → In f (channels (lines_of s.key front)) → real.named f ≡ gate-of p
       → people f ≡ gate-size p
   gate-people p i l k is =
@@ -205,7 +205,7 @@ module _ (s : Signing) (h : List Entry) (journal : List Told) (fair : IsFair s h
     second-named : y.middle.ledger_b.name ≡ v.ledger_b
     second-named = ap (λ (z : Seat). z.name) y.on_b.seat.is ∙ y.on_b.named
 
-  -- ---- what a part wants in the channel that tells whether its ledgers have gone up
+  -- ---- what a part wants in the channel that says whether its ledgers have gone up
 
   module _ (state : StateParts) where
     child-wants : (l c : List ℕ) (g : Goal) (o : OnLedgerIs s.key past (lines_of s.key front) (facts_of m) l c g) → is_ledger s.key journal c ≡ false → is_ledger s.key journal l ≡ true

@@ -170,7 +170,7 @@ module _ (s : Signing) (h : List Entry) (journal : List Told) (nodes : IsNodes s
 
 -- ---- two places
 
--- a name tells the fixed part, at whatever place
+-- a name determines the fixed part, at whatever place
 pub one-fixed : (s : Signing) (h : List Entry) (journal : List Told) (fair : IsFair s h journal) (past : List Entry) (front : List Told) (place : IsFront h journal past front)
     (after : List Entry) (longer : List Told) (then : IsFront h journal after longer) (f g : FixedParts) → In f (channels (lines_of s.key front)) → In g (channels (lines_of s.key longer))
     → real.named f ≡ real.named g → f ≡ g

@@ -4,7 +4,7 @@ pub returns-in-Deposit : goal.returns-in-Deposit
 returns-in-Deposit c = rw c.in-Deposit.is c.deposit.ensures
 
 pub returns-in-Challenge : goal.returns-in-Challenge
-returns-in-Challenge c = rw (c.in-Challenge.is, ← c.as_slice.ensures) c.challenge.ensures
+returns-in-Challenge c = rw c.in-Challenge.is c.challenge.ensures
 
 pub returns-in-Respond : goal.returns-in-Respond
 returns-in-Respond c = rw c.in-Respond.is c.respond.ensures

@@ -4,5 +4,5 @@ use Rattle.adjudicator.proofs.adjudicator.Adjudicator.claim.Goals as goal
 
 pub returns : goal.returns
 returns c =
-    claim_serves real c.args.self.now _ c.args.guarantor.now c.args.guarantor_outcome.now c.args.target.now c.args.target_outcome.now c.args.asset c.args.position c.claim_due-answer.result c.paid.result
+    claim_serves real c.args.self.now _ c.args.call.now c.claim_due-answer.result c.paid.result
     c.claim_due-answer.ensures.answer c.paid.ensures c.pay.ensures.paid c.pay.ensures.same

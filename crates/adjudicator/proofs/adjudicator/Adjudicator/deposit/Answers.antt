@@ -5,5 +5,5 @@ use Rattle.adjudicator.proofs.adjudicator.Adjudicator.deposit.Goals as goal
 
 pub returns : goal.returns
 returns c =
-    rw (← c.self.view_is) (deposit_serves real _ _ c.args.channel c.args.asset c.args.expected c.args.amount c.deposit-answer.result c.held.result
+    rw (← c.self.view_is) (deposit_serves real _ _ c.args.call.now c.deposit-answer.result c.held.result
     c.deposit-answer.ensures.answer c.held.ensures c.deposit-answer.ensures.ok c.deposit-answer.ensures.err refl refl refl refl)

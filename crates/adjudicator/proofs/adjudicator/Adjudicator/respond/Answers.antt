@@ -8,16 +8,16 @@ use Rattle.adjudicator.proofs.Turning.{respond_turns, turn_serves, at_found, und
 use Rattle.adjudicator.proofs.adjudicator.Adjudicator.respond.Goals as goal
 use Rattle.adjudicator.proofs.adjudicator.Adjudicator.respond.Goals.{After-opened}
 
-named : (c : After-opened) → c.channel_name-channel.result ≡ real.named c.args.fixed.now
+named : (c : After-opened) → c.channel_name-channel.result ≡ real.named c.args.call.now.fixed
 named c = c.channel_name-channel.ensures ∙ ap name_of_channel c.bytes.ensures.value
 
-answered : (c : After-opened) → c.to_respond-answer.result ≡ replies.respond real (row_or_blank (row_in c.args.self.now.rows (real.named c.args.fixed.now))) c.args.self.now.now c.args.fixed.now c.args.from.now c.args.next.now
+answered : (c : After-opened) → c.to_respond-answer.result ≡ replies.respond real (row_or_blank (row_in c.args.self.now.rows (real.named c.args.call.now.fixed))) c.args.self.now.now c.args.call.now.fixed c.args.call.now.from c.args.call.now.next
 answered c =
-    at_found c.args.self.now _ _ c.channel_name-channel.result (real.named c.args.fixed.now) (λ row now. replies.respond real row now c.args.fixed.now c.args.from.now c.args.next.now) c.to_respond-answer.result
+    at_found c.args.self.now _ _ c.channel_name-channel.result (real.named c.args.call.now.fixed) (λ row now. replies.respond real row now c.args.call.now.fixed c.args.call.now.from c.args.call.now.next) c.to_respond-answer.result
     c.self.view_is c.to_respond-answer.ensures.answer c.get-row.ensures.row (named c)
 
 pub returns : goal.returns
 returns c =
-    turn_serves real c.args.self.now _ _ c.args.fixed.now (λ row now. replies.respond real row now c.args.fixed.now c.args.from.now c.args.next.now) _ c.to_respond-answer.result c.opened.result
-    (respond_turns real c.args.fixed.now c.args.from.now c.args.next.now) (answered c) c.opened.ensures
-    (under_name _ _ c.channel_name-channel.result (real.named c.args.fixed.now) c.to_respond-answer.result (named c) c.record.ensures)
+    turn_serves real c.args.self.now _ _ c.args.call.now.fixed (λ row now. replies.respond real row now c.args.call.now.fixed c.args.call.now.from c.args.call.now.next) _ c.to_respond-answer.result c.opened.result
+    (respond_turns real c.args.call.now) (answered c) c.opened.ensures
+    (under_name _ _ c.channel_name-channel.result (real.named c.args.call.now.fixed) c.to_respond-answer.result (named c) c.record.ensures)

@@ -2,7 +2,7 @@
 use Rattle.std.proofs.Common.{[], take, ◌∙◌, ap}
 use Rattle.std.proofs.lemmas.List.{get_or_read}
 use Rattle.std.proofs.lemmas.Result.{err_from_is_err_and}
-use Rattle.call_history.specs.declared.call.Call.TheVariants.{Deposit}
+use Rattle.call_history.specs.Calls.{make_deposit}
 use Rattle.channel_node.specs.Nodes.{NodeOf}
 use Rattle.channel_node.specs.Playing.{signing_of}
 use Rattle.channel_node.proofs.Given.{giving-steps, gave-whole, gave-stands, gave-signer}
@@ -10,8 +10,8 @@ use Rattle.channel_node.proofs.node.Node.give_all.Goals as goal
 
 pub loop-call-preserved : goal.loop-call-preserved
 loop-call-preserved g c =
-    giving-steps c.args.given.now c.args.self.now c.loop-call.call-index c.loop-call.self c.give.new.self (Deposit [] 0 0 0) c.call-item.result
-    c.loop-call-test.true (get_or_read c.args.given.now c.loop-call.call-index c.call-item.result c.loop-call-test.true c.call-item.is (Deposit [] 0 0 0))
+    giving-steps c.args.given.now c.args.self.now c.loop-call.call-index c.loop-call.self c.give.new.self (make_deposit [] 0 0 0) c.call-item.result
+    c.loop-call-test.true (get_or_read c.args.given.now c.loop-call.call-index c.call-item.result c.loop-call-test.true c.call-item.is (make_deposit [] 0 0 0))
     c.loop-call.invariant c.in_ok-give.ensures.ok
 
 pub returns-in_err-give-clause-err : goal.returns-in_err-give-clause-err
