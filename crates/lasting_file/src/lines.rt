@@ -1,9 +1,9 @@
 //! Lines of a reader.
 
 ghost use Rattle.std.specs.Prelude.{IfOk, IfSome};
-ghost use Rattle.lasting_lines.specs.Lines.{IsLine};
+ghost use Rattle.lasting_lines.specs.Batches.{IsPart};
 
-use lasting_lines::{Fault, Source, split_row};
+use lasting_lines::{Fault, Source, split_line};
 use std::alloc::Global;
 use std::io::Read;
 
@@ -28,9 +28,9 @@ impl<R: Read + Drop> ReaderLines<R> {
 
     // The first line of what is held.
     fn held_line(&mut self, alloc: Global) -> Result<Option<Vec<u8>>, Fault>
-        ensures { IfOk result (λ o. IfSome o (λ line. IsLine line.items)) }
+        ensures { IfOk result (λ o. IfSome o (λ line. IsPart line.items)) }
     {
-        let Some(split) = split_row(&self.held) else {
+        let Some(split) = split_line(&self.held) else {
             return Ok(None);
         };
         let line = Vec::from_slice(alloc, split.row)?;
@@ -41,9 +41,10 @@ impl<R: Read + Drop> ReaderLines<R> {
 }
 
 impl<R: Read + Drop> Source for ReaderLines<R> {
-    /// Bytes after the last line feed are no line. `Input` where a read fails or a line is too long.
+    /// A line ends at a line feed, or at a separator of batches; bytes after the last of these are no line. `Input` where a
+    /// read fails or a line is too long.
     fn line(&mut self, alloc: Global) -> Result<Option<Vec<u8>>, Fault> {
-        let mut buffer = [0u8; 4096];
+        let mut buffer = [0u8; 65536];
         for _ in 0..=LINE_LIMIT {
             if let Some(line) = self.held_line(alloc)? {
                 return Ok(Some(line));
@@ -60,5 +61,9 @@ impl<R: Read + Drop> Source for ReaderLines<R> {
             self.held.extend_from_slice(&buffer[..count])?;
         }
         Err(Fault::Input)
+    }
+
+    fn is_held(&self) -> bool {
+        split_line(&self.held).is_some()
     }
 }

@@ -5,6 +5,7 @@ use Rattle.call_history.specs.declared.entry.Entry.{Entry}
 use Rattle.support_rules.specs.Real.{real}
 use Rattle.network.specs.Entered.{entered}
 use Rattle.lasting_lines.specs.Machines.{Ways}
+use Rattle.lasting_lines.specs.Batches.{batched}
 use Rattle.lasting_lines.specs.Lines.{recovered}
 use Rattle.lasting_lines.specs.Serving.{state}
 use Rattle.lasting_lines.specs.declared.played.Played.{Played}
@@ -31,12 +32,17 @@ abbrev pub newest_answer : List Entry → List ℕ
 newest_answer [] = []
 newest_answer (e ∷ past) = entry_answer e
 
-abbrev pub ledger_ways : Ways LedgerMachine
-ledger_ways = record {
+-- of one line
+abbrev pub line_ways : Ways LedgerMachine
+line_ways = record {
   takes = λ m line. is_ok (taken m.ledger line);
   next = λ m line. record { ledger = entering m.ledger (taken m.ledger line) };
   owes = λ m line. newest_answer (entering m.ledger (taken m.ledger line));
 }
+
+-- of the lines that share a record
+abbrev pub ledger_ways : Ways LedgerMachine
+ledger_ways = batched line_ways
 
 -- ---- files
 

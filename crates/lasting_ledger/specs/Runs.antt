@@ -19,11 +19,11 @@ ready_text count mark =
 abbrev pub last_left_out : Option ℕ → ℕ
 last_left_out after = unwrap_or after (2 ^ 64 - 1)
 
--- how many events a file has
+-- how many records a file has
 abbrev pub count_in : List ℕ → ℕ
 count_in file = (state ledger_ways unplayed (recovered ledger_ways unplayed file)).count
 
--- the responses to the events of a file with numbers up to n
+-- the responses to the records of a file with numbers up to n
 abbrev pub left_out : ℕ → List ℕ → List ℕ
 left_out n file = owed_to ledger_ways n unplayed (recovered ledger_ways unplayed file)
 

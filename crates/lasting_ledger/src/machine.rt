@@ -57,9 +57,9 @@ impl LedgerMachine {
 }
 
 impl Machine for LedgerMachine {
-    ghost use Rattle.lasting_ledger.specs.Ledgers.{ledger_ways};
+    ghost use Rattle.lasting_ledger.specs.Ledgers.{line_ways};
 
-    ghost ways = { ledger_ways };
+    ghost ways = { line_ways };
 
     fn refusal(&self, alloc: Global, line: &[u8]) -> Result<Option<Vec<u8>>, AllocError> {
         match self.taken(alloc, line) {

@@ -27,11 +27,11 @@ pub enum Stop {
     Torn(usize),
     /// A record is wrong, and a later one follows it.
     Damaged,
-    /// The file has fewer events.
+    /// The file has fewer records.
     Behind,
 }
 
-/// Plays the records of a file. The responses to events with numbers above `after` are to be written again.
+/// Plays the records of a file. The responses to records with numbers above `after` are to be written again.
 pub fn begin(alloc: Global, file: &[u8], after: Option<u64>) -> Result<Begun, Stop>
     ensures played { IfOk result (λ begun.
         IsPlayed ledger_ways unplayed file.now (last_left_out after) begun.played begun.again.items) }

@@ -24,7 +24,7 @@ const TITLE: &str = "nitro-ledger 1";
 pub struct Start<'a> {
     /// The state file, which is made if it is missing.
     pub path: &'a str,
-    /// The responses to events with higher numbers are written again; with `None`, none are.
+    /// The responses to records with higher numbers are written again; with `None`, none are.
     pub after: Option<u64>,
     /// Whether the file may have another inode. Whoever permits it has to know that no other copy of the file is in
     /// use.
@@ -163,7 +163,7 @@ pub fn run_ledger<R: Read + Drop, W: Write + Drop>(
     ensures ready { result.status ≡ Status.InputEnded → IsSomeAnd result.run (λ run.
         IsAnswered (last_left_out start.now.after) run.file.items run.outside.calls.events run.played) }
 
-    // A file with fewer events than `after` says isn't served.
+    // A file with fewer records than `after` says isn't served.
     ensures enough { IfSome result.run (λ run. unwrap_or start.now.after 0 ≤ count_in run.file.items) }
 
     // The history is legal.

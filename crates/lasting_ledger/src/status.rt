@@ -21,7 +21,7 @@ pub enum Status {
     Damaged,
     /// The state file is another program's or another version's, or it is a copy of the file that was written.
     Foreign,
-    /// The state file has fewer events than were to be left out.
+    /// The state file has fewer records than were to be left out.
     Behind,
 }
 

@@ -112,7 +112,7 @@ module _ {M : Type 0} (ways : Ways M) (p : Played M) (before start : List ℕ) (
         moments = answered;
       }
 
-    -- ---- as the calls write_aside it
+    -- ---- as the calls leave it
 
     module _ (bytes : List ℕ) (bytes-are : bytes ≡ record_bytes) (one : List Op) where
       pub as-appended : one ≡ Appended bytes ∷ ops → Always ways p before start one

@@ -4,3 +4,4 @@ pub mod Lines
 pub mod Serving
 pub mod Opening
 pub mod Lives
+pub mod Batches

@@ -1,6 +1,7 @@
 //! A machine with its place in the file.
 
-ghost use Rattle.std.specs.Prelude.{◌≡◌, true, IfOk, OnOk};
+ghost use Rattle.std.specs.Prelude.{◌≡◌, IfOk, OnOk};
+ghost use Rattle.lasting_lines.specs.Batches.{batched, Holds};
 ghost use Rattle.lasting_lines.specs.Lines.{IsLine, mark_of, row_text, done_text, after, response, row_of};
 
 use crate::machine::Machine;
@@ -8,10 +9,10 @@ use crate::outside::Fault;
 use sha2::{Digest, Sha256};
 use std::alloc::{AllocError, Global};
 
-/// SHA-256 of the mark before it, a line and its answer.
+/// SHA-256 of the mark before it, the lines of a record and their answers.
 pub type Mark = [u8; 32];
 
-/// A machine, how many lines it has taken, and the mark of the last one.
+/// A machine, how many records its lines have, and the mark of the last one.
 #[derive(Drop)]
 pub struct Played<M> {
     pub machine: M,
@@ -19,31 +20,38 @@ pub struct Played<M> {
     pub mark: Mark,
 }
 
-/// What a line gives: the row for the file, with no line feed, and the response, whose last line is `done`.
+/// What a batch of lines gives: the row for the file, with no line feed, and the response, whose last line is `done`.
 #[derive(Drop)]
 pub struct Given {
     /// `NUMBER MARK LINE`.
     pub row: Vec<u8>,
-    /// The machine's answer, and a line that gives the number and the mark.
+    /// The machine's answers, and a line that gives the number and the mark.
     pub text: Vec<u8>,
 }
 
 impl<M: Machine> Played<M> {
-    /// Takes a line. After an `Err` the file has to be recovered anew. `Full`: the numbers of 64 bits are used up.
-    pub fn advance(&mut self, alloc: Global, line: &[u8]) -> Result<Given, Fault>
-        requires { M.ways.takes self.old.machine line.now ≡ true }
-        ensures place { OnOk result (self.new ≡ after M.ways self.old line.now) }
-        ensures row { IfOk result (λ given. given.row.items ≡ row_of M.ways self.old line.now) }
-        ensures one_row { IfOk result (λ given. IsLine line.now → IsLine given.row.items) }
-        ensures text { IfOk result (λ given. given.text.items ≡ response M.ways self.old line.now) }
+    /// Gives the lines of a batch, which were taken, their record. `Full`: the numbers of 64 bits are used up.
+    pub(crate) fn seal(
+        &mut self,
+        alloc: Global,
+        batch: &[u8],
+        answer: Vec<u8>,
+    ) -> Result<Given, Fault>
+        ensures place { (p : Played M) → Holds M.ways p self.old batch.now answer.items
+            → OnOk result (self.new ≡ after (batched M.ways) p batch.now) }
+        ensures row { (p : Played M) → Holds M.ways p self.old batch.now answer.items
+            → IfOk result (λ given. given.row.items ≡ row_of (batched M.ways) p batch.now) }
+        ensures text { (p : Played M) → Holds M.ways p self.old batch.now answer.items
+            → IfOk result (λ given. given.text.items ≡ response (batched M.ways) p batch.now) }
+        ensures one_row { IfOk result (λ given. IsLine batch.now → IsLine given.row.items) }
     {
         if self.count == u64::MAX {
             return Err(Fault::Full);
         }
-        let mut text = self.machine.step(alloc, line)?;
         self.count += 1;
-        self.mark = mark_of(&self.mark, line, &text);
-        let row = row_text(alloc, self.count, &self.mark, line)?;
+        self.mark = mark_of(&self.mark, batch, &answer);
+        let row = row_text(alloc, self.count, &self.mark, batch)?;
+        let mut text = answer;
         text.extend_from_slice(&done_text(alloc, self.count, &self.mark)?)?;
         Ok(Given { row, text })
     }

@@ -2,10 +2,12 @@
 
 ghost use Rattle.std.specs.Prelude.{◌≡◌, ◌+◌, ◌-◌, ◌^◌, ◌<◌, true, false, nat_lt, if◌then◌else◌, [], ◌++◌, drop};
 ghost use Rattle.std.specs.Prelude.{is_some, IfOk, IfSome, OnOk, OnSome};
+ghost use Rattle.lasting_lines.specs.Batches.{batched};
 ghost use Rattle.lasting_lines.specs.Lines.{after_row, response_to_row, is_right, head_length};
 ghost use Rattle.lasting_lines.specs.Opening.{IsFound, is_damaged};
 ghost use Rattle.lasting_lines.specs.declared.recovery.Found.TheVariants.{Torn, Damaged};
 
+use crate::batches::step_all;
 use crate::machine::Machine;
 use crate::outside::Fault;
 use crate::played::Played;
@@ -24,22 +26,22 @@ pub enum Found<M> {
 }
 
 impl<M: Machine> Played<M> {
-    // Takes the line of a row if the row is its record; else the machine is of no more use.
+    // Takes the lines of a row if the row is their record; else the machine is of no more use.
     fn replay(&mut self, alloc: Global, row: &[u8]) -> Result<Option<Vec<u8>>, Fault>
         ensures fits { OnOk result (self.old.count < 2 ^ 64 - 1) }
-        ensures right { IfOk result (λ o. is_some o ≡ is_right M.ways self.old row.now) }
-        ensures place { IfOk result (λ o. OnSome o (self.new ≡ after_row M.ways self.old row.now)) }
-        ensures text { IfOk result (λ o. IfSome o (λ text. text.items ≡ response_to_row M.ways self.old row.now)) }
+        ensures right { IfOk result (λ o. is_some o ≡ is_right (batched M.ways) self.old row.now) }
+        ensures place { IfOk result (λ o. OnSome o (self.new ≡ after_row (batched M.ways) self.old row.now)) }
+        ensures text { IfOk result (λ o. IfSome o (λ text.
+            text.items ≡ response_to_row (batched M.ways) self.old row.now)) }
     {
         if self.count == u64::MAX {
             return Err(Fault::Full);
         }
-        let line = line_of_row(alloc, self.count + 1, row)?;
-        if let Some(message) = self.machine.refusal(alloc, line)? {
-            drop(message);
+        let batch = batch_of_row(alloc, self.count + 1, row)?;
+        let Some(answer) = step_all(alloc, &mut self.machine, batch)? else {
             return Ok(None);
-        }
-        let given = self.advance(alloc, line)?;
+        };
+        let given = self.seal(alloc, batch, answer)?;
         if row == given.row.as_slice() {
             Ok(Some(given.text))
         } else {
@@ -57,8 +59,8 @@ fn head_length(alloc: Global, number: u64) -> Result<usize, AllocError>
 }
 
 // What follows the number and the mark in a row.
-fn line_of_row(alloc: Global, number: u64, row: &[u8]) -> Result<&[u8], AllocError>
-    ensures { IfOk result (λ line. line.now ≡ drop (head_length number) row.now) }
+fn batch_of_row(alloc: Global, number: u64, row: &[u8]) -> Result<&[u8], AllocError>
+    ensures { IfOk result (λ batch. batch.now ≡ drop (head_length number) row.now) }
 {
     let start = head_length(alloc, number)?.min(row.len());
     Ok(&row[start..])
@@ -81,7 +83,7 @@ pub fn recover<M: Machine + Drop>(
     file: &[u8],
     from: u64,
 ) -> Result<Found<M>, Fault>
-    ensures { IfOk result (λ found. IsFound M.ways played file.now from found) }
+    ensures { IfOk result (λ found. IsFound (batched M.ways) played file.now from found) }
 {
     let mut again = Vec::new(alloc);
     let mut rest = file;

@@ -1,9 +1,12 @@
 //! The rows of a file, and what may follow the last right one.
 
 ghost use Rattle.std.specs.Prelude.{◌≡◌, ◌∷◌, ◌++◌, false, is_some, IfSome};
+ghost use Rattle.lasting_lines.specs.Batches.{IsPart};
 ghost use Rattle.lasting_lines.specs.Lines.{IsLine};
 ghost use Rattle.lasting_lines.specs.Opening.{is_digit, is_hex, has_mark, begins_mark, later_from};
 ghost use Rattle.lasting_lines.specs.Opening.{begins_later, is_damaged};
+
+use crate::batches::SEPARATOR;
 
 /// A row without its line feed, and the bytes after it.
 #[derive(Clone, Copy)]
@@ -21,6 +24,24 @@ pub fn split_row(bytes: &[u8]) -> Option<Split<'_>>
     let mut i = 0;
     while i < bytes.len() {
         if bytes[i] == 10 {
+            return Some(Split {
+                row: &bytes[..i],
+                rest: &bytes[i + 1..],
+            });
+        }
+        i += 1;
+    }
+    None
+}
+
+/// The first line of a source, which ends at a line feed or a separator of batches, and the bytes after that; `None` where
+/// there is neither.
+pub fn split_line(bytes: &[u8]) -> Option<Split<'_>>
+    ensures { IfSome result (λ s. IsPart s.row.now) }
+{
+    let mut i = 0;
+    while i < bytes.len() {
+        if bytes[i] == 10 || bytes[i] == SEPARATOR {
             return Some(Split {
                 row: &bytes[..i],
                 rest: &bytes[i + 1..],

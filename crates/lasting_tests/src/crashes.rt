@@ -4,25 +4,47 @@ ghost use Rattle.std.specs.Prelude.{IfOk};
 
 use crate::memory::{Call, Memory};
 use crate::tally::Tally;
-use lasting_lines::{Fault, Found, Played, Source, recover, run, split_row};
+use lasting_lines::{Fault, Found, Played, Source, recover, run, split_line};
 use std::alloc::Global;
 
-/// Lines to serve; the machine takes all but the empty one.
+/// Lines to serve; the machine takes all but the empty one. Where a source holds them all, two share each record.
 pub const LINES: &[u8] = b"a\nbc\n\ndef\ng\n";
+
+/// Whether a source holds all its lines from the start, so that they share records, or one at a time.
+#[derive(Clone, Copy, Debug, PartialEq, Eq)]
+pub enum Holding {
+    One,
+    All,
+}
+
+impl Holding {
+    // How many lines so many records have.
+    fn lines(self, records: u64) -> u64 {
+        match self {
+            Holding::One => records,
+            Holding::All => records.saturating_mul(2),
+        }
+    }
+}
 
 /// The lines of a text.
 #[derive(Drop)]
 pub struct TextLines<'a> {
     rest: &'a [u8],
+    holding: Holding,
 }
 
 impl<'a> Source for TextLines<'a> {
     fn line(&mut self, alloc: Global) -> Result<Option<Vec<u8>>, Fault> {
-        let Some(split) = split_row(self.rest) else {
+        let Some(split) = split_line(self.rest) else {
             return Ok(None);
         };
         self.rest = split.rest;
         Ok(Some(Vec::from_slice(alloc, split.row)?))
+    }
+
+    fn is_held(&self) -> bool {
+        self.holding == Holding::All
     }
 }
 
@@ -70,7 +92,7 @@ fn lines_after(count: u64) -> &'static [u8] {
         if left == 0 {
             return rest;
         }
-        let Some(split) = split_row(rest) else {
+        let Some(split) = split_line(rest) else {
             return rest;
         };
         rest = split.rest;
@@ -82,7 +104,7 @@ fn lines_after(count: u64) -> &'static [u8] {
 }
 
 /// What a run leaves that begins with this file, and whose outside answers so many calls.
-pub fn run_from(alloc: Global, file: &[u8], left: u32) -> Result<Left, Fault> {
+pub fn run_from(alloc: Global, holding: Holding, file: &[u8], left: u32) -> Result<Left, Fault> {
     let file = match recover(alloc, fresh(), file, 0)? {
         Found::Torn(kept) => &file[..kept.min(file.len())],
         Found::Whole(_, _) | Found::Damaged => file,
@@ -92,31 +114,37 @@ pub fn run_from(alloc: Global, file: &[u8], left: u32) -> Result<Left, Fault> {
     };
     let mut memory = Memory::new(alloc, left);
     let mut lines = TextLines {
-        rest: lines_after(played.count),
+        rest: lines_after(holding.lines(played.count)),
+        holding,
     };
     let _ = run(alloc, &mut memory, &mut played, &again, &mut lines);
     left_by(alloc, file, memory.calls())
 }
 
 /// Whether a run on this file writes the whole text, and leaves the whole file.
-fn is_restarted(alloc: Global, file: &[u8], whole: &Left) -> Result<bool, Fault> {
-    let left = run_from(alloc, file, u32::MAX)?;
+fn is_restarted(alloc: Global, holding: Holding, file: &[u8], whole: &Left) -> Result<bool, Fault> {
+    let left = run_from(alloc, holding, file, u32::MAX)?;
     Ok(left.safe == whole.safe && left.text == whole.text)
 }
 
 /// Whether it is so for each file that a crash may leave: with each prefix of what was appended last, alone or with
 /// zeros after it up to its length.
-pub fn are_restarted(alloc: Global, crashed: &Left, whole: &Left) -> Result<bool, Fault> {
+pub fn are_restarted(
+    alloc: Global,
+    holding: Holding,
+    crashed: &Left,
+    whole: &Left,
+) -> Result<bool, Fault> {
     for cut in 0..crashed.loose.len() + 1 {
         let mut file = Vec::from_slice(alloc, &crashed.safe)?;
         file.extend_from_slice(&crashed.loose[..cut])?;
-        if !is_restarted(alloc, &file, whole)? {
+        if !is_restarted(alloc, holding, &file, whole)? {
             return Ok(false);
         }
         for _ in cut..crashed.loose.len() {
             file.extend_from_slice(&[0])?;
         }
-        if !is_restarted(alloc, &file, whole)? {
+        if !is_restarted(alloc, holding, &file, whole)? {
             return Ok(false);
         }
     }

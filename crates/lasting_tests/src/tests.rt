@@ -1,21 +1,38 @@
 //! Crashes at each call, and a changed byte at each place.
 
-use crate::crashes::{are_restarted, found, run_from};
+use crate::crashes::{Holding, are_restarted, found, run_from};
 use std::test::Fail;
 
-/// One more than the calls of a run: one for the responses that were asked for, three for each of four lines, and one for
-/// the empty line.
-const CALLS: u32 = 15;
+/// A source, and one more than the calls of a run on it: one for the responses that were asked for, three for each record,
+/// and one for the empty line. One at a time, four lines have a record each; all at once, two have one.
+const SOURCES: [(Holding, u32); 2] = [(Holding::One, 15), (Holding::All, 9)];
 
 #[test]
 fn a_restart_writes_what_one_run_writes(rt: HostRuntime) -> Result<(), Fail> {
     let alloc = rt.alloc();
-    let whole = run_from(alloc, b"", u32::MAX)?;
-    for left in 0..CALLS {
-        let crashed = run_from(alloc, b"", left)?;
-        assert!(rt; whole.text.starts_with(&crashed.text), "{left}");
-        assert!(rt; are_restarted(alloc, &crashed, &whole)?, "{left}");
+    for (holding, calls) in SOURCES {
+        let whole = run_from(alloc, holding, b"", u32::MAX)?;
+        for left in 0..calls {
+            let crashed = run_from(alloc, holding, b"", left)?;
+            assert!(rt; whole.text.starts_with(&crashed.text), "{left}");
+            assert!(rt; are_restarted(alloc, holding, &crashed, &whole)?, "{left}");
+        }
     }
+    Ok(())
+}
+
+/// The lines of a batch have one record, and one line `done` after their answers: the lengths of the lines so far.
+#[test]
+fn lines_share_a_record(rt: HostRuntime) -> Result<(), Fail> {
+    let alloc = rt.alloc();
+    let whole = run_from(alloc, Holding::All, b"", u32::MAX)?;
+    assert!(rt; whole.safe.starts_with(b"1 "));
+    assert!(rt; whole.safe.ends_with(b" def\x1eg\n"));
+    assert!(rt;
+        whole
+            .text
+            .starts_with(b"1\n3\n{\"effect\":\"done\",\"n\":1,")
+    );
     Ok(())
 }
 
@@ -24,7 +41,7 @@ fn a_restart_writes_what_one_run_writes(rt: HostRuntime) -> Result<(), Fail> {
 #[test]
 fn a_changed_byte_is_found(rt: HostRuntime) -> Result<(), Fail> {
     let alloc = rt.alloc();
-    let mut file = run_from(alloc, b"", u32::MAX)?.safe;
+    let mut file = run_from(alloc, Holding::One, b"", u32::MAX)?.safe;
     for i in 0..file.len() {
         file[i] ^= 1;
         let (what, kept) = found(alloc, &file)?;
