@@ -8,4 +8,8 @@ mod messages;
 #[cfg(test)]
 mod nodes;
 #[cfg(test)]
+mod wallet;
+#[cfg(test)]
+mod wallets;
+#[cfg(test)]
 mod wishes;
