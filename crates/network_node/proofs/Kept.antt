@@ -1,4 +1,4 @@
--- What a call makes of a node is placed, whatever it answered.
+-- What a call makes of a node stands, whatever it answered.
 use Rattle.std.proofs.Common.{◌≡◌, Bool, true, false, cond, List, refl, sym, ◌∙◌, ap, subst}
 use Rattle.std.specs.List.{flat_map}
 use Rattle.std.specs.Prelude.{ℕ, Option, Some, None, Result, Ok, Err, OnOk, OnErr, IsErr}
@@ -24,11 +24,11 @@ use Rattle.channel_node.specs.Playing.{Signing, signing_of}
 use Rattle.channel_node.specs.Answers.{SameJournal, HandleAnswers, CommandAnswers}
 use Rattle.stage_tables.specs.Stages.{stages}
 use Rattle.node_guarantees.proofs.Answering.{answers-so}
-use Rattle.node_guarantees.proofs.Kept.{nodes_are_kept, lost-placed, told-placed}
+use Rattle.fairness_laws.proofs.Owning.{nodes_stand, lost-stands, told-stands}
+use Rattle.fairness_laws.specs.Owning.{StandsOwning}
 use Rattle.channel_node.specs.Exiting.{leaves}
 use Rattle.node_guarantees.specs.Gains.{shares_known}
 use Rattle.node_guarantees.specs.Ways.{Numbered, unless_lost, noting_if, ways, seen_of}
-use Rattle.node_guarantees.specs.Placed.{IsPlaced}
 use Rattle.support_rules.specs.Real.{real}
 use Rattle.network_node.specs.Notes.{note_if}
 
@@ -50,31 +50,31 @@ tick_makes p q new (Err fault) same ok = tt
 pub tick_keeps : {A E : Type 0} (p : Numbered) (new : NodeOf) (result : Result A E)
     → OnOk result ((p.node.is_lost ≡ false) × (new ≡ after_tick stages real (signing_of p.node.signer) p.node)) → OnErr result (new.is_lost ≡ true)
     → ((h : List Entry) → Legal real h → KeepsStanding h p new) → new.signer ≡ p.node.signer
-    → (h : List Entry) → Legal real h → IsPlaced h p → IsPlaced h (record p { node = new })
+    → (h : List Entry) → Legal real h → StandsOwning h p → StandsOwning h (record p { node = new })
 tick_keeps p new (Ok outs) ok err keeps signer h legal is =
-    subst (IsPlaced h) (awake p (λ n. after_tick stages real (signing_of n.signer) n) new ok.0 ok.1) (nodes_are_kept.ticked h p legal is)
-tick_keeps p new (Err fault) ok err keeps signer h legal is = lost-placed h p new err signer (keeps h legal) is
+    subst (StandsOwning h) (awake p (λ n. after_tick stages real (signing_of n.signer) n) new ok.0 ok.1) (nodes_stand.ticked h p legal is)
+tick_keeps p new (Err fault) ok err keeps signer h legal is = lost-stands h p new err signer (keeps h legal) is
 
 pub see_keeps : {A E : Type 0} (p : Numbered) (entries : List Entry) (new : NodeOf) (result : Result A E) → p.node.is_lost ≡ false
     → OnOk result (new ≡ saw_all real entries p.node) → OnErr result (new.is_lost ≡ true) → OnErr result (SameJournal p.node new) → new.signer ≡ p.node.signer
-    → (h : List Entry) → Legal real h → ComeNext h entries (seen_of p.node) → IsPlaced h p → IsPlaced h (record p { node = new })
+    → (h : List Entry) → Legal real h → ComeNext h entries (seen_of p.node) → StandsOwning h p → StandsOwning h (record p { node = new })
 see_keeps p entries new (Ok done) kept ok lost same signer h legal next is =
-    subst (IsPlaced h) (awake p (saw_all real entries) new kept ok) (nodes_are_kept.saw h entries p legal next is)
+    subst (StandsOwning h) (awake p (saw_all real entries) new kept ok) (nodes_stand.saw h entries p legal next is)
 see_keeps p entries new (Err fault) kept ok lost same signer h legal next is =
-    lost-placed h p new lost signer (λ st. lost_nodes_stand stages real (signing_of p.node.signer) h p.node new lost same.journal same.commands st) is
+    lost-stands h p new lost signer (λ st. lost_nodes_stand stages real (signing_of p.node.signer) h p.node new lost same.journal same.commands st) is
 
 pub watch_keeps : (p : Numbered) (entries : List Entry) (l after : Lookout) (place : ℕ) (chains : List HeldChain) (calls given : List Call) (new : NodeOf)
     → after ≡ followed entries l → chains ≡ flat_map held_chain p.node.mind.kept → calls ≡ looked chains after → given ≡ calls
     → p.node.is_lost ≡ false → new ≡ watched after.seen place given p.node
-    → (h : List Entry) → Legal real h → HasLooked real h (seen_of p.node) l entries → IsPlaced h p → IsPlaced h (record p { node = new })
+    → (h : List Entry) → Legal real h → HasLooked real h (seen_of p.node) l entries → StandsOwning h p → StandsOwning h (record p { node = new })
 watch_keeps p entries l after place chains calls given new after-is chains-are calls-are given-are kept is h legal looks placed =
     let same : given ≡ looked (flat_map held_chain p.node.mind.kept) (followed entries l) =
     given-are ∙ calls-are ∙ ap (λ (z : Lookout). looked chains z) after-is ∙ ap (λ (z : List HeldChain). looked z (followed entries l)) chains-are in
     let new-is : new ≡ watched (followed entries l).seen place (looked (flat_map held_chain p.node.mind.kept) (followed entries l)) p.node =
     is ∙ ap (λ (z : Lookout). watched z.seen place given p.node) after-is ∙ ap (λ (z : List Call). watched (followed entries l).seen place z p.node) same in
-    subst (IsPlaced h)
+    subst (StandsOwning h)
     (awake p (watched (followed entries l).seen place (looked (flat_map held_chain p.node.mind.kept) (followed entries l))) new kept new-is)
-    (nodes_are_kept.watched h entries l place p legal looks placed)
+    (nodes_stand.watched h entries l place p legal looks placed)
 
 -- ---- a command
 
@@ -124,22 +124,22 @@ commanded_is p step command new noted kept new-is noted-is =
 pub failed_keeps : (p : Numbered) (step : ℕ) (command : Command) (new : NodeOf) (fault : NodeFault)
     → CommandAnswers stages real (signing_of p.node.signer) step command p.node new (Err fault)
     → ((h : List Entry) → Legal real h → KeepsStanding h p new) → new.signer ≡ p.node.signer
-    → (h : List Entry) → Legal real h → IsPlaced h p → IsPlaced h (record p { node = new })
+    → (h : List Entry) → Legal real h → StandsOwning h p → StandsOwning h (record p { node = new })
 failed_keeps p step command new (Refused refusal) answer keeps signer h legal is =
-    subst (λ (n : NodeOf). IsPlaced h (record p { node = n })) (sym answer.2)
-    (told-placed h step command p (no-exit (signing_of p.node.signer) command p.node refusal (answer.1 ∙ answers-so stages real (signing_of p.node.signer) step command p.node)) legal answer.0 is)
-failed_keeps p step command new NoMemory answer keeps signer h legal is = lost-placed h p new answer signer (keeps h legal) is
+    subst (λ (n : NodeOf). StandsOwning h (record p { node = n })) (sym answer.2)
+    (told-stands h step command p (no-exit (signing_of p.node.signer) command p.node refusal (answer.1 ∙ answers-so stages real (signing_of p.node.signer) step command p.node)) legal answer.0 is)
+failed_keeps p step command new NoMemory answer keeps signer h legal is = lost-stands h p new answer signer (keeps h legal) is
 
 -- ---- a message
 
 pub handle_keeps : {A : Type 0} (p : Numbered) (bytes : List ℕ) (new : NodeOf) (result : Result A NodeFault) → HandleAnswers stages real bytes p.node new result
     → ((h : List Entry) → Legal real h → KeepsStanding h p new) → new.signer ≡ p.node.signer
-    → (h : List Entry) → Legal real h → IsPlaced h p → IsPlaced h (record p { node = new })
+    → (h : List Entry) → Legal real h → StandsOwning h p → StandsOwning h (record p { node = new })
 handle_keeps p bytes new (Ok done) answer keeps signer h legal is =
-    subst (IsPlaced h) (awake p (handled stages real bytes) new answer.0 answer.2) (nodes_are_kept.handled h bytes p legal is)
+    subst (StandsOwning h) (awake p (handled stages real bytes) new answer.0 answer.2) (nodes_stand.handled h bytes p legal is)
 handle_keeps p bytes new (Err (Refused refusal)) answer keeps signer h legal is =
-    subst (IsPlaced h) (awake p (handled stages real bytes) new answer.0 answer.2) (nodes_are_kept.handled h bytes p legal is)
-handle_keeps p bytes new (Err NoMemory) answer keeps signer h legal is = lost-placed h p new answer.0 signer (keeps h legal) is
+    subst (StandsOwning h) (awake p (handled stages real bytes) new answer.0 answer.2) (nodes_stand.handled h bytes p legal is)
+handle_keeps p bytes new (Err NoMemory) answer keeps signer h legal is = lost-stands h p new answer.0 signer (keeps h legal) is
 
 refuses-as : {A : Type 0} (p : Numbered) (bytes : List ℕ) (new : NodeOf) (result : Result A NodeFault) → HandleAnswers stages real bytes p.node new result
     → RefusesAs (ways.refuses bytes p) result
@@ -156,10 +156,10 @@ handle_refuses p bytes copy new result same answer =
 -- ---- want of memory outside
 
 -- the node is lost, with its journal as it was
-pub lose_keeps : (p : Numbered) (new : NodeOf) → new ≡ record p.node { is_lost = true } → (h : List Entry) → Legal real h → IsPlaced h p → IsPlaced h (record p { node = new })
+pub lose_keeps : (p : Numbered) (new : NodeOf) → new ≡ record p.node { is_lost = true } → (h : List Entry) → Legal real h → StandsOwning h p → StandsOwning h (record p { node = new })
 lose_keeps p new is h legal placed =
     let lost : new.is_lost ≡ true = ap (λ (n : NodeOf). n.is_lost) is in
-    lost-placed h p new lost (ap (λ (n : NodeOf). n.signer) is)
+    lost-stands h p new lost (ap (λ (n : NodeOf). n.signer) is)
     (λ st. lost_nodes_stand stages real (signing_of p.node.signer) h p.node new lost (ap (λ (n : NodeOf). n.journal) is) (ap (λ (n : NodeOf). n.commands) is) st) placed
 
 -- a lost node answers nothing else, and stays as it is

@@ -6,11 +6,11 @@ ghost use Rattle.network.specs.Ways.{followed, looked};
 ghost use Rattle.channel_node.specs.Minds.{facts_of};
 ghost use Rattle.channel_node.specs.Nodes.{NodeOf, new_node, saw_all};
 ghost use Rattle.channel_node.specs.Answers.{SameJournal};
-ghost use Rattle.node_guarantees.proofs.Kept.{nodes_are_kept};
+ghost use Rattle.fairness_laws.proofs.Owning.{nodes_stand};
+ghost use Rattle.fairness_laws.specs.Owning.{StandsOwning};
 ghost use Rattle.channel_node.specs.Exiting.{leaves};
 ghost use Rattle.node_guarantees.specs.Gains.{shares_known};
 ghost use Rattle.node_guarantees.specs.Ways.{ways};
-ghost use Rattle.node_guarantees.specs.Placed.{IsPlaced};
 ghost use Rattle.network_node.specs.Notes.{note_if};
 ghost use Rattle.network_node.specs.Shares.{is_lost};
 ghost use Rattle.std.specs.Option.{option_map};
@@ -180,15 +180,15 @@ impl Node {
 impl Party for Node {
     ghost ways = { ways };
 
-    ghost stands = { IsPlaced };
+    ghost stands = { StandsOwning };
 
     ghost lost = { is_lost };
 
-    ghost grows = { nodes_are_kept.grows };
+    ghost grows = { nodes_stand.grows };
 
-    ghost honest = { nodes_are_kept.honest };
+    ghost honest = { nodes_stand.honest };
 
-    ghost within = { nodes_are_kept.within };
+    ghost within = { nodes_stand.within };
 
     #[tactic(auto, unfolding(channel_node::specs::Playing::signing_of))]
     fn make(alloc: Global, number: u32, signer: Signer) -> Result<Node, NoMemory> {

@@ -3,10 +3,9 @@
 ghost use Rattle.std.specs.List.{AllByRecursion};
 ghost use Rattle.channel_values.specs.Parts.{IsFixed};
 ghost use Rattle.channel_node.specs.Openings.{opened_by};
-ghost use Rattle.fairness_laws.proofs.Owning.{nodes_own, own_calls};
-ghost use Rattle.fairness_laws.specs.Owning.{owns};
+ghost use Rattle.fairness_laws.proofs.Owning.{nodes_stand, own_calls};
 ghost use Rattle.node_guarantees.proofs.Commanding.{nodes_follow_commands};
-ghost use Rattle.node_guarantees.proofs.Kept.{nodes_are_kept};
+ghost use Rattle.node_guarantees.proofs.Sending.{nodes_send_what_they_signed, signatures_stay};
 ghost use Rattle.node_guarantees.specs.Commanded.{told};
 ghost use Rattle.network_node.specs.Gets.{nodes_get};
 ghost use Rattle.network_node.specs.Got.{nodes_got};
@@ -65,8 +64,6 @@ impl ReportedNode for Node {
 
     ghost reported = { told };
 
-    ghost owns = { owns };
-
     fn share(&self, asset: u32) -> Result<u128, NoMemory> {
         share_known(self.alloc(), self.mind(), asset)
     }
@@ -92,7 +89,7 @@ impl ReportedNode for Node {
         all_openings_are_valid(self.commands());
     }
 
-    ghost keeps = { nodes_are_kept };
+    ghost keeps = { nodes_stand };
 
     ghost reports = { lines_are_told };
 
@@ -100,17 +97,19 @@ impl ReportedNode for Node {
 
     ghost commands = { nodes_follow_commands };
 
-    ghost goes_on = { nodes_own };
-
     ghost calls = { own_calls };
 
-    ghost gets = { nodes_get };
+    ghost sends = { nodes_send_what_they_signed };
 
-    ghost knows = { nodes_know };
+    ghost stays = { signatures_stay };
 
-    ghost got = { nodes_got };
+    ghost gets = { λ h p legal valid st. nodes_get h p legal valid st.placed };
 
-    ghost plays = { nodes_play };
+    ghost knows = { λ history p legal valid st. nodes_know history p legal valid st.placed };
 
-    ghost holds = { nodes_hold };
+    ghost got = { λ h p legal valid st. nodes_got h p legal valid st.placed };
+
+    ghost plays = { λ h p legal valid st. nodes_play h p legal valid st.placed };
+
+    ghost holds = { λ h p legal st. nodes_hold h p legal st.placed };
 }

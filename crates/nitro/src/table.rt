@@ -11,7 +11,8 @@ const AFTER_HELP: &str = "\
 Exit status: 0 done; 1 out of memory; 2 wrong arguments; 3 the script, the text or the record is refused;
 4 the input can't be read; 5 the output can't be written; 6 the input has more than 4 MiB; 7 the record
 would be past the limits of its format. Of `ledger` also: 8 the state file is in use; 9 it is damaged; 10 it is
-another program's or version's, or was moved; 11 it has fewer records than --after says.";
+another program's or version's, or was moved; 11 it has fewer records than --after says. Of a race also: 12 its
+history has no room for another entry.";
 
 const SCRIPT: &str = "A script, one JSON text; without it, or with -, standard input is read";
 

@@ -54,6 +54,7 @@ fn tell_play<R: Eprint>(rt: &R, status: Status) {
         Status::ReadFault => eprintln!(rt; "nitro: the input can't be read"),
         Status::WriteFault => eprintln!(rt; "nitro: the output can't be written"),
         Status::TooLong => eprintln!(rt; "nitro: the input has more than 4194304 bytes"),
+        Status::Full => eprintln!(rt; "nitro: the race's history has no room for another entry"),
     };
 }
 

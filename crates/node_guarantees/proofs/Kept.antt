@@ -39,7 +39,7 @@ use Rattle.node_guarantees.specs.Gains.{shares_known, or_now}
 use Rattle.node_guarantees.specs.Ways.{Numbered, made_of, key_of, seen_of, unless_lost, noting_exit, ways}
 use Rattle.node_guarantees.specs.Placed.{IsKnownAt, IsNoted, IsPlaced}
 use Rattle.node_guarantees.proofs.Following.{sees-within, sees-all, looks-so}
-use Rattle.node_guarantees.proofs.Staying.{Stays, wrote-event, handled-stays, tick-stays, told-stays}
+use Rattle.node_guarantees.proofs.Staying.{Stays, wrote-event, handled-stays, tick-stays, told-stays, saw-signer}
 
 -- ---- values are of few people
 
@@ -187,20 +187,16 @@ saw-placed : (h entries : List Entry) (p : Numbered) → Legal real h → ComeNe
     → IsPlaced h (record p { node = saw_all real entries p.node })
 saw-placed h entries p legal next kept is =
     record {
-      sound = subst FitsSigner (sym (signer-stays entries p.node)) is.sound;
+      sound = subst FitsSigner (sym (saw-signer stages real entries p.node)) is.sound;
       within = subst (λ (k : ℕ). k ≤ length h) (sym (seen-kept (saw_all real entries p.node) (lost-stays entries p.node ∙ kept))) (sees-within stages real h legal entries p.node here);
       stands = λ few.
-          subst (λ (s : SignerOf). Stands stages real (signing_of s) h (saw_all real entries p.node)) (sym (signer-stays entries p.node))
+          subst (λ (s : SignerOf). Stands stages real (signing_of s) h (saw_all real entries p.node)) (sym (saw-signer stages real entries p.node))
           (sees-all stages real h legal (signing_of p.node.signer) entries p.node few kept here (is.stands few));
-      noted = λ few still. still-noted h p (saw_all real entries p.node) (signer-stays entries p.node) (ap until_exit (events-stay entries p.node)) (is.noted few kept);
+      noted = λ few still. still-noted h p (saw_all real entries p.node) (saw-signer stages real entries p.node) (ap until_exit (events-stay entries p.node)) (is.noted few kept);
     }
   where
     here : ComeNext h entries p.node.mind.view.count
     here = subst (ComeNext h entries) (seen-kept p.node kept) next
-
-    signer-stays : (entries : List Entry) (n : NodeOf) → (saw_all real entries n).signer ≡ n.signer
-    signer-stays [] n = refl
-    signer-stays (e ∷ entries) n = signer-stays entries (saw_one real n e)
 
     events-stay : (entries : List Entry) (n : NodeOf) → told_of (saw_all real entries n) ≡ told_of n
     events-stay [] n = refl

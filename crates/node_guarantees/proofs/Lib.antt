@@ -17,4 +17,6 @@ pub mod Kept
 pub mod Answering
 pub mod Commanding
 pub mod Once
+pub mod Sending
+pub mod Sent
 pub mod Worlds

@@ -8,6 +8,7 @@ use Rattle.channel_values.specs.declared.fault.ByteFault.{ByteFault}
 use Rattle.call_history.specs.Reading.{message_of}
 use Rattle.call_history.specs.Spelling.{Message}
 use Rattle.call_history.specs.declared.call.Call.{Call}
+use Rattle.call_history.specs.declared.entry.Entry.{Entry}
 use Rattle.call_history.specs.declared.event.Deed.TheVariants as deeds
 use Rattle.call_history.specs.declared.event.Event.{Event}
 use Rattle.call_history.specs.declared.event.NodeRefusal.{NodeRefusal}
@@ -19,7 +20,7 @@ use Rattle.network.specs.declared.command.Command.TheVariants.{Open, OpenOn, Ope
 use Rattle.channel_node.specs.Giving.{in_order, after_signing, after_challenging, tick_calls, after_tick}
 use Rattle.channel_node.specs.Leaving.{OwnChallenge, challenge_in}
 use Rattle.channel_node.specs.Minds.{Mind, noted_message, commanded, commanded_if, did}
-use Rattle.channel_node.specs.Nodes.{NodeOf, told_of, handled, signed, signed_if, ticked, challenged, challenged_if, challenged_all, gave_one, gave, exited, asked, paid_if, told_to}
+use Rattle.channel_node.specs.Nodes.{NodeOf, told_of, handled, signed, signed_if, ticked, challenged, challenged_if, challenged_all, gave_one, gave, exited, asked, paid_if, told_to, saw_one, saw_all}
 use Rattle.channel_node.specs.Places.{Told, tell, told, is_commanded}
 use Rattle.channel_node.specs.Playing.{Signing}
 use Rattle.channel_node.specs.Refusing.{message_refusal, command_refusal, signs_in}
@@ -184,3 +185,16 @@ module _ (t : Tables) (r : Rules) where
       let refusal : Option NodeRefusal = command_refusal t r s.limit n.used n.mind command in
       let one : NodeOf = asked r s step command refusal n in
       and-stays n one (paid_if t r s refusal command one) (asked-stays s step command refusal n stays) (paid-stays s refusal command one)
+
+  -- its signer stays also where it is commanded to exit
+  pub told-signer : (s : Signing) (step : ℕ) (command : Command) (n : NodeOf) → (told_to t r s step command n).signer ≡ n.signer
+  told-signer s step (Open f outcome) n = (told-stays s step (Open f outcome) n refl).signer
+  told-signer s step (OpenOn o) n = (told-stays s step (OpenOn o) n refl).signer
+  told-signer s step (OpenVirtual v) n = (told-stays s step (OpenVirtual v) n refl).signer
+  told-signer s step (Pay channel asset amount) n = (told-stays s step (Pay channel asset amount) n refl).signer
+  told-signer s step (Close channel) n = (told-stays s step (Close channel) n refl).signer
+  told-signer s step Exit n = refl
+
+  pub saw-signer : (entries : List Entry) (n : NodeOf) → (saw_all r entries n).signer ≡ n.signer
+  saw-signer [] n = refl
+  saw-signer (e ∷ entries) n = saw-signer entries (saw_one r n e)

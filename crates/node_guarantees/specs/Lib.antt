@@ -13,6 +13,7 @@ pub mod Commanded
 pub mod Placed
 pub mod Once
 pub mod Challenges
+pub mod Sends
 pub mod Promised
 pub mod Endings
 pub mod Telling

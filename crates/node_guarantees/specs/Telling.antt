@@ -51,13 +51,11 @@ TellsCommands {P} ways told = (commands : ℕ → Option Command) → FollowComm
 
 -- ---- challenges
 
--- what `owns` says of a node it keeps, whatever comes to it
-abbrev pub OwnersGoOn : {P : Type 0} → Ways P → (owns : P → Type 0) → Type 0
-OwnersGoOn {P} ways owns = (commands : ℕ → Option Command) → FollowCommands ways commands owns
-
--- and then it called no challenge but one that it signed right before
-abbrev pub OwnersCallTheirOwn : {P : Type 0} → (owns : P → Type 0) → (told : P → List Told) → Type 0
-OwnersCallTheirOwn {P} owns told = (p : P) → owns p → CallsOwnChallenges (told p)
+-- a node that memory didn't fail called no challenge but one that it signed right before, as itself
+abbrev pub ChallengesAreOwn : {P : Type 0} → Ways P → (stands : List Entry → P → Type 0) → (lost : P → Bool)
+    → (told : P → List Told) → Type 0
+ChallengesAreOwn {P} ways stands lost told =
+    (h : List Entry) (p : P) → stands h p → lost p ≡ false → CallsOwnChallenges (ways.key p) (told p)
 
 -- ---- shares
 

@@ -5,7 +5,8 @@ ghost use Rattle.std.specs.Option.{option_map};
 ghost use Rattle.funding_plans.specs.Known.{FactsOf};
 ghost use Rattle.channel_node.specs.Places.{Told};
 ghost use Rattle.network.specs.Standing.{AreKept};
-ghost use Rattle.node_guarantees.specs.Telling.{AreTold, HaveFixed, LinesAreTold, TellsCommands, SharesAreReal, ExitsAreReal, FactsAreReal, OwnersGoOn, OwnersCallTheirOwn, JournalsAreByRules, KeepsShares};
+ghost use Rattle.node_guarantees.specs.Sends.{SendWhatTheySigned, SignaturesStay};
+ghost use Rattle.node_guarantees.specs.Telling.{AreTold, HaveFixed, LinesAreTold, TellsCommands, SharesAreReal, ExitsAreReal, FactsAreReal, ChallengesAreOwn, JournalsAreByRules, KeepsShares};
 
 use call_history::{HeldChain, Known};
 use channel_values::NoMemory;
@@ -26,9 +27,6 @@ pub trait ReportedNode: Party {
 
     // The events of its journal with their commands, the newest first.
     ghost reported: { Self → List Told };
-
-    // What it keeps of its challenges.
-    ghost owns: { Self → Type 0 };
 
     /// What its person can get of an asset.
     fn share(&self, asset: u32) -> Result<u128, NoMemory>
@@ -65,10 +63,13 @@ pub trait ReportedNode: Party {
 
     ghost commands: { TellsCommands Self.ways reported };
 
-    // It keeps that, whatever comes to it, and so calls no challenge but one that it signed right before.
-    ghost goes_on: { OwnersGoOn Self.ways owns };
+    // Unless memory failed it, it called no challenge but one that it signed right before, as itself.
+    ghost calls: { ChallengesAreOwn Self.ways Self.stands Self.lost reported };
 
-    ghost calls: { OwnersCallTheirOwn owns reported };
+    // What it sends its journal has signed, unless memory failed it, and what its journal signed stays there.
+    ghost sends: { SendWhatTheySigned Self.ways Self.lost reported };
+
+    ghost stays: { SignaturesStay Self.ways reported };
 
     // Where it followed the whole history, its shares are those of the definition.
     ghost gets: { SharesAreReal Self.ways Self.stands Self.lost shares reported };

@@ -46,7 +46,7 @@ use Rattle.script_steps.specs.declared.step.Step.{Step}
 use Rattle.support_rules.specs.Real.{real}
 use Rattle.node_guarantees.specs.Promised.{Pairwise, share_at_end, share_after, IsHonest, StaysSafe, FewChallengesAreCleared, SignsFairly, KeepsShare, IsPaidOnExit}
 use Rattle.node_guarantees.proofs.Once.{is_honest}
-use Rattle.node_guarantees.specs.Telling.{AreTold, HaveFixed, LinesAreTold, IsToldBy, TellsCommands, amount_then, AreThose, SharesAreReal, ExitsAreReal, FactsAreReal, OwnersGoOn, OwnersCallTheirOwn, JournalsAreByRules, KeepsIf, KeepsShares}
+use Rattle.node_guarantees.specs.Telling.{AreTold, HaveFixed, LinesAreTold, IsToldBy, TellsCommands, amount_then, AreThose, SharesAreReal, ExitsAreReal, FactsAreReal, ChallengesAreOwn, JournalsAreByRules, KeepsIf, KeepsShares}
 use Rattle.network.specs.Standing.{AreKept, IsWorld}
 use Rattle.play_report.proofs.Lines.{adds_in, lines_told, adds_fixed}
 use Rattle.play_report.proofs.Pairs.{all_reverse, in_all}
@@ -141,7 +141,7 @@ module _ {P : Type 0} (ways : Ways P) (stands : List Entry → P → Type 0) (lo
     (kept : AreKept ways stands) (tells : (p : P) → AreTold (ways.lines p) (reverse (ways.journal p))) (opens : LinesAreTold ways told)
     (gets : SharesAreReal ways stands lost shares told) (got : ExitsAreReal ways stands lost exits told) (knows : FactsAreReal ways stands lost facts told) (rules : JournalsAreByRules ways stands told) (holds : KeepsShares ways stands told)
     (command : ℕ → Option Command) (scene : SceneOf P) (world : IsWorld stands scene.world) (by : (m : MemberOf P) → In m scene.world.members → told m.node ≡ events command (journal_of ways m))
-    (called : (m : MemberOf P) → In m scene.world.members → CallsOwnChallenges (told m.node))
+    (owns : ChallengesAreOwn ways stands lost told)
     (load : Option Load) (r : Report) (made : IsMade ways lost shares exits facts load r scene) where
   abbrev past : List Entry
   past = newest_first r.history
@@ -302,6 +302,9 @@ module _ {P : Type 0} (ways : Ways P) (stands : List Entry → P → Type 0) (lo
       paid-if : Premised command r IsPaidOnExit (journal_of ways m) p
       paid-if a b = turned (λ (xs : List Told). IsPaidOnExit past key xs) (λ apart. keeps.paid values (unforged a) (none-collide apart) (early b))
 
+    called : CallsOwnChallenges key (events command (journal_of ways m))
+    called = subst (CallsOwnChallenges key) (by m there) (owns past m.node (stood m there) (followed m there).able)
+
     honest-all : IsHonest past key (events command (journal_of ways m))
     honest-all = subst (IsHonest past key) (by m there) (is_honest past key own honest (rules past m.node legal valid (stood m there)))
 
@@ -322,7 +325,7 @@ module _ {P : Type 0} (ways : Ways P) (stands : List Entry → P → Type 0) (lo
   promises = record {
     honest = λ j i. let f = from j i in subst (λ (k : Journal). IsHonest past k.key (events command k)) (sym f.is) (honest-all f.member f.there);
     challenges = λ j i. let f = from j i in
-        subst (λ (k : Journal). CallsOwnChallenges (events command k)) (sym f.is) (subst CallsOwnChallenges (by f.member f.there) (called f.member f.there));
+        subst (λ (k : Journal). CallsOwnChallenges k.key (events command k)) (sym f.is) (called f.member f.there);
     safe = pairs (IsSafeIf command r) safe-if;
     few = pairs (ClearsFewIf command r) few-if;
     fair = pairs (IsFairIf command r) fair-if;
@@ -348,13 +351,12 @@ module _ {P : Type 0} (ways : Ways P) (stands : List Entry → P → Type 0) (lo
 pub is_played : {P : Type 0} (ways : Ways P) (stands : List Entry → P → Type 0) (lost : P → Bool) (shares : P → ℕ → ℕ) (exits : P → Option (List (ℕ × ℕ))) (facts : P → FactsOf) (told : P → List Told)
     → AreKept ways stands → ((p : P) → AreTold (ways.lines p) (reverse (ways.journal p))) → LinesAreTold ways told → TellsCommands ways told
     → SharesAreReal ways stands lost shares told → ExitsAreReal ways stands lost exits told → FactsAreReal ways stands lost facts told → JournalsAreByRules ways stands told → KeepsShares ways stands told
-    → (owns : P → Type 0) → OwnersGoOn ways owns → OwnersCallTheirOwn owns told
+    → ChallengesAreOwn ways stands lost told
     → (steps : List Step) → All Fits steps → (load : Option Load) (r : Report) → IsMade ways lost shares exits facts load r (play ways steps) → IsPlayed ways load r steps
-is_played {P} ways stands lost shares exits facts told kept tells opens commands gets got knows rules holds owns going calls steps fit load r made =
+is_played {P} ways stands lost shares exits facts told kept tells opens commands gets got knows rules holds owns steps fit load r made =
     let world : IsWorld stands (play ways steps).world = (plays_are_kept ways stands kept).worlds steps fit in
     let by = plays_follow_commands ways (IsToldBy ways told) commands steps fit in
-    let own = plays_follow_commands ways (λ c. owns) going steps fit in
-    let called = λ (m : MemberOf P) (i : In m (play ways steps).world.members). calls m.node (own m i) in record {
-      tells = tells_scene ways stands lost shares exits facts told kept tells opens gets got knows rules holds (command_of steps) (play ways steps) world by called load r made;
-      keeps = promises ways stands lost shares exits facts told kept tells opens gets got knows rules holds (command_of steps) (play ways steps) world by called load r made;
+    record {
+      tells = tells_scene ways stands lost shares exits facts told kept tells opens gets got knows rules holds (command_of steps) (play ways steps) world by owns load r made;
+      keeps = promises ways stands lost shares exits facts told kept tells opens gets got knows rules holds (command_of steps) (play ways steps) world by owns load r made;
     }

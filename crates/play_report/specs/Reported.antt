@@ -122,11 +122,12 @@ module _ (commands : ℕ → Option Command) where
     Premised Promise j p = p.unforged ≡ true → p.in_time ≡ true → NoCollision j → Promise (newest_first r.history) j.key (events j)
 
     -- Each person with a node has an honest journal over the whole history, which signs with no index of its key twice, and
-    -- it called no challenge but one that it signed right before. Where its premises are told to hold it is safe, few of its challenges are cleared, its own signatures are fair, a checker finds no fault in how it ended, nobody lowers its share and it can leave with it; and
-    -- what is told of its exit is paid to it.
+    -- it called no challenge but one that it signed right before, as itself. Where its premises are told to hold it is safe,
+    -- few of its challenges are cleared, its own signatures are fair, a checker finds no fault in how it ended, nobody lowers
+    -- its share and it can leave with it; and what is told of its exit is paid to it.
     pub record Promises : Type 0 where
       pub honest : (j : Journal) → In j r.journals → IsHonest (newest_first r.history) j.key (events j)
-      pub challenges : (j : Journal) → In j r.journals → CallsOwnChallenges (events j)
+      pub challenges : (j : Journal) → In j r.journals → CallsOwnChallenges j.key (events j)
       pub safe : Pairwise IsSafeIf r.journals r.premises
       pub few : Pairwise ClearsFewIf r.journals r.premises
       pub fair : Pairwise IsFairIf r.journals r.premises

@@ -30,8 +30,7 @@ use Rattle.script_steps.specs.Bounds.{Fits}
 use Rattle.script_steps.specs.Conditions.{runs_in_race}
 use Rattle.script_steps.specs.declared.step.Step.{Step}
 use Rattle.support_rules.specs.Real.{real}
-use Rattle.node_guarantees.specs.Challenges.{CallsOwnChallenges}
-use Rattle.node_guarantees.specs.Telling.{AreTold, HaveFixed, LinesAreTold, IsToldBy, TellsCommands, SharesAreReal, ExitsAreReal, FactsAreReal, OwnersGoOn, OwnersCallTheirOwn, JournalsAreByRules, KeepsShares}
+use Rattle.node_guarantees.specs.Telling.{AreTold, HaveFixed, LinesAreTold, IsToldBy, TellsCommands, SharesAreReal, ExitsAreReal, FactsAreReal, ChallengesAreOwn, JournalsAreByRules, KeepsShares}
 use Rattle.network.specs.Standing.{AreKept, Follows, IsWorld}
 use Rattle.script_race.proofs.Followed.{races_follow_commands}
 use Rattle.script_race.proofs.LastingChannels.{opens_lasting}
@@ -61,16 +60,16 @@ race_is_legal ways stands lost s h past racing seen is =
 pub is_of_race : {P : Type 0} (ways : Ways P) (stands : List Entry → P → Type 0) (lost : P → Bool) (shares : P → ℕ → ℕ) (exits : P → Option (List (ℕ × ℕ))) (facts : P → FactsOf) (told : P → List Told)
     → AreKept ways stands → ((p : P) → AreTold (ways.lines p) (reverse (ways.journal p))) → LinesAreTold ways told → TellsCommands ways told
     → SharesAreReal ways stands lost shares told → ExitsAreReal ways stands lost exits told → FactsAreReal ways stands lost facts told → JournalsAreByRules ways stands told → KeepsShares ways stands told
-    → (owns : P → Type 0) → OwnersGoOn ways owns → OwnersCallTheirOwn owns told
+    → ChallengesAreOwn ways stands lost told
     → RacersAreInTime ways stands
     → (steps : List Step) → All Fits steps → All (λ (step : Step). runs_in_race step ≡ true) steps → (cast : List Player) (t : RaceOf P) (r : Report)
     → IsRaceOf ways steps cast t → IsRacing ways stands lost (stage_of t) → IsMade ways lost shares exits facts None r t.scene → IsOfRace ways cast r steps
-is_of_race {P} ways stands lost shares exits facts told kept tells opens commands gets got knows rules holds owns going calls timely steps fit may cast t r races racing made = record {
+is_of_race {P} ways stands lost shares exits facts told kept tells opens commands gets got knows rules holds owns timely steps fit may cast t r races racing made = record {
   race = t;
   races = races;
-  tells = tells_scene ways stands lost shares exits facts told kept tells opens gets got knows rules holds (command_of steps) t.scene world by own None r made;
-  keeps = promises ways stands lost shares exits facts told kept tells opens gets got knows rules holds (command_of steps) t.scene world by own None r made;
-  in_time = all_in_time ways stands lost shares exits facts told kept tells opens gets got knows rules holds (command_of steps) t.scene world by own None r made early;
+  tells = tells_scene ways stands lost shares exits facts told kept tells opens gets got knows rules holds (command_of steps) t.scene world by owns None r made;
+  keeps = promises ways stands lost shares exits facts told kept tells opens gets got knows rules holds (command_of steps) t.scene world by owns None r made;
+  in_time = all_in_time ways stands lost shares exits facts told kept tells opens gets got knows rules holds (command_of steps) t.scene world by owns None r made early;
 }
   where
     world : IsWorld stands t.scene.world
@@ -78,9 +77,6 @@ is_of_race {P} ways stands lost shares exits facts told kept tells opens command
 
     by : (m : MemberOf P) → In m t.scene.world.members → told m.node ≡ events (command_of steps) (journal_of ways m)
     by = races_follow_commands ways (IsToldBy ways told) commands steps cast t fit races
-
-    own : (m : MemberOf P) → In m t.scene.world.members → CallsOwnChallenges (told m.node)
-    own m i = calls m.node (races_follow_commands ways (λ c. owns) going steps cast t fit races m i)
 
     past : List Entry
     past = newest_first r.history

@@ -19,7 +19,7 @@ use Rattle.command_words.specs.declared.asking.Asked.{Asked}
 use Rattle.command_words.specs.declared.asking.Asked.TheVariants.{Run, Race, Load}
 use Rattle.load.specs.Load.{load_steps}
 use Rattle.script_run.specs.declared.run.Status.{Status}
-use Rattle.script_run.specs.declared.run.Status.TheVariants.{Done, NoMemory, Usage, Script, ReadFault, WriteFault, TooLong}
+use Rattle.script_run.specs.declared.run.Status.TheVariants.{Done, NoMemory, Usage, Script, ReadFault, WriteFault, TooLong, Full}
 use Rattle.byte_streams.proofs.Known.{all_taken, no_more_taken}
 
 -- ---- what words and bytes come to
@@ -118,6 +118,8 @@ module _ {P : Type 0} (ways : Ways P) (cast : List Player) where
         inl (record { long = omega (arith, most, takes.2); status = refl; report = refl }),
       )
   fate words bytes g TooLong (Some r) calm e = absurd e
+  fate words bytes g Full None calm e = (Some Race, ap wanted (sym calm.words_are) ∙ e.0, tt)
+  fate words bytes g Full (Some r) calm e = absurd e
 
   one_report_of : (load : Option Note) (r q : Report) (steps : List Step) → IsPlayed ways load r steps → IsPlayed ways load q steps → r ≡ q
   one_report_of load r q steps a b = one_report (command_of steps) ways load r q (play ways steps) a.tells b.tells

@@ -1,5 +1,5 @@
--- A sound script ends as done, in a run and in a race, and so does a load.
-use Rattle.std.proofs.Common.{◌≡◌, ℕ, ◌<◌, Bool, true, false, List, length, Option, Some, None, refl, arith, subst}
+-- A sound script ends as done, in a run and in a race whose history isn't full, and so does a load.
+use Rattle.std.proofs.Common.{◌≡◌, ◌⊎◌, inl, inr, ℕ, ◌<◌, Bool, true, false, List, length, Option, Some, None, refl, arith, subst}
 use Rattle.std.specs.Prelude.{IfSome}
 use Rattle.script_reader.specs.Script.{Breaks}
 use Rattle.script_reader.specs.step.Rule.{Rule}
@@ -7,9 +7,9 @@ use Rattle.script_reader.proofs.OneReading.{script_breaks_none}
 use Rattle.byte_streams.specs.OutsideSource.{Rose}
 use Rattle.byte_streams.proofs.Known.{all_taken, no_more_taken}
 use Rattle.network_rounds.specs.Players.{Player}
-use Rattle.script_run.specs.Run.{Given, wanted, play, Plays, Takes, Reads, TellsScript, HasScript, IsRunnable, IsToldOf, EndsAs}
+use Rattle.script_run.specs.Run.{Given, wanted, play, Plays, Takes, Reads, TellsScript, HasScript, IsRunnable, IsFullRace, IsToldOf, EndsAs}
 use Rattle.script_run.specs.declared.run.Status.{Status}
-use Rattle.script_run.specs.declared.run.Status.TheVariants.{Done, NoMemory, Usage, Script, ReadFault, WriteFault, TooLong}
+use Rattle.script_run.specs.declared.run.Status.TheVariants.{Done, NoMemory, Usage, Script, ReadFault, WriteFault, TooLong, Full}
 use Rattle.command_words.specs.declared.asking.Asked.{Asked}
 use Rattle.report_text.specs.declared.report.Report.{Report}
 use Rattle.network.specs.Ways.{Ways}
@@ -44,8 +44,9 @@ not_long g a (race, asks, takes) some s =
 none_or_some : {A : Type 0} (o : Option A) (x : A) → o ≡ None → o ≡ Some x → ⊥
 none_or_some o x a b = cc
 
-pub completes : {P : Type 0} (ways : Ways P) (cast : List Player) (g : Given) (status : Status) (report : Option Report) → EndsAs ways cast g status report → IsRunnable g → status ≡ Done
-completes ways cast g Done report e s = refl
+pub completes : {P : Type 0} (ways : Ways P) (cast : List Player) (g : Given) (status : Status) (report : Option Report) → EndsAs ways cast g status report → IsRunnable g
+    → (status ≡ Done) ⊎ IsFullRace g status
+completes ways cast g Done report e s = inl refl
 completes ways cast g NoMemory report e s = absurd e
 completes ways cast g Usage None e s = absurd (none_or_some (wanted g.words) s.0 e.0 s.1)
 completes ways cast g Usage (Some r) e s = absurd e
@@ -56,6 +57,8 @@ completes ways cast g ReadFault (Some r) e s = absurd e
 completes ways cast g WriteFault report e s = absurd e
 completes ways cast g TooLong None e s = absurd (not_long g s.0 e s.1 s.2)
 completes ways cast g TooLong (Some r) e s = absurd e
+completes ways cast g Full None e s = inr (refl, e.0)
+completes ways cast g Full (Some r) e s = absurd e
 
 -- a report comes with an end alone that shows it
 pub is_told : {P : Type 0} (ways : Ways P) (cast : List Player) (g : Given) (status : Status) (report : Option Report) → EndsAs ways cast g status report → IfSome report (IsToldOf ways cast g)
@@ -73,3 +76,5 @@ is_told ways cast g WriteFault (Some r) e = absurd e
 is_told ways cast g WriteFault None e = tt
 is_told ways cast g TooLong (Some r) e = absurd e
 is_told ways cast g TooLong None e = tt
+is_told ways cast g Full (Some r) e = absurd e
+is_told ways cast g Full None e = tt

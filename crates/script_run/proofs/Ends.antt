@@ -12,7 +12,7 @@ use Rattle.script_reader.specs.step.Rule.{Rule}
 use Rattle.script_reader.specs.step.Step.{Step}
 use Rattle.script_run.specs.Run.{Given, Takes, wanted, EndsAs}
 use Rattle.script_run.specs.declared.run.Ended.{Ended}
-use Rattle.script_run.specs.declared.run.Status.TheVariants.{Done, Script, ReadFault, TooLong}
+use Rattle.script_run.specs.declared.run.Status.TheVariants.{Done, Script, ReadFault, TooLong, Full}
 use Rattle.command_words.specs.declared.asking.Asked.TheVariants.{Run, Race}
 
 module _ {P : Type 0} (ways : Ways P) (cast : List Player) (g : Given) (bytes : List ℕ) (taken : Consumes g.before g.after bytes) (done : IsAtEnd g.after)
@@ -33,6 +33,14 @@ module _ {P : Type 0} (ways : Ways P) (cast : List Player) (g : Given) (bytes : 
 
   pub plays_in_race : wanted g.words ≡ Some Race → (steps : List Step) (r : Report) → IsScript true bytes steps → IsOfRace ways cast r steps → EndsAs ways cast g Done (Some r)
   plays_in_race asks steps r script raced = (Race, asks, (bytes, taken, done, short, (steps, script, raced)))
+
+  pub full_in_race : wanted g.words ≡ Some Race → (steps : List Step) → IsScript true bytes steps → EndsAs ways cast g Full None
+  full_in_race asks steps script = (asks, (bytes, taken, done, short, (steps, script)))
+
+  -- so of what is answered
+  pub full_race : wanted g.words ≡ Some Race → (steps : List Step) (e : Ended) → e ≡ record { status = Full; report = None } → IsScript true bytes steps
+      → EndsAs ways cast g e.status e.report
+  full_race asks steps e is script = subst (λ (x : Ended). EndsAs ways cast g x.status x.report) (sym is) (full_in_race asks steps script)
 
 module _ {P : Type 0} (ways : Ways P) (cast : List Player) (g : Given) where
   pub fails_in_run : wanted g.words ≡ Some Run → Takes g (λ bytes. length bytes ≤ 4194304) → Rose g.faults_before g.faults_after → EndsAs ways cast g ReadFault None

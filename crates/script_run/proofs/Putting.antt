@@ -1,5 +1,5 @@
 -- What is true of a run once what its end owes was put whole, in part, or not at all.
-use Rattle.std.proofs.Common.{◌≡◌, inl, inr, ℕ, List, Option, Some, None, Result, Ok, refl, subst}
+use Rattle.std.proofs.Common.{◌≡◌, ◌⊎◌, inl, inr, ℕ, List, Option, Some, None, Result, Ok, refl, subst}
 use Rattle.std.specs.Prelude.{◌≢◌, IfOk, IfSome}
 use Rattle.std.specs.Io.KnownBytes.{Keeps, Appends}
 use Rattle.byte_streams.specs.OutsideSink.{AppendsPart}
@@ -16,10 +16,10 @@ use Rattle.script_run.proofs.Completes.{completes, is_told}
 use Rattle.script_run.proofs.Told as parts
 use Rattle.script_run.specs.Laws.{IsLegalIn, PaysItsLoad}
 use Rattle.script_run.specs.Promises.{Sunk, sunk, IsRun, IsRecording}
-use Rattle.script_run.specs.Run.{Given, given, EndsAs, IsToldOf, owed}
+use Rattle.script_run.specs.Run.{Given, given, IsFullRace, EndsAs, IsToldOf, owed}
 use Rattle.script_run.specs.declared.run.Ended.{Ended}
 use Rattle.script_run.specs.declared.run.Status.{Status}
-use Rattle.script_run.specs.declared.run.Status.TheVariants.{NoMemory, WriteFault}
+use Rattle.script_run.specs.declared.run.Status.TheVariants.{Done, NoMemory, WriteFault}
 use Rattle.script_run.specs.declared.status.Status.{Status as Recorded}
 
 -- what holds of a result holds of its value
@@ -49,7 +49,7 @@ module _ {P : Type 0} (ways : Ways P) (cast : List Player) (g : Given) (k : Sunk
         keeps = tt;
         tells = tt;
         pays = tt;
-        complete = λ _ _. inr refl;
+        complete = λ _ _. inr (inl refl);
       }
 
   module _ (status : Status) (report : Option Report) (ends : EndsAs ways cast g status report) (legal : IfSome report IsLegalIn)
@@ -59,6 +59,10 @@ module _ {P : Type 0} (ways : Ways P) (cast : List Player) (g : Given) (k : Sunk
 
     no_end : (s : Status) → status ≡ s → EndsAs ways cast g s report
     no_end s same = subst (λ (x : Status). EndsAs ways cast g x report) same ends
+
+    either : (status ≡ Done) ⊎ IsFullRace g status → (status ≡ Done) ⊎ ((status ≡ NoMemory) ⊎ IsFullRace g status)
+    either (inl done) = inl done
+    either (inr full) = inr (inr full)
 
     pub all_put : Appends k.before k.after (owed status report) → IsRun ways cast g k status report
     all_put appends =
@@ -72,7 +76,7 @@ module _ {P : Type 0} (ways : Ways P) (cast : List Player) (g : Given) (k : Sunk
           keeps = parts.keeps ways cast g report told;
           tells = parts.tells ways cast g report told;
           pays = pays;
-          complete = λ runnable _. inl (completes ways cast g status report ends runnable);
+          complete = λ runnable _. either (completes ways cast g status report ends runnable);
         }
 
     pub part_put : Rose k.faults_before k.faults_after → AppendsPart k.before k.after (owed status report) → IsRun ways cast g k WriteFault report

@@ -17,7 +17,7 @@ use Rattle.network_rounds.specs.Players.{Player}
 use Rattle.script_run.specs.Run.{Given, IsUnread, playable, wanted, owed}
 use Rattle.script_run.specs.Run as runs
 use Rattle.script_run.specs.declared.run.Status.{Status as RanAs}
-use Rattle.script_run.specs.declared.run.Status.TheVariants.{Done, NoMemory, Usage, Script, ReadFault, WriteFault, TooLong}
+use Rattle.script_run.specs.declared.run.Status.TheVariants.{Done, NoMemory, Usage, Script, ReadFault, WriteFault, TooLong, Full}
 use Rattle.support_rules.specs.Real.{real}
 use Rattle.command_words.specs.declared.asking.Asked.TheVariants.{Run, Race, Load}
 
@@ -85,6 +85,7 @@ module _ {P : Type 0} (ways : Ways P) (cast : List Player) where
   is_done g ReadFault r e = absurd e
   is_done g WriteFault r e = absurd e
   is_done g TooLong r e = absurd e
+  is_done g Full r e = absurd e
 
   pub played_end : (g : Given) (words : List (List ℕ)) (s : RanAs) (o : Option Report) (r : Report) → asked_of g.words ≡ Some words → o ≡ Some r
       → runs.EndsAs ways cast (record g { words = words }) s o → RunEnds ways cast g Done (Some r)
@@ -103,6 +104,7 @@ module _ {P : Type 0} (ways : Ways P) (cast : List Player) where
   lined_as g words ReadFault asked e = ((words, asked, e), refl)
   lined_as g words WriteFault asked e = absurd e
   lined_as g words TooLong asked e = ((words, asked, e), refl)
+  lined_as g words Full asked e = ((words, asked, e), refl)
 
   pub lined_end : (g : Given) (words : List (List ℕ)) (s : RanAs) (bytes : List ℕ) → asked_of g.words ≡ Some words
       → runs.EndsAs ways cast (record g { words = words }) s None → bytes ≡ owed s None → EndsAs ways cast g (Ran s) bytes

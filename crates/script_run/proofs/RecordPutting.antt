@@ -7,7 +7,7 @@ use Rattle.network.specs.Ways.{Ways}
 use Rattle.network_rounds.specs.Players.{Player}
 use Rattle.script_run.proofs.RecordCompletes.{completes}
 use Rattle.script_run.specs.Promises.{Sunk, IsRecording}
-use Rattle.script_run.specs.Recording.{EndsAs}
+use Rattle.script_run.specs.Recording.{IsFullRace, EndsAs}
 use Rattle.script_run.specs.Run.{Given}
 use Rattle.script_run.specs.declared.run.Status.TheVariants.{Done, NoMemory, WriteFault}
 use Rattle.script_run.specs.declared.status.Status.{Status}
@@ -26,16 +26,18 @@ module _ {P : Type 0} (ways : Ways P) (cast : List Player) (g : Given) (k : Sunk
         ended = λ not _. absurd (not refl);
         write_fault = λ same. absurd (no_fault same);
         no_memory = λ _. untouched;
-        complete = λ _ _. inr (inr refl);
+        complete = λ _ _. inr (inr (inl refl));
       }
 
   module _ (status : Status) (bytes : List ℕ) (ends : EndsAs ways cast g status bytes) where
     no_end : (s : Status) → status ≡ s → EndsAs ways cast g s bytes
     no_end s same = subst (λ (x : Status). EndsAs ways cast g x bytes) same ends
 
-    either : (status ≡ Ran Done) ⊎ (status ≡ PastLimits) → (status ≡ Ran Done) ⊎ ((status ≡ PastLimits) ⊎ (status ≡ Ran NoMemory))
+    either : (status ≡ Ran Done) ⊎ ((status ≡ PastLimits) ⊎ IsFullRace g status)
+        → (status ≡ Ran Done) ⊎ ((status ≡ PastLimits) ⊎ ((status ≡ Ran NoMemory) ⊎ IsFullRace g status))
     either (inl done) = inl done
-    either (inr past) = inr (inl past)
+    either (inr (inl past)) = inr (inl past)
+    either (inr (inr full)) = inr (inr (inr full))
 
     pub all_put : Appends k.before k.after bytes → IsRecording ways cast g k status
     all_put appends =

@@ -8,7 +8,7 @@ use Rattle.network.specs.Ways.{Ways}
 use Rattle.play_report.specs.Reported.{IsPlayed}
 use Rattle.report_text.specs.declared.report.Report.{Report}
 use Rattle.script_run.specs.declared.run.Status.{Status}
-use Rattle.script_run.specs.declared.run.Status.TheVariants.{Done, NoMemory, Usage, Script, ReadFault, WriteFault, TooLong}
+use Rattle.script_run.specs.declared.run.Status.TheVariants.{Done, NoMemory, Usage, Script, ReadFault, WriteFault, TooLong, Full}
 use Rattle.script_reader.specs.step.Step.{Step}
 
 -- ---- what is wanted of what is asked for
@@ -45,6 +45,7 @@ module _ {P : Type 0} (ways : Ways P) where
   ends_as words ReadFault report text e = absurd e
   ends_as words WriteFault report text e = absurd e
   ends_as words TooLong report text e = absurd e
+  ends_as words Full report text e = absurd e
 
   -- a report comes with an end alone that shows it
   pub is_told : (words : List (List ℕ)) (status : Status) (report : Option Report) (text : List ℕ) → EndsAs ways words status report text → IfSome report (IsToldOf ways words)
@@ -62,3 +63,5 @@ module _ {P : Type 0} (ways : Ways P) where
   is_told words WriteFault None text e = tt
   is_told words TooLong (Some report) text e = absurd e
   is_told words TooLong None text e = tt
+  is_told words Full (Some report) text e = absurd e
+  is_told words Full None text e = tt

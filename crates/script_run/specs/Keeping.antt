@@ -24,8 +24,8 @@ module _ (commands : ℕ → Option Command) (r : Report) where
         → Honest real j.key (newest_first r.history) (lines_of j.key (events commands j))
     -- it signs with no index of its key twice
     pub once : (j : Journal) → In j r.journals → SignsOnce real (events commands j)
-    -- it called no challenge but one that it signed right before
-    pub challenges : (j : Journal) → In j r.journals → CallsOwnChallenges (events commands j)
+    -- it called no challenge but one that it signed right before, as itself
+    pub challenges : (j : Journal) → In j r.journals → CallsOwnChallenges j.key (events commands j)
     -- no channel of the person becomes final with an outcome older than its newest supported state
     pub safe : Pairwise (IsSafeIf commands r) r.journals r.premises
     -- few of its challenges are cleared

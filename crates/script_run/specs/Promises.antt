@@ -17,7 +17,7 @@ use Rattle.support_rules.specs.Real.{real}
 use Rattle.script_run.specs.Keeping.{Keeps}
 use Rattle.script_run.specs.Laws.{PaysItsLoad}
 use Rattle.script_run.specs.Telling.{TellsOf, TellsPlay}
-use Rattle.script_run.specs.Run.{Given, IsRunnable, owed}
+use Rattle.script_run.specs.Run.{Given, IsRunnable, IsFullRace, owed}
 use Rattle.script_run.specs.Run as runs
 use Rattle.script_run.specs.Recording as recordings
 use Rattle.script_run.specs.Routes as routes
@@ -74,8 +74,9 @@ module _ {P : Type 0} (ways : Ways P) where
     -- what they have after its payments, and no channel holds anything; no command was refused, and the shares that
     -- are told are what was paid.
     pub pays : IfSome report PaysItsLoad
-    -- A sound script runs to its end, and so does a load, unless memory runs out.
-    pub complete : IsRunnable g → ¬ (Rose k.faults_before k.faults_after) → (status ≡ Done) ⊎ (status ≡ NoMemory)
+    -- A sound script runs to its end, and so does a load, unless memory runs out, or a race's history is full.
+    pub complete : IsRunnable g → ¬ (Rose k.faults_before k.faults_after)
+        → (status ≡ Done) ⊎ ((status ≡ NoMemory) ⊎ IsFullRace g status)
 
   -- What `run_record` promises of how it ended.
   pub record IsRecording (cast : List Player) (g : Given) (k : Sunk) (status : Recorded) : Type 0 where
@@ -90,10 +91,10 @@ module _ {P : Type 0} (ways : Ways P) where
         × AppendsPart k.before k.after bytes)
     -- Out of memory nothing was put.
     pub no_memory : status ≡ Ran NoMemory → Untouched k.before k.after
-    -- A sound script is played and its record put, unless it is past the format's limits or memory runs out, where
-    -- neither source nor sink fails.
+    -- A sound script is played and its record put, unless it is past the format's limits, memory runs out or a race's
+    -- history is full, where neither source nor sink fails.
     pub complete : recordings.IsRecordable g → ¬ (Rose k.faults_before k.faults_after)
-        → (status ≡ Ran Done) ⊎ (status ≡ PastLimits) ⊎ (status ≡ Ran NoMemory)
+        → (status ≡ Ran Done) ⊎ (status ≡ PastLimits) ⊎ (status ≡ Ran NoMemory) ⊎ recordings.IsFullRace g status
 
   -- What `run_route` promises of how it ended, and of its report.
   pub record IsRoute (words : List (List ℕ)) (k : Sunk) (status : Status) (report : Option Report) : Type 0 where

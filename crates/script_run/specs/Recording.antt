@@ -22,7 +22,7 @@ use Rattle.script_steps.specs.declared.step.Step.{Step}
 use Rattle.script_run.specs.Run.{Given, IsUnread}
 use Rattle.script_run.specs.Run as runs
 use Rattle.script_run.specs.declared.run.Status.{Status as RanAs}
-use Rattle.script_run.specs.declared.run.Status.TheVariants.{Done, NoMemory, Usage, Script, ReadFault, WriteFault, TooLong}
+use Rattle.script_run.specs.declared.run.Status.TheVariants.{Done, NoMemory, Usage, Script, ReadFault, WriteFault, TooLong, Full}
 
 -- the number of a status
 abbrev pub code_of : Status → ℕ
@@ -41,6 +41,10 @@ asked_of (word ∷ rest) = if bytes_eq word (codes "record") && is_play rest the
 -- the words ask for the record of a race
 abbrev pub AsksForRace : List (List ℕ) → Type 0
 AsksForRace given = (words : List (List ℕ)) × (asked_of given ≡ Some words) × (runs.wanted words ≡ Some Race)
+
+-- a recording of a race ends so where the history has no room for another entry
+abbrev pub IsFullRace : Given → Status → Type 0
+IsFullRace g status = (status ≡ Ran Full) × AsksForRace g.words
 
 module _ {P : Type 0} (ways : Ways P) (cast : List Player) where
   -- the words ask for a record, and a run of the rest of them comes to this end with this report
@@ -69,6 +73,7 @@ module _ {P : Type 0} (ways : Ways P) (cast : List Player) where
   EndsAs g (Ran (Script step rule)) bytes = RunEnds g (Script step rule) None × (bytes ≡ runs.owed (Script step rule) None)
   EndsAs g (Ran ReadFault) bytes = RunEnds g ReadFault None × (bytes ≡ runs.owed ReadFault None)
   EndsAs g (Ran TooLong) bytes = RunEnds g TooLong None × (bytes ≡ runs.owed TooLong None)
+  EndsAs g (Ran Full) bytes = RunEnds g Full None × (bytes ≡ runs.owed Full None)
   -- no other end
   EndsAs g (Ran NoMemory) bytes = ⊥
   EndsAs g (Ran WriteFault) bytes = ⊥

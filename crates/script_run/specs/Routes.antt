@@ -11,7 +11,7 @@ use Rattle.report_text.specs.Report.{tail_of}
 use Rattle.report_text.specs.Text.{◌&◌, ended}
 use Rattle.report_text.specs.declared.report.Report.{Report}
 use Rattle.script_run.specs.declared.run.Status.{Status}
-use Rattle.script_run.specs.declared.run.Status.TheVariants.{Done, NoMemory, Usage, Script, ReadFault, WriteFault, TooLong}
+use Rattle.script_run.specs.declared.run.Status.TheVariants.{Done, NoMemory, Usage, Script, ReadFault, WriteFault, TooLong, Full}
 
 -- ---- what words ask for
 
@@ -93,3 +93,4 @@ module _ {P : Type 0} (ways : Ways P) (words : List (List ℕ)) where
   EndsAs ReadFault report text = ⊥
   EndsAs WriteFault report text = ⊥
   EndsAs TooLong report text = ⊥
+  EndsAs Full report text = ⊥

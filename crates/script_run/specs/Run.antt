@@ -17,7 +17,7 @@ use Rattle.report_text.specs.declared.report.Load.{Load as Note}
 use Rattle.report_text.specs.declared.report.Report.{Report}
 use Rattle.network_rounds.specs.Players.{Player}
 use Rattle.script_run.specs.declared.run.Status.{Status}
-use Rattle.script_run.specs.declared.run.Status.TheVariants.{Done, NoMemory, Usage, Script, ReadFault, WriteFault, TooLong}
+use Rattle.script_run.specs.declared.run.Status.TheVariants.{Done, NoMemory, Usage, Script, ReadFault, WriteFault, TooLong, Full}
 use Rattle.command_words.specs.Words.{asked}
 use Rattle.command_words.specs.declared.asking.Asked.{Asked}
 use Rattle.command_words.specs.declared.asking.Asked.TheVariants.{Run, Race, Load}
@@ -44,6 +44,7 @@ code_of (Script step rule) = 3
 code_of ReadFault = 4
 code_of WriteFault = 5
 code_of TooLong = 6
+code_of Full = 12
 
 -- a load whose two people would have one name is none
 abbrev pub playable : Option Asked → Option Asked
@@ -92,6 +93,14 @@ module _ (AsPlay : Option Note → List Step → Type 0) (AsRace : List Step →
   Comes g Race = Reads g (λ bytes. (steps : List Step) × IsScript true bytes steps × AsRace steps)
   Comes g (Load seed count) = IsUnread g × AsPlay (Some (made_from seed count)) (load_steps seed count)
 
+-- the words ask for a race, and its script was read
+abbrev pub ReadsRace : Given → Type 0
+ReadsRace g = (wanted g.words ≡ Some Race) × Reads g (λ bytes. (steps : List Step) × IsScript true bytes steps)
+
+-- a race ends so where its history has no room for another entry
+abbrev pub IsFullRace : Given → Status → Type 0
+IsFullRace g status = (status ≡ Full) × (wanted g.words ≡ Some Race)
+
 -- Of these nodes, and of the actors that a race has beside them.
 module _ {P : Type 0} (ways : Ways P) (cast : List Player) where
   -- the words ask for what comes to this report, which describes its play and keeps the promises of one
@@ -105,6 +114,7 @@ module _ {P : Type 0} (ways : Ways P) (cast : List Player) where
   EndsAs g (Script step rule) None = Plays g (λ race. Reads g (Breaks race step rule))
   EndsAs g ReadFault None = Plays g (λ race. Takes g (λ bytes. length bytes ≤ 4194304) × Rose g.faults_before g.faults_after)
   EndsAs g TooLong None = Plays g (λ race. Takes g (λ bytes. 4194304 < length bytes))
+  EndsAs g Full None = ReadsRace g
   -- no other end, and no other report
   EndsAs g Done None = ⊥
   EndsAs g NoMemory report = ⊥
@@ -113,6 +123,7 @@ module _ {P : Type 0} (ways : Ways P) (cast : List Player) where
   EndsAs g ReadFault (Some report) = ⊥
   EndsAs g WriteFault report = ⊥
   EndsAs g TooLong (Some report) = ⊥
+  EndsAs g Full (Some report) = ⊥
 
   -- they come to the same end, with the same report
   abbrev pub EndsAlike : Given → Given → Type 0
@@ -140,6 +151,7 @@ owed (Script step rule) report = codes "script" & decimal step & ended (rule_tex
 owed ReadFault report = ended (codes "read fault")
 owed WriteFault report = []
 owed TooLong report = ended (codes "too long")
+owed Full report = ended (codes "full")
 
 -- the source gives a script for a run or a race that is short enough, and doesn't fail
 pub record TellsScript (race : Bool) (g : Given) : Type 0 where

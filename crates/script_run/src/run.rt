@@ -22,7 +22,7 @@ use channel_values::{Label, NoMemory};
 use command_words::{Asked, asked};
 use load::{LoadFault, load_script};
 use network_node::Node;
-use network_rounds::Cast;
+use network_rounds::{Cast, RoundFault};
 use node_guarantees::ReportedNode;
 use play_report::report_play;
 use report_text::{Load, Report, text_of};
@@ -44,6 +44,8 @@ pub enum Status {
     ReadFault,
     WriteFault,
     TooLong,
+    /// The history of a race has no room for another entry.
+    Full,
 }
 
 impl Status {
@@ -59,6 +61,7 @@ impl Status {
             Status::ReadFault => 4,
             Status::WriteFault => 5,
             Status::TooLong => 6,
+            Status::Full => 12,
         }
     }
 }
@@ -101,8 +104,8 @@ fn run_script<P: ReportedNode>(alloc: Global, bytes: &[u8]) -> Result<Ended, NoM
     }
 }
 
-/// What a script comes to in a race with this cast. A history that is full has no room in any memory.
-#[tactic(auto, using(script_reader::proofs::Bounds::all_may_race, crate::proofs::Ends::breaks_in_race, crate::proofs::Ends::plays_in_race))]
+/// What a script comes to in a race with this cast.
+#[tactic(auto, using(script_reader::proofs::Bounds::all_may_race, crate::proofs::Ends::breaks_in_race, crate::proofs::Ends::plays_in_race, crate::proofs::Ends::full_in_race))]
 fn race_script<R: Threads + Wait + Sync, P: ReportedNode + Send>(
     rt: &R,
     alloc: Global,
@@ -122,13 +125,14 @@ fn race_script<R: Threads + Wait + Sync, P: ReportedNode + Send>(
         Err(ScriptFault::Broken { step, rule }) => Ok(without_report(Status::Script(step, rule))),
         Ok((script, signers)) => {
             let steps = script.steps.as_slice();
-            let Ok(report) = report_race::<R, P>(rt, alloc, steps, signers, cast) else {
-                return Err(NoMemory);
-            };
-            Ok(Ended {
-                status: Status::Done,
-                report: Some(report),
-            })
+            match report_race::<R, P>(rt, alloc, steps, signers, cast) {
+                Err(RoundFault::NoMemory) => Err(NoMemory),
+                Err(RoundFault::Full(_)) => Ok(without_report(Status::Full)),
+                Ok(report) => Ok(Ended {
+                    status: Status::Done,
+                    report: Some(report),
+                }),
+            }
         }
     }
 }
@@ -261,6 +265,7 @@ pub fn line_of(alloc: Global, status: Status) -> Result<String, AllocError>
         }
         Status::ReadFault => String::from_str(alloc, "read fault\n"),
         Status::TooLong => String::from_str(alloc, "too long\n"),
+        Status::Full => String::from_str(alloc, "full\n"),
         Status::Done | Status::NoMemory | Status::WriteFault => Ok(String::new(alloc)),
     }
 }

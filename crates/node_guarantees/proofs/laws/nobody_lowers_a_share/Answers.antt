@@ -9,4 +9,5 @@ returns-clause-honest g c =
     honest_after g.P.Party.ways g.P.Party.stands g.P.ReportedNode.reported g.met.P.ReportedNode.keeps g.met.P.ReportedNode.opens g.met.P.ReportedNode.plays
 
 pub returns-clause-challenges : goal.returns-clause-challenges
-returns-clause-challenges g c = own_after g.P.Party.ways g.P.ReportedNode.owns g.P.ReportedNode.reported g.met.P.ReportedNode.goes_on g.met.P.ReportedNode.calls
+returns-clause-challenges g c =
+    own_after g.P.Party.ways g.P.Party.stands g.P.Party.lost g.P.ReportedNode.reported g.met.P.ReportedNode.keeps g.met.P.ReportedNode.calls

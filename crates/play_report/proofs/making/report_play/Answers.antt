@@ -16,7 +16,7 @@ returns-clause-played g c =
     go (Ok r) made =
         is_played g.P.Party.ways g.P.Party.stands g.P.Party.lost g.P.ReportedNode.shares g.P.ReportedNode.exits g.P.ReportedNode.facts g.P.ReportedNode.reported
         g.met.P.ReportedNode.keeps g.met.P.ReportedNode.reports g.met.P.ReportedNode.opens g.met.P.ReportedNode.commands g.met.P.ReportedNode.gets g.met.P.ReportedNode.got g.met.P.ReportedNode.knows g.met.P.ReportedNode.plays g.met.P.ReportedNode.holds
-        g.P.ReportedNode.owns g.met.P.ReportedNode.goes_on g.met.P.ReportedNode.calls
+        g.met.P.ReportedNode.calls
         c.args.steps.now c.requires.fit c.args.load r
         (subst (λ s. IsMade g.P.Party.ways g.P.Party.lost g.P.ReportedNode.shares g.P.ReportedNode.exits g.P.ReportedNode.facts c.args.load r s) c.in_ok-scene.ensures made)
     go (Err e) made = tt

@@ -13,7 +13,7 @@ returns-clause-raced g c =
     let told = g.met.P.ReportedNode g.world.𝓛 g.world.𝓜 g.world.𝓡 ((λ s x. x), (λ x. x), (λ x. x), λ x. x) in
     is_of_race g.P.Party.ways g.P.Party.stands g.P.Party.lost g.P.ReportedNode.shares g.P.ReportedNode.exits g.P.ReportedNode.facts g.P.ReportedNode.reported
     told.keeps told.reports told.opens told.commands told.gets told.got told.knows told.plays told.holds
-    g.P.ReportedNode.owns told.goes_on told.calls
+    told.calls
     c.requires.timely c.args.steps.now c.requires.fit c.requires.may_race _ _ c.in_ok-report.report
     c.in_ok-race.ensures.raced c.in_ok-race.ensures.racing
     (c.in_ok-report.ensures.made _ (record {

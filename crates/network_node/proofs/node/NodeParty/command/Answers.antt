@@ -1,8 +1,8 @@
--- What a command makes of a node is placed, whatever it answered.
+-- What a command makes of a node stands, whatever it answered.
 use Rattle.std.proofs.Common.{◌≡◌, rules, sym, subst}
-use Rattle.node_guarantees.proofs.Kept.{nodes_are_kept}
+use Rattle.fairness_laws.proofs.Owning.{nodes_stand}
+use Rattle.fairness_laws.specs.Owning.{StandsOwning}
 use Rattle.node_guarantees.specs.Ways.{ways}
-use Rattle.node_guarantees.specs.Placed.{IsPlaced}
 use Rattle.network_node.proofs.Few.{is_node, commanded_small}
 use Rattle.network_node.proofs.Kept.{failed_keeps, lose_keeps}
 use Rattle.channel_node.specs.Playing.{signing_of}
@@ -20,7 +20,7 @@ returns-in_err-outs-clause-keeps c =
 pub returns-clause-keeps : goal.returns-clause-keeps
 returns-clause-keeps c h legal is =
     let same : c.if-is_some.self ≡ ways.commanded c.args.step c.args.command c.args.self.now = search rules in
-    subst (IsPlaced h) (sym same) (nodes_are_kept.commanded h c.args.step c.args.command c.args.self.now legal is)
+    subst (StandsOwning h) (sym same) (nodes_stand.commanded h c.args.step c.args.command c.args.self.now legal is)
 
 pub invariant_of-self-else-is_some-2 : goal.invariant_of-self-else-is_some-2
 invariant_of-self-else-is_some-2 c =

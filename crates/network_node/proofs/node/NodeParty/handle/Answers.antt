@@ -1,4 +1,4 @@
--- What a message makes of a node is placed, whatever it answered, and it is answered why it was refused, if it was.
+-- What a message makes of a node stands, whatever it answered, and it is answered why it was refused, if it was.
 use Rattle.network_node.proofs.Few.{is_node, lost_node, handled_small}
 use Rattle.network_node.proofs.Kept.{handle_keeps, handle_loses, handle_refuses, lose_keeps}
 use Rattle.network_node.proofs.node.NodeParty.handle.Goals as goal

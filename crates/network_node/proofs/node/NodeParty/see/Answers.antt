@@ -1,4 +1,4 @@
--- What entries make of a node is placed, also where they were cut off.
+-- What entries make of a node stands, also where they were cut off.
 use Rattle.std.proofs.Common.{sym}
 use Rattle.network_node.proofs.Few.{is_node, seen_small}
 use Rattle.network_node.proofs.Kept.{see_keeps}

@@ -1,4 +1,4 @@
--- What a tick makes of a node is what its ways say, and placed, also where it was cut off.
+-- What a tick makes of a node is what its ways say, and stands, also where it was cut off.
 use Rattle.network_node.proofs.Few.{is_node, ticked_small}
 use Rattle.network_node.proofs.Kept.{stays_lost, tick_keeps, tick_makes}
 use Rattle.channel_node.specs.Playing.{signing_of}

@@ -1,4 +1,4 @@
--- What a look makes of a node is placed.
+-- What a look makes of a node stands.
 use Rattle.std.proofs.Common.{sym, ◌∙◌, ap}
 use Rattle.std.specs.List.{flat_map}
 use Rattle.channel_store.specs.Keeping.{held_chain}
