@@ -19,11 +19,12 @@ AT_ONCE = os.cpu_count() or 1
 SECONDS = 60
 
 # Words, and the script that is read, of which each allocation is refused in a copy of the program: a node's whole life;
-# a ledger and a virtual channel on it, opened and left; the life of a load.
+# a ledger and a virtual channel on it, opened and left; the life of a load; and a node's life as JSON.
 RUNS = [
     ("run", "payment.json"),
     ("run", "hostile/virtual.json"),
     ("load --seed 1 --count 3", None),
+    ("run --json", "payment.json"),
 ]
 # Races, whose allocations in threads are refused in runs of their own; in the first, entries have one order.
 RACES = [

@@ -7,7 +7,8 @@ use std::alloc::Global;
 
 /// Somebody of a cast, who has seen nothing.
 pub(crate) fn unseeing(alloc: Global, number: u32, actor: Box<dyn Actor + Send>) -> Cast
-    ensures { result.notes.entries.items ≡ [] }
+    ensures unseen { result.notes.entries.items ≡ [] }
+    ensures number { result.number ≡ number }
 {
     let entries = Vec::new(alloc);
     Cast {

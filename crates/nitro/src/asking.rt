@@ -16,14 +16,17 @@ pub enum Task {
     Record,
     Check,
     Tower,
+    Show,
     Picture,
     Lint,
 }
 
-/// What is asked for: a task, the words that its call takes, and the file that is read, if not standard input.
+/// What is asked for: a task, whether its text is put as JSON, the words that its call takes, and the file that is read, if
+/// not standard input.
 #[derive(Drop)]
 pub struct Request<'a> {
     pub task: Task,
+    pub as_json: bool,
     pub words: Vec<Label>,
     pub file: Option<&'a str>,
 }
@@ -96,6 +99,7 @@ fn task_of(name: &str) -> Option<Task> {
         "record" => Some(Task::Record),
         "check" => Some(Task::Check),
         "tower" => Some(Task::Tower),
+        "show" => Some(Task::Show),
         "picture" => Some(Task::Picture),
         "lint" => Some(Task::Lint),
         _ => None,
@@ -156,6 +160,7 @@ pub(crate) fn read_words<'a>(alloc: Global, words: &'a [&'a str]) -> Result<Want
     };
     let request = Request {
         task,
+        as_json: own.get_flag("json"),
         words: words_of(alloc, name, own)?,
         file: file_of(own),
     };

@@ -7,27 +7,27 @@ mod advice;
 mod asking;
 mod closed;
 mod doing;
+mod kept_source;
 mod pages;
+mod requests;
 mod table;
 mod telling;
 
-use advice::key_fault;
-use asking::{Asked, LedgerRequest, Request, Task, Wanted, read_words};
-use byte_streams::{Sink, Source, StdSink, StdSource, read_all};
+use asking::{Asked, LedgerRequest, Task, Wanted, read_words};
+use byte_streams::{Sink, Source, StdSink, StdSource};
 use channel_values::NoMemory;
 use clap::Error;
-use closed::Closed;
-use doing::{Done, perform};
+use doing::perform;
 use lasting_ledger::{Start, run_ledger};
 use pages::{Page, page_of};
+use requests::do_request;
 use std::alloc::Global;
 use std::process::ExitCode;
 use std::rt::{Env, Files};
 use std::sync::Wait;
 use std::thread::Threads;
-use std::{env, fs, io};
+use std::{env, io};
 use table::{VERSION, program};
-use telling::tell;
 
 /// The words after the program's name. Words that aren't text count as none.
 fn words<R: Env + AllocGlobal>(rt: &R) -> Result<Vec<String>, NoMemory> {
@@ -43,54 +43,13 @@ fn words<R: Env + AllocGlobal>(rt: &R) -> Result<Vec<String>, NoMemory> {
     Ok(words)
 }
 
-/// Does what was asked for, with standard input or the file that is named.
-fn do_request<R: Threads + Wait + Sync + Files + Eprint, S: Source, K: Sink>(
-    rt: &R,
-    alloc: Global,
-    request: &Request,
-    input: &mut S,
-    output: &mut K,
-) -> Result<Done, NoMemory> {
-    let words = request.words.as_slice();
-    let Some(name) = request.file else {
-        return perform(rt, alloc, request.task, words, input, output);
-    };
-    match fs::open(rt, name) {
-        Ok(reader) => {
-            let mut source = StdSource { reader, faults: 0 };
-            perform(rt, alloc, request.task, words, &mut source, output)
-        }
-        Err(error) => {
-            let _ = eprintln!(rt; "nitro: can't open {name}: {error}");
-            let mut source = Closed { faults: 0 };
-            perform(rt, alloc, request.task, words, &mut source, output)
-        }
-    }
-}
-
-/// Says what is wrong with the keys of the step at which a script that is named is refused. The file is read again for it.
-fn tell_keys<R: Files + Eprint>(rt: &R, alloc: Global, request: &Request, done: &Done) {
-    let (Some(name), Some(number)) = (request.file, done.broken_step()) else {
-        return;
-    };
-    let Ok(reader) = fs::open(rt, name) else {
-        return;
-    };
-    let Ok(script) = read_all(alloc, &mut StdSource { reader, faults: 0 }) else {
-        return;
-    };
-    if let Ok(Some(fault)) = key_fault(alloc, &script, number) {
-        let _ = eprintln!(rt; "nitro: step {number}{fault}");
-    }
-}
-
 /// Says what clap has to say: help, with status 0, or what is wrong with the words.
-fn answer_told<R: Threads + Wait + Sync + Print + Eprint, S: Source, K: Sink>(
+fn answer_told<R: Threads + Wait + Sync + Print + Eprint, S: Source + Drop, K: Sink>(
     rt: &R,
     alloc: Global,
     error: &Error,
     is_picture: bool,
-    input: &mut S,
+    mut input: S,
     output: &mut K,
 ) -> Result<u8, NoMemory> {
     let printed = error.print(rt);
@@ -102,7 +61,7 @@ fn answer_told<R: Threads + Wait + Sync + Print + Eprint, S: Source, K: Sink>(
     } else {
         Task::Play
     };
-    let done = perform(rt, alloc, task, &[], input, output)?;
+    let done = perform(rt, alloc, task, &[], &mut input, output)?;
     let code = done.code();
     drop(done);
     Ok(code)
@@ -130,12 +89,12 @@ fn serve(rt: &HostRuntime, request: &LedgerRequest) -> u8 {
 }
 
 /// Answers the words.
-fn answer<R: Threads + Wait + Sync + Files + Print + Eprint, S: Source, K: Sink>(
+fn answer<R: Threads + Wait + Sync + Files + Print + Eprint, S: Source + Drop, K: Sink>(
     rt: &R,
     alloc: Global,
     words: &[&str],
     asked: Asked,
-    input: &mut S,
+    input: S,
     output: &mut K,
 ) -> Result<u8, NoMemory> {
     match asked {
@@ -148,14 +107,7 @@ fn answer<R: Threads + Wait + Sync + Files + Print + Eprint, S: Source, K: Sink>
             let is_picture = words.first() == Some(&"picture");
             answer_told(rt, alloc, &error, is_picture, input, output)
         }
-        Asked::Task(request) => {
-            let done = do_request(rt, alloc, &request, input, output)?;
-            tell(rt, alloc, &done);
-            tell_keys(rt, alloc, &request, &done);
-            let code = done.code();
-            drop(done);
-            Ok(code)
-        }
+        Asked::Task(request) => do_request(rt, alloc, &request, input, output),
     }
 }
 
@@ -175,7 +127,7 @@ fn main(rt: HostRuntime) -> ExitCode {
         Ok(Wanted::Other(asked)) => asked,
         Err(NoMemory) => return ExitCode::from(1),
     };
-    let mut input = StdSource {
+    let input = StdSource {
         reader: rt.stdin(),
         faults: 0,
     };
@@ -183,7 +135,7 @@ fn main(rt: HostRuntime) -> ExitCode {
         writer: rt.stdout(),
         faults: 0,
     };
-    match answer(&rt, alloc, &texts, asked, &mut input, &mut output) {
+    match answer(&rt, alloc, &texts, asked, input, &mut output) {
         Ok(code) => ExitCode::from(code),
         Err(NoMemory) => ExitCode::from(1),
     }

@@ -21,6 +21,10 @@ const RECORD: &str = "A record; without it, or with -, standard input is read";
 const TEXT: &str =
     "What run, load or route printed, or a record; without it, or with -, standard input is read";
 
+const JSON: &str = "\
+Print each line as a JSON object with a version. What is proved of the text isn't proved of the JSON, beyond \
+which object each line becomes";
+
 static PAGES: [&str; 4] = ["man", "bash", "zsh", "fish"];
 
 static PLAYS: [&str; 2] = ["run", "race"];
@@ -30,6 +34,27 @@ static ENDINGS: [&str; 2] = ["close", "exit"];
 /// The file that a command reads.
 fn file<'a>(alloc: Global, help: &'a str) -> Arg<'a> {
     Arg::new(alloc, "file").value_name("FILE").help(help)
+}
+
+/// Whether each line is printed as JSON.
+fn json<'a>(alloc: Global) -> Arg<'a> {
+    Arg::new(alloc, "json")
+        .long("json")
+        .action(ArgAction::SetTrue)
+        .help(JSON)
+}
+
+/// A command that reads a file, and prints lines that can be JSON.
+fn line_reader<'a>(
+    alloc: Global,
+    name: &'a str,
+    about: &'a str,
+    help: &'a str,
+) -> Result<Command<'a>, AllocError> {
+    Command::new(alloc, name)
+        .about(about)
+        .arg(json(alloc))?
+        .arg(file(alloc, help))
 }
 
 /// A command that reads a file.
@@ -151,6 +176,7 @@ pub(crate) fn program<'a>(alloc: Global) -> Result<Command<'a>, AllocError> {
     let race = "Play a script by rounds in threads, beside three actors that misbehave";
     let check = "Check a record: say that it is sound, or its first fault";
     let tower = "Print what a watchtower answers after each entry of a record";
+    let show = "Print the entries, the sums and the endings of a record, sound or not";
     let picture = "Draw the text or the record of a run, as SVG";
     Command::new(alloc, "nitro")
         .about(ABOUT)
@@ -159,13 +185,14 @@ pub(crate) fn program<'a>(alloc: Global) -> Result<Command<'a>, AllocError> {
         .no_binary_name(true)
         .subcommand_required(true)
         .arg_required_else_help(true)
-        .subcommand(reader(alloc, "run", run, SCRIPT)?)?
-        .subcommand(reader(alloc, "race", race, SCRIPT)?)?
+        .subcommand(line_reader(alloc, "run", run, SCRIPT)?)?
+        .subcommand(line_reader(alloc, "race", race, SCRIPT)?)?
         .subcommand(load(alloc)?)?
         .subcommand(route(alloc)?)?
         .subcommand(record(alloc)?)?
-        .subcommand(reader(alloc, "check", check, RECORD)?)?
-        .subcommand(reader(alloc, "tower", tower, RECORD)?)?
+        .subcommand(line_reader(alloc, "check", check, RECORD)?)?
+        .subcommand(line_reader(alloc, "tower", tower, RECORD)?)?
+        .subcommand(reader(alloc, "show", show, RECORD)?)?
         .subcommand(reader(alloc, "picture", picture, TEXT)?)?
         .subcommand(lint(alloc)?)?
         .subcommand(ledger(alloc)?)?

@@ -118,5 +118,6 @@ pub(crate) fn tell<R: Eprint>(rt: &R, alloc: Global, done: &Done) {
         Done::Checked(status) => tell_check(rt, *status),
         Done::Drawn(status) => tell_drawing(rt, alloc, *status),
         Done::Linted(status) => tell_lint(rt, *status),
+        Done::Unwritten => tell_play(rt, Status::WriteFault),
     }
 }

@@ -16,10 +16,10 @@ use Rattle.record_checker.specs.declared.status.Status.TheVariants.{Done, NoMemo
 one_record : (x : Result Record ByteFault) (r q : Record) → x ≡ Ok r → x ≡ Ok q → r ≡ q
 one_record x r q a b = cc
 
-one_fault : (x : Result Record ByteFault) (f g : ByteFault) → x ≡ Err f → x ≡ Err g → f ≡ g
+pub one_fault : (x : Result Record ByteFault) (f g : ByteFault) → x ≡ Err f → x ≡ Err g → f ≡ g
 one_fault x f g a b = cc
 
-no_fault : (x : Result Record ByteFault) (r : Record) (f : ByteFault) → x ≡ Ok r → x ≡ Err f → ⊥
+pub no_fault : (x : Result Record ByteFault) (r : Record) (f : ByteFault) → x ≡ Ok r → x ≡ Err f → ⊥
 no_fault x r f a b = cc
 
 said_once : (x : Result Record ByteFault) (r q : Record) (v w : Verdict) → x ≡ Ok r → x ≡ Ok q → Says v r → Says w q → v ≡ w
@@ -69,7 +69,7 @@ not_long k g bytes e h =
     let most = no_more_taken g.before g.after bytes e.0 h.told e.1 in
     omega (arith, most, h.short, e.2)
 
-not_both : (b : Bool) → b ≡ false → b ≡ true → ⊥
+pub not_both : (b : Bool) → b ≡ false → b ≡ true → ⊥
 not_both b p q = cc
 
 pub completes : (k : Asked) (g : Given) (s t : Status) (text bytes other : List ℕ) → EndsAs k g s text → Tells k bytes g → Comes k bytes t other → s ≡ t

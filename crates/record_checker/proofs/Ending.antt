@@ -14,7 +14,7 @@ use Rattle.record_checker.specs.Answering.{Asked, Given, IsReadTo, asks, EndsAs}
 use Rattle.record_checker.specs.declared.status.Status.TheVariants.{Done, Unspelled, Unsound}
 
 -- a fault but want of memory is what reading gives
-told : (f : ByteFault) (read : Result Record ByteFault) → (f ≡ faults.NoMemory → ⊥) → Fails f read → read ≡ Err f
+pub told : (f : ByteFault) (read : Result Record ByteFault) → (f ≡ faults.NoMemory → ⊥) → Fails f read → read ≡ Err f
 told faults.NoMemory read h e = absurd (h refl)
 told (faults.Cut place) read h e = e
 told (faults.BadTag place) read h e = e

@@ -7,3 +7,5 @@ pub mod Faults
 pub mod Lacking
 pub mod Ending
 pub mod Completes
+pub mod ShowEnds
+pub mod ShowCompletes

@@ -7,3 +7,5 @@ pub mod Lines
 pub mod Answering
 pub mod Running
 pub mod Check
+pub mod Shown
+pub mod Showing

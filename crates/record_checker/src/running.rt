@@ -23,7 +23,7 @@ struct Ended {
 }
 
 /// The bytes of a line that is told as it is.
-fn bytes_of(alloc: Global, line: &str) -> Result<Vec<u8>, NoMemory>
+pub(crate) fn bytes_of(alloc: Global, line: &str) -> Result<Vec<u8>, NoMemory>
     ensures { IfOk result (λ bytes. bytes.items ≡ line.now) }
 {
     let line = String::from_str(alloc, line)?;
