@@ -80,7 +80,9 @@ module _ (T' : RattleType) (g' : object.Ghosts T'.Denot) where
   cast_sends each table =
       let actor = as_row_send (boxes.the_field T' global.the_row g' heap.ghosts) (dyn_box_send T' g' each table) in
       declared_send (casts.the_type T' g') (
-      as_row_send u32-field (search sendable), (actor, (as_row_send notes.the_field notes_sends, (as_row_send bool-field (search sendable), tt))))
+        as_row_send u32-field (search sendable),
+        (actor, (as_row_send notes.the_field notes_sends, (as_row_send bool-field (search sendable), tt))),
+      )
 
 module _ (T T' : RattleType) (g : party.Ghosts T.Denot) (g' : object.Ghosts T'.Denot) where
   pub job_sends : IsSend (members.the_row T g) → IsSend (casts.the_row T' g') → IsSend (jobs.the_row T T' g g')

@@ -5,7 +5,6 @@ use Rattle.byte_streams.specs.OutsideSink.{AppendsPart}
 use Rattle.byte_streams.specs.OutsideSource.{Rose}
 use Rattle.json_lines.specs.Json.{json_of}
 use Rattle.network_rounds.specs.Players.{Player}
-use Rattle.node_guarantees.specs.Ways.{ways}
 use Rattle.record_checker.specs.Answering as answering
 use Rattle.record_checker.specs.Running as checks
 use Rattle.record_checker.specs.Check.{check_asked}
@@ -15,7 +14,7 @@ use Rattle.picture.specs.Drawing as drawings
 use Rattle.picture.specs.Promise as pictures
 use Rattle.script_lint.specs.Linting as linting
 use Rattle.script_lint.specs.Promise as lints
-use Rattle.script_run.specs.Promises.{IsRun, IsRecording, IsRoute, Sunk}
+use Rattle.script_run.specs.Promises.{IsNodeRun, IsNodeRecording, IsNodeRoute, Sunk}
 use Rattle.script_run.specs.Recording as recordings
 use Rattle.script_run.specs.Run.{Given}
 use Rattle.script_run.specs.Run as runs
@@ -101,17 +100,17 @@ AreThree cast = map (λ x. x.number) cast ≡ 101 ∷ 102 ∷ 103 ∷ []
 
 -- `run_words`
 abbrev pub IsPlay : List Player → Given → Sunk → Done → Type 0
-IsPlay cast g k (Played ended) = IsRun ways cast g k ended.status ended.report
+IsPlay cast g k (Played ended) = IsNodeRun cast g k ended.status ended.report
 IsPlay cast g k _ = ⊥
 
 -- `run_record`
 abbrev pub IsRecord : List Player → Given → Sunk → Done → Type 0
-IsRecord cast g k (Recorded status) = IsRecording ways cast g k status
+IsRecord cast g k (Recorded status) = IsNodeRecording cast g k status
 IsRecord cast g k _ = ⊥
 
 -- `run_route`, which is handed no source
 abbrev pub IsRouting : Given → Sunk → Done → Type 0
-IsRouting g k (Routed ended) = IsRoute ways g.words k ended.status ended.report
+IsRouting g k (Routed ended) = IsNodeRoute g.words k ended.status ended.report
 IsRouting g k _ = ⊥
 
 -- `run_check`, `run_tower` and `run_show`

@@ -21,13 +21,14 @@ pub enum Task {
     Lint,
 }
 
-/// What is asked for: a task, whether its text is put as JSON, the words that its call takes, and the file that is read, if
-/// not standard input.
+/// What is asked for: a task, whether its text is written as JSON, the words that its call takes, the script that has the
+/// names of a record, if one is given, and the file that is read, if not standard input.
 #[derive(Drop)]
 pub struct Request<'a> {
     pub task: Task,
     pub as_json: bool,
     pub words: Vec<Label>,
+    pub names: Option<&'a str>,
     pub file: Option<&'a str>,
 }
 
@@ -162,6 +163,7 @@ pub(crate) fn read_words<'a>(alloc: Global, words: &'a [&'a str]) -> Result<Want
         task,
         as_json: own.get_flag("json"),
         words: words_of(alloc, name, own)?,
+        names: own.get_str("names"),
         file: file_of(own),
     };
     Ok(Wanted::Other(Asked::Task(request)))

@@ -9,7 +9,7 @@ use crate::actors::unseeing;
 use crate::asking::Task;
 use byte_streams::{Sink, Source};
 use cast_actors::{Equivocator, Idle, Replayer};
-use channel_values::{Label, NoMemory};
+use channel_values::{Dest, Label, NoMemory};
 use json_lines::{JsonFault, KeptText, put_as_json};
 use picture::draw;
 use record_checker::{run_check, run_show};
@@ -65,12 +65,13 @@ impl Done {
 }
 
 /// Does a task: hands the words, the source and the sink to the call that does it, whose contract has all that is promised.
-/// In a race three act beside the nodes: one plays old challenges again, one answers a challenge in two ways, and one rests.
+/// A picture takes labels too. In a race three act beside the nodes: one plays old challenges again, one answers a challenge in two ways, and one rests.
 pub(crate) fn perform<R: Threads + Wait + Sync, S: Source, K: Sink>(
     rt: &R,
     alloc: Global,
     task: Task,
     words: &[Label],
+    labels: &[(Dest, Label)],
     source: &mut S,
     sink: &mut K,
 ) -> Result<Done, NoMemory>
@@ -96,7 +97,7 @@ pub(crate) fn perform<R: Threads + Wait + Sync, S: Source, K: Sink>(
         Task::Check => Ok(Done::Checked(run_check(alloc, words, source, sink))),
         Task::Tower => Ok(Done::Checked(run_tower(rt, alloc, words, source, sink))),
         Task::Show => Ok(Done::Checked(run_show(alloc, words, source, sink))),
-        Task::Picture => Ok(Done::Drawn(draw(alloc, words, source, sink))),
+        Task::Picture => Ok(Done::Drawn(draw(alloc, words, labels, source, sink))),
         Task::Lint => Ok(Done::Linted(run_lint(alloc, words, source, sink))),
     }
 }
@@ -107,6 +108,7 @@ fn perform_as_json<R: Threads + Wait + Sync, S: Source, K: Sink>(
     alloc: Global,
     task: Task,
     words: &[Label],
+    labels: &[(Dest, Label)],
     source: &mut S,
     sink: &mut K,
 ) -> Result<Done, NoMemory>
@@ -115,7 +117,7 @@ fn perform_as_json<R: Threads + Wait + Sync, S: Source, K: Sink>(
     ensures nothing { IsErr result → sink.new ≡ sink.old }
 {
     let mut text = KeptText::new(alloc);
-    let done = perform(rt, alloc, task, words, source, &mut text)?;
+    let done = perform(rt, alloc, task, words, labels, source, &mut text)?;
     if text.faults != 0 {
         return Err(NoMemory);
     }
@@ -133,6 +135,7 @@ pub(crate) fn perform_either<R: Threads + Wait + Sync, S: Source, K: Sink>(
     as_json: bool,
     task: Task,
     words: &[Label],
+    labels: &[(Dest, Label)],
     source: &mut S,
     sink: &mut K,
 ) -> Result<Done, NoMemory>
@@ -141,8 +144,8 @@ pub(crate) fn perform_either<R: Threads + Wait + Sync, S: Source, K: Sink>(
     ensures nothing { IsErr result → sink.new ≡ sink.old }
 {
     if as_json {
-        perform_as_json(rt, alloc, task, words, source, sink)
+        perform_as_json(rt, alloc, task, words, labels, source, sink)
     } else {
-        perform(rt, alloc, task, words, source, sink)
+        perform(rt, alloc, task, words, labels, source, sink)
     }
 }

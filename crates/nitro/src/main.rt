@@ -8,6 +8,7 @@ mod asking;
 mod closed;
 mod doing;
 mod kept_source;
+mod naming;
 mod pages;
 mod requests;
 mod table;
@@ -61,7 +62,7 @@ fn answer_told<R: Threads + Wait + Sync + Print + Eprint, S: Source + Drop, K: S
     } else {
         Task::Play
     };
-    let done = perform(rt, alloc, task, &[], &mut input, output)?;
+    let done = perform(rt, alloc, task, &[], &[], &mut input, output)?;
     let code = done.code();
     drop(done);
     Ok(code)

@@ -10,9 +10,11 @@ use crate::asking::Request;
 use crate::closed::Closed;
 use crate::doing::{Done, perform_either};
 use crate::kept_source::KeptSource;
+use crate::naming::play_names;
 use crate::telling::tell;
 use byte_streams::{Sink, Source, StdSource};
-use channel_values::NoMemory;
+use channel_values::{Dest, Label, NoMemory};
+use script_run::Ended;
 use std::alloc::Global;
 use std::fs;
 use std::rt::Files;
@@ -34,6 +36,7 @@ fn do_task<R: Threads + Wait + Sync + Eprint, S: Source + Drop, K: Sink>(
     rt: &R,
     alloc: Global,
     request: &Request,
+    labels: &[(Dest, Label)],
     source: &mut KeptSource<S>,
     sink: &mut K,
 ) -> Result<u8, NoMemory>
@@ -48,6 +51,7 @@ fn do_task<R: Threads + Wait + Sync + Eprint, S: Source + Drop, K: Sink>(
         request.as_json,
         request.task,
         words,
+        labels,
         source,
         sink,
     )?;
@@ -63,16 +67,42 @@ fn do_over<R: Threads + Wait + Sync + Eprint, S: Source + Drop, K: Sink>(
     rt: &R,
     alloc: Global,
     request: &Request,
+    labels: &[(Dest, Label)],
     source: S,
     sink: &mut K,
 ) -> Result<u8, NoMemory> {
     let mut source = KeptSource::new(alloc, source);
-    let code = do_task(rt, alloc, request, &mut source, sink);
+    let code = do_task(rt, alloc, request, labels, &mut source, sink);
     drop(source);
     code
 }
 
 /// Does what was asked for, with standard input or the file that is named, and gives the status.
+fn do_labelled<R: Threads + Wait + Sync + Files + Eprint, S: Source + Drop, K: Sink>(
+    rt: &R,
+    alloc: Global,
+    request: &Request,
+    labels: &[(Dest, Label)],
+    input: S,
+    output: &mut K,
+) -> Result<u8, NoMemory> {
+    let Some(name) = request.file else {
+        return do_over(rt, alloc, request, labels, input, output);
+    };
+    drop(input);
+    match fs::open(rt, name) {
+        Ok(reader) => {
+            let source = StdSource { reader, faults: 0 };
+            do_over(rt, alloc, request, labels, source, output)
+        }
+        Err(error) => {
+            let _ = eprintln!(rt; "nitro: can't open {name}: {error}");
+            do_over(rt, alloc, request, labels, Closed { faults: 0 }, output)
+        }
+    }
+}
+
+/// The same, with the names of the script that was given for them. Where that can't be played, the status is that of its play.
 pub(crate) fn do_request<R: Threads + Wait + Sync + Files + Eprint, S: Source + Drop, K: Sink>(
     rt: &R,
     alloc: Global,
@@ -80,15 +110,21 @@ pub(crate) fn do_request<R: Threads + Wait + Sync + Files + Eprint, S: Source + 
     input: S,
     output: &mut K,
 ) -> Result<u8, NoMemory> {
-    let Some(name) = request.file else {
-        return do_over(rt, alloc, request, input, output);
+    let Some(script) = request.names else {
+        return do_labelled(rt, alloc, request, &[], input, output);
     };
-    drop(input);
-    match fs::open(rt, name) {
-        Ok(reader) => do_over(rt, alloc, request, StdSource { reader, faults: 0 }, output),
-        Err(error) => {
-            let _ = eprintln!(rt; "nitro: can't open {name}: {error}");
-            do_over(rt, alloc, request, Closed { faults: 0 }, output)
-        }
+    let Ended { status, report } = play_names(rt, alloc, script)?;
+    if let Some(report) = report {
+        let labels = report.labels.as_slice();
+        let code = do_labelled(rt, alloc, request, labels, input, output);
+        drop(report);
+        return code;
     }
+    drop(input);
+    let report = None;
+    let done = Done::Played(Ended { status, report });
+    tell(rt, alloc, &done);
+    let code = done.code();
+    drop(done);
+    Ok(code)
 }

@@ -121,6 +121,18 @@ fn record<'a>(alloc: Global) -> Result<Command<'a>, AllocError> {
         .arg(file(alloc, SCRIPT))
 }
 
+/// `picture`, with the script that has the names of a record.
+fn drawing<'a>(alloc: Global) -> Result<Command<'a>, AllocError> {
+    let names = Arg::new(alloc, "names")
+        .long("names")
+        .value_name("SCRIPT")
+        .help("The script that was recorded: its names are drawn in place of digits");
+    Command::new(alloc, "picture")
+        .about("Draw the text or the record of a run, as SVG")
+        .arg(names)?
+        .arg(file(alloc, TEXT))
+}
+
 /// `lint`, by the rules of a run or of a race.
 fn lint<'a>(alloc: Global) -> Result<Command<'a>, AllocError> {
     let race = Arg::new(alloc, "race")
@@ -177,7 +189,6 @@ pub(crate) fn program<'a>(alloc: Global) -> Result<Command<'a>, AllocError> {
     let check = "Check a record: say that it is sound, or its first fault";
     let tower = "Print what a watchtower answers after each entry of a record";
     let show = "Print the entries, the sums and the endings of a record, sound or not";
-    let picture = "Draw the text or the record of a run, as SVG";
     Command::new(alloc, "nitro")
         .about(ABOUT)
         .version(VERSION)
@@ -193,7 +204,7 @@ pub(crate) fn program<'a>(alloc: Global) -> Result<Command<'a>, AllocError> {
         .subcommand(line_reader(alloc, "check", check, RECORD)?)?
         .subcommand(line_reader(alloc, "tower", tower, RECORD)?)?
         .subcommand(reader(alloc, "show", show, RECORD)?)?
-        .subcommand(reader(alloc, "picture", picture, TEXT)?)?
+        .subcommand(drawing(alloc)?)?
         .subcommand(lint(alloc)?)?
         .subcommand(ledger(alloc)?)?
         .subcommand(page(alloc)?)?

@@ -11,7 +11,7 @@ ghost use Rattle.run_record.specs.Reading.{record_of};
 ghost use Rattle.picture.specs.Drawing.{told, asks, is_record, code_of, AreDrawn, HasFault, EndsAs, puts_nothing};
 
 use byte_streams::{ReadEnd, Sink, Source, put_all, read_all};
-use channel_values::{ByteFault, Label};
+use channel_values::{ByteFault, Dest, Label};
 use record_reader::read_record;
 use record_run::{run_of, told_of};
 use run_picture::picture_of;
@@ -91,13 +91,17 @@ fn is_record(bytes: &[u8]) -> bool
     }
 }
 
-/// The picture of a record.
-fn picture_of_record(alloc: Global, bytes: &[u8]) -> Result<Vec<u8>, ByteFault>
+/// The picture of a record, with these names.
+fn picture_of_record(
+    alloc: Global,
+    labels: &[(Dest, Label)],
+    bytes: &[u8],
+) -> Result<Vec<u8>, ByteFault>
     ensures spelled { IfOk result (λ svg. IsOk (record_of bytes.now)) }
     ensures fault { IfErr result (λ fault. Fails fault (record_of bytes.now)) }
 {
     let value = read_record(alloc, bytes)?;
-    let told = told_of(alloc, &value)?;
+    let told = told_of(alloc, labels, &value)?;
     let run = run_of(alloc, &value, &told)?;
     let svg = picture_of(alloc, &run)?;
     Ok(svg)
@@ -105,12 +109,16 @@ fn picture_of_record(alloc: Global, bytes: &[u8]) -> Result<Vec<u8>, ByteFault>
 
 /// The picture of the record or the text that bytes are.
 #[tactic(auto, using(crate::proofs::Faults::record_is_drawn, crate::proofs::Faults::text_is_drawn, crate::proofs::Faults::byte_fault))]
-fn picture_of_bytes(alloc: Global, bytes: &[u8]) -> Result<Vec<u8>, Undrawn>
+fn picture_of_bytes(
+    alloc: Global,
+    labels: &[(Dest, Label)],
+    bytes: &[u8],
+) -> Result<Vec<u8>, Undrawn>
     ensures drawn { IfOk result (λ svg. AreDrawn bytes.now) }
     ensures fault { IfErr result (HasFault bytes.now) }
 {
     if is_record(bytes) {
-        return match picture_of_record(alloc, bytes) {
+        return match picture_of_record(alloc, labels, bytes) {
             Ok(svg) => Ok(svg),
             Err(ByteFault::NoMemory) => Err(Undrawn::NoMemory),
             Err(fault) => Err(Undrawn::Byte(fault)),
@@ -124,7 +132,12 @@ fn picture_of_bytes(alloc: Global, bytes: &[u8]) -> Result<Vec<u8>, Undrawn>
 }
 
 /// The picture of what the source says, or the end without one.
-fn work<S: Source>(alloc: Global, words: &[Label], source: &mut S) -> Result<Vec<u8>, Status>
+fn work<S: Source>(
+    alloc: Global,
+    words: &[Label],
+    labels: &[(Dest, Label)],
+    source: &mut S,
+) -> Result<Vec<u8>, Status>
     ensures done { IfOk result (λ svg. EndsAs words.now (told S.remaining S.faults source.old source.new) Status.Done) }
     ensures ends { IfErr result (EndsAs words.now (told S.remaining S.faults source.old source.new)) }
     ensures nothing { IfErr result (λ status. puts_nothing status ≡ true) }
@@ -138,7 +151,7 @@ fn work<S: Source>(alloc: Global, words: &[Label], source: &mut S) -> Result<Vec
         Err(ReadEnd::Failed) => return Err(Status::ReadFault),
         Err(ReadEnd::TooLong) => return Err(Status::TooLong),
     };
-    match picture_of_bytes(alloc, &bytes) {
+    match picture_of_bytes(alloc, labels, &bytes) {
         Ok(svg) => Ok(svg),
         Err(Undrawn::NoMemory) => Err(Status::NoMemory),
         Err(Undrawn::Line(fault)) => Err(Status::Unread(fault)),
@@ -146,10 +159,12 @@ fn work<S: Source>(alloc: Global, words: &[Label], source: &mut S) -> Result<Vec
     }
 }
 
-/// Reads the text or the record of a run, and writes its picture.
+/// Reads the text or the record of a run, and writes its picture. People and channels of a
+/// record are called by these labels.
 pub fn draw<S: Source, K: Sink>(
     alloc: Global,
     words: &[Label],
+    labels: &[(Dest, Label)],
     source: &mut S,
     sink: &mut K,
 ) -> Status
@@ -163,7 +178,7 @@ pub fn draw<S: Source, K: Sink>(
         × ((svg : List ℕ) × AppendsPart (K.held sink.old) (K.held sink.new) svg) }
     ensures nothing { puts_nothing result ≡ true → Keeps (K.held sink.old) (K.held sink.new) }
 {
-    let svg = match work(alloc, words, source) {
+    let svg = match work(alloc, words, labels, source) {
         Ok(svg) => svg,
         Err(status) => return status,
     };

@@ -5,7 +5,7 @@ use crate::names::{Names, Who};
 use std::alloc::{AllocError, Global};
 
 /// Layers, one above the other, at columns of entries. The layers are the channels, then the persons, then what was
-/// paid and isn't told to whom.
+/// paid to receivers that aren't known.
 #[derive(Drop)]
 pub struct Columns {
     pub layers: usize,
@@ -27,7 +27,7 @@ fn add(amounts: &mut [u64], at: usize, amount: u64) {
     }
 }
 
-/// Takes an amount, and says what was lacking.
+/// Takes an amount: what was lacking.
 fn take(amounts: &mut [u64], at: usize, amount: u64) -> u64 {
     match amounts.get_mut(at) {
         Some(place) => {

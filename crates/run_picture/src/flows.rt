@@ -15,7 +15,7 @@ pub(crate) struct Item {
 /// Where a flow goes.
 #[derive(Clone, Copy, PartialEq, Eq)]
 pub enum Goes {
-    /// To whom it is told.
+    /// To somebody who is known.
     To(Who),
     /// To whoever is paid by the item at this place.
     Item(usize),
@@ -31,7 +31,7 @@ pub struct Flow {
     pub amount: u64,
 }
 
-/// The flows of an asset, and by how many items those were paid whose receivers aren't told.
+/// The flows of an asset, and by how many items those were paid whose receivers aren't said.
 #[derive(Drop)]
 pub struct Flows {
     pub flows: Vec<Flow>,

@@ -61,7 +61,7 @@ fn moves_of(alloc: Global, run: &Run, names: &Names) -> Result<Vec<bool>, AllocE
     Ok(moves)
 }
 
-/// Where a lane stands that begins here.
+/// A lane that begins here.
 fn lane_at<'a>(frame: Frame, run: &Run<'a>, name: &'a [u8], top: u64) -> Lane<'a> {
     let above = if frame.has_words() { 50 } else { 10 };
     let marks = plus(top, above);
@@ -80,7 +80,7 @@ fn lane_at<'a>(frame: Frame, run: &Run<'a>, name: &'a [u8], top: u64) -> Lane<'a
     }
 }
 
-/// Where each lane stands, from the top down.
+/// The lanes, from the top down.
 pub(crate) fn lanes_of<'a>(
     alloc: Global,
     frame: Frame,
@@ -127,7 +127,7 @@ fn look_of(mode: Mode) -> Look {
     }
 }
 
-/// What is told of a band: its mode, the recorded turn and the deadline.
+/// What a band says: its mode, the recorded turn and the deadline.
 fn band_text(sketch: &Sketch, band: &Band) -> Result<String, AllocError> {
     let alloc = sketch.alloc();
     let turn = match band.standing.turn {
@@ -220,7 +220,7 @@ fn draw_words(sketch: &mut Sketch, x: u64, lane: &Lane, entry: &Entry) -> Result
     sketch.text(Look::Word, above, Runs::Rising, &[word.as_bytes()])?;
     if let Reply::No(said) = entry.reply {
         let below = (x, plus(lane.band.1, 11));
-        sketch.text(Look::Warning, below, Runs::Falling, &[said.name])?;
+        sketch.text(Look::Warning, below, Runs::RisingTo, &[said.name])?;
     }
     Ok(())
 }
@@ -249,7 +249,7 @@ fn draw_marks(
     Ok(drawn)
 }
 
-/// Draws the lanes, and says how many marks there are.
+/// Draws the lanes: how many marks there are.
 pub(crate) fn draw_lanes(
     sketch: &mut Sketch,
     frame: Frame,

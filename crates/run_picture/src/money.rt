@@ -4,10 +4,12 @@ use crate::columns::{Columns, columns_of, end_of_column};
 use crate::flows::{Flows, flows_of, receiver_of};
 use crate::frame::{Frame, LEFT, PANEL, RIGHT, Spaced};
 use crate::lanes::{Lanes, fits, short};
+use crate::legend::Row;
 use crate::names::{Names, Who};
 use crate::px::{minus, plus, scaled};
 use crate::receivers::receivers_of_items;
 use crate::shapes::{Look, Run as Runs, Sketch, joined};
+use crate::times::{draw_numbers, draw_time_lines};
 use run_text::{AssetEnd, Run};
 use std::alloc::{AllocError, Global};
 
@@ -15,6 +17,10 @@ use std::alloc::{AllocError, Global};
 pub(crate) const ASSETS: usize = 8;
 /// An area has at most so many columns.
 const COLUMNS: usize = 280;
+/// At most so many layers of an area are in its key.
+const KEYS: usize = 64;
+/// Scales with steps from here on count amounts of this size.
+const LARGE: u64 = 1_000_000_000_000_000;
 
 const HEIGHT: u64 = 150;
 /// So far above its band an arrow begins that goes up: above the mark.
@@ -38,7 +44,7 @@ pub(crate) fn money_of(
     Ok(Money { flows, receivers })
 }
 
-/// Where the rows of persons stand, below the lanes.
+/// Where the rows of persons are, below the lanes.
 #[derive(Clone, Copy)]
 pub(crate) struct PersonRows {
     pub(crate) top: u64,
@@ -98,7 +104,7 @@ fn draw_arrow(
     sketch.line(look, (x, start), (x, end), title)
 }
 
-/// Whether a number of so many digits has room below the band of a channel, after the one before it and ahead of the
+/// Whether a number of so many digits has room below the band of a channel, after the one before it and before the
 /// panel; it is taken then.
 fn takes(ends: &mut [u64], channel: usize, from: u64, digits: usize) -> bool {
     let next = plus(from, (digits as u64).saturating_mul(7));
@@ -111,7 +117,7 @@ fn takes(ends: &mut [u64], channel: usize, from: u64, digits: usize) -> bool {
     }
 }
 
-/// Places an amount below the band of a channel, where there is room.
+/// Puts an amount below the band of a channel, where there is room.
 fn draw_amount(
     sketch: &mut Sketch,
     ends: &mut [u64],
@@ -149,10 +155,8 @@ pub(crate) fn draw_arrows(
             if let Some(tip) = tip_of(lanes, rows, band, who, length) {
                 if room.takes(x) {
                     draw_arrow(sketch, x, band, tip, entry.line)?;
-                    if frame.has_words() {
-                        let at = (plus(x, 4), plus(band.1, 12));
-                        draw_amount(sketch, ends, from, at, flow.amount)?;
-                    }
+                    let at = (plus(x, 4), plus(band.1, 12));
+                    draw_amount(sketch, ends, from, at, flow.amount)?;
                 }
             }
         }
@@ -321,7 +325,7 @@ fn widest_room(frame: Frame, chart: Chart, columns: &Columns, layer: usize) -> R
     widest
 }
 
-/// Places a name at the right of its room, where it fits.
+/// Puts a name at the right of its room, where it fits.
 fn draw_name(sketch: &mut Sketch, room: Room, name: &[u8]) -> Result<(), AllocError> {
     let name = short(name);
     let letters = name[0].len().saturating_add(name[1].len());
@@ -333,7 +337,7 @@ fn draw_name(sketch: &mut Sketch, room: Room, name: &[u8]) -> Result<(), AllocEr
     sketch.text(Look::Plain, at, Runs::Left, &name)
 }
 
-/// What a layer is, and what is told of it.
+/// How a layer looks, and what it is, in two pieces.
 fn look_of_layer<'a>(names: &Names<'a>, layer: usize) -> (Look, &'a [u8], &'a [u8]) {
     if let Some(name) = names.channels.get_index(layer) {
         return (Look::Held(layer), b"held by ", name);
@@ -341,8 +345,14 @@ fn look_of_layer<'a>(names: &Names<'a>, layer: usize) -> (Look, &'a [u8], &'a [u
     let person = layer.saturating_sub(names.channels.len());
     match names.persons.get_index(person) {
         Some(name) => (Look::Paid(person), b"paid to ", name),
-        None => (Look::Untold, b"paid, ", b"not told to whom"),
+        None => (Look::Untold, b"paid, ", b"receiver unknown"),
     }
+}
+
+/// What a layer is, in words.
+fn layer_text(sketch: &Sketch, word: &[u8], name: &[u8]) -> Result<Vec<u8>, AllocError> {
+    let name = short(name);
+    joined(sketch.alloc(), &[word, name[0], name[1]])
 }
 
 fn draw_layer(
@@ -360,8 +370,86 @@ fn draw_layer(
     let (look, word, name) = look_of_layer(names, layer);
     let points = round(alloc, frame, chart, columns, layer)?;
     let title = joined(alloc, &[word, name])?;
-    sketch.area(look, points, &title)?;
-    draw_name(sketch, widest_room(frame, chart, columns, layer), name)
+    sketch.area(look, points, &title)
+}
+
+/// Names the layers, each where it is widest, if its name fits there.
+fn draw_layer_names(
+    sketch: &mut Sketch,
+    frame: Frame,
+    chart: Chart,
+    names: &Names,
+    columns: &Columns,
+) -> Result<(), AllocError> {
+    for layer in 0..columns.layers {
+        let (_, _, name) = look_of_layer(names, layer);
+        draw_name(sketch, widest_room(frame, chart, columns, layer), name)?;
+    }
+    Ok(())
+}
+
+/// The key of an area: each layer that is there, from the bottom up; where the key ends.
+fn draw_key(
+    sketch: &mut Sketch,
+    chart: Chart,
+    names: &Names,
+    columns: &Columns,
+    top: u64,
+) -> Result<u64, AllocError> {
+    let mut row = Row::at(top);
+    let mut left = KEYS;
+    for layer in 0..columns.layers {
+        if left > 0 && !is_empty(columns, chart.columns, layer) {
+            left = left.saturating_sub(1);
+            let (look, word, name) = look_of_layer(names, layer);
+            let text = layer_text(sketch, word, name)?;
+            row.make_room(text.len());
+            row.band(sketch, look, &text)?;
+        }
+    }
+    Ok(plus(row.y(), 16))
+}
+
+/// The least of 1, 2, 5, 10, 20 and so on of which at most five make up an amount.
+fn step_of(whole: u64) -> u64 {
+    let least = plus(whole, 4) / 5;
+    let mut unit = 1u64;
+    for _ in 0..19u64 {
+        for times in [1u64, 2, 5] {
+            let step = unit.saturating_mul(times);
+            if step >= least {
+                return step;
+            }
+        }
+        unit = unit.saturating_mul(10);
+    }
+    unit
+}
+
+/// An amount of a scale, which is short where the scale is of large ones.
+fn scale_text(alloc: Global, amount: u64, step: u64) -> Result<String, AllocError> {
+    if amount > 0 && step >= LARGE {
+        let units = amount / LARGE;
+        return format!(in alloc; "{units}e15");
+    }
+    format!(in alloc; "{amount}")
+}
+
+/// The scale of an area: amounts at its left, each with a line across.
+fn draw_scale(sketch: &mut Sketch, chart: Chart) -> Result<(), AllocError> {
+    let step = step_of(chart.whole);
+    for place in 0..6u64 {
+        if let Some(amount) = step.checked_mul(place) {
+            if amount <= chart.whole {
+                let y = chart.y(amount);
+                let text = scale_text(sketch.alloc(), amount, step)?;
+                let at = (minus(LEFT, 10), plus(y, 4));
+                sketch.line(Look::Grid, (LEFT, y), (RIGHT, y), b"")?;
+                sketch.text(Look::Small, at, Runs::Left, &[text.as_bytes()])?;
+            }
+        }
+    }
+    Ok(())
 }
 
 fn draw_heading(sketch: &mut Sketch, end: &AssetEnd, top: u64) -> Result<(), AllocError> {
@@ -378,7 +466,7 @@ fn draw_heading(sketch: &mut Sketch, end: &AssetEnd, top: u64) -> Result<(), All
     sketch.text(Look::Strong, at, Runs::Right, &[text.as_bytes()])
 }
 
-/// Draws the area of an asset, and says where it ends.
+/// Draws the area of an asset: where it ends.
 pub(crate) fn draw_area(
     sketch: &mut Sketch,
     frame: Frame,
@@ -411,6 +499,9 @@ pub(crate) fn draw_area(
         draw_layer(sketch, frame, chart, names, &columns, layer)?;
     }
     let bottom = plus(chart.top, HEIGHT);
-    sketch.line(Look::Rule, (LEFT, bottom), (RIGHT, bottom), b"")?;
-    Ok(plus(bottom, 12))
+    draw_scale(sketch, chart)?;
+    draw_time_lines(sketch, frame, &run.entries, chart.top, bottom)?;
+    draw_layer_names(sketch, frame, chart, names, &columns)?;
+    draw_numbers(sketch, frame, &run.entries, plus(bottom, 18))?;
+    draw_key(sketch, chart, names, &columns, plus(bottom, 36))
 }

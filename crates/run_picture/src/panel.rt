@@ -20,7 +20,7 @@ impl Lines {
     }
 }
 
-/// Places two texts in one line where they fit, and else in two.
+/// Puts two texts in one line where they fit, and else in two.
 fn put_both(
     sketch: &mut Sketch,
     lines: &mut Lines,
@@ -129,7 +129,7 @@ fn put_balance(
     put_both(sketch, lines, &paid, b" ", asset.as_bytes())
 }
 
-/// The persons of whom no line on shares shows it, with what they were paid.
+/// The persons without a line on shares, with what they were paid.
 fn put_paid(sketch: &mut Sketch, lines: &mut Lines, run: &Run) -> Result<(), AllocError> {
     for balance in &run.paid {
         let is_told = run.persons.iter().any(|person| person.name == balance.name
@@ -141,7 +141,7 @@ fn put_paid(sketch: &mut Sketch, lines: &mut Lines, run: &Run) -> Result<(), All
     Ok(())
 }
 
-/// Draws who ended with what, and says where it ends.
+/// Draws who ended with what: where it ends.
 pub(crate) fn draw_panel(sketch: &mut Sketch, run: &Run) -> Result<u64, AllocError> {
     let mut lines = Lines { y: TOP };
     let at = (PANEL, TOP);

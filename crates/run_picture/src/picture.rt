@@ -13,7 +13,7 @@ use crate::times::draw_times;
 use run_text::{Made, Run};
 use std::alloc::{AllocError, Global};
 
-/// Shapes, and how high they stand together.
+/// Shapes, and how high they are together.
 #[derive(Drop)]
 pub struct Picture {
     pub shapes: Vec<Shape>,
@@ -34,7 +34,7 @@ fn made_text(alloc: Global, made: Made) -> Result<String, AllocError> {
         Made::Hop { leaves, count } => {
             let s = plural(count);
             let end = if leaves { "an exit" } else { "a close" };
-            format!(in alloc; "A hop of {count} payment{s} and {end}")
+            format!(in alloc; "A route with {count} payment{s} and {end}")
         }
     }
 }
@@ -64,7 +64,7 @@ fn note_of(
     let mut note = String::new(alloc);
     let entries = run.end.entries;
     if run.made.is_some() {
-        note.push_str("The entries of a load or a hop aren't told. ")?;
+        note.push_str("The entries of a load or a route aren't printed. ")?;
     } else if drawn < entries {
         let more = format!(in alloc; "Marks are thinned: {drawn} of {entries} are drawn. ")?;
         note.push_str(more.as_str())?;
@@ -83,14 +83,10 @@ fn note_of(
 
 fn draw_head(sketch: &mut Sketch, run: &Run, title: &str, note: &str) -> Result<(), AllocError> {
     sketch.text(Look::Heading, (24, 36), Runs::Right, &[title.as_bytes()])?;
-    let at = (24, 58);
-    sketch.text(
-        Look::Small,
-        at,
-        Runs::Right,
-        &[b"Each mark tells its line. ", note.as_bytes()],
-    )?;
-    draw_legend(sketch, &run.entries, 86)
+    if !note.is_empty() {
+        sketch.text(Look::Small, (24, 58), Runs::Right, &[note.as_bytes()])?;
+    }
+    draw_legend(sketch, run, 86)
 }
 
 /// The money of each asset that has an area.

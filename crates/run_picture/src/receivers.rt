@@ -1,4 +1,4 @@
-//! Who was paid, where it isn't told. A text names the payer and the item, and not who is paid by it; but it says what
+//! Who was paid, where it isn't said. A text names the payer and the item, and not who is paid by it; but it says what
 //! each person was paid and what each channel holds, and so mostly leaves one way.
 
 use crate::flows::{Flow, Flows, Goes};
@@ -57,7 +57,7 @@ fn note_ends(totals: &mut [u64], run: &Run, names: &Names, asset: u64) {
     }
 }
 
-/// What everybody was paid by items: what it has at the end and has paid, but for what is told to have gone to it.
+/// What everybody was paid by items: what it has at the end and has paid, but for what is known to have gone to it.
 fn paid_by_items(
     alloc: Global,
     run: &Run,

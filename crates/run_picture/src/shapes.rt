@@ -6,7 +6,7 @@ use std::alloc::{AllocError, Global};
 use svg_words::Fill;
 
 /// How a shape looks.
-#[derive(Clone, Copy)]
+#[derive(Clone, Copy, PartialEq, Eq)]
 pub enum Look {
     Plain,
     Heading,
@@ -15,6 +15,8 @@ pub enum Look {
     Strong,
     Warning,
     Rule,
+    /// An amount, across an area.
+    Grid,
     TimeLine,
     Open,
     Challenged,
@@ -41,7 +43,8 @@ pub enum Run {
     /// It has its middle at its place.
     Both,
     Rising,
-    Falling,
+    /// It rises and ends at its place.
+    RisingTo,
 }
 
 /// Where a shape is. Places count from the upper left corner.
@@ -77,7 +80,7 @@ pub enum Form {
 pub struct Shape {
     pub form: Form,
     pub look: Look,
-    /// What is told of it; nothing where it is empty.
+    /// What a viewer shows of it; nothing where it is empty.
     pub title: Vec<u8>,
 }
 
@@ -107,6 +110,22 @@ impl Sketch {
 
     pub fn alloc(&self) -> Global {
         self.alloc
+    }
+
+    /// Whether a shape looks so.
+    pub fn has(&self, look: Look) -> bool {
+        self.shapes.iter().any(|shape| shape.look == look)
+    }
+
+    /// Whether a mark is of a call that was refused.
+    pub fn has_refusal(&self) -> bool {
+        self.shapes.iter().any(|shape| matches!(
+            shape.look,
+            Look::Mark {
+                fill: Fill::Hollow,
+                ..
+            }
+        ))
     }
 
     fn add(&mut self, form: Form, look: Look, title: &[u8]) -> Result<(), AllocError> {

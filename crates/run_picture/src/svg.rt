@@ -32,12 +32,12 @@ fn put_class(alloc: Global, out: &mut Vec<u8>, look: Look) -> Result<(), AllocEr
             return put(out, class.as_str());
         }
         Look::Held(layer) => {
-            let colour = layer % 4;
+            let colour = layer % 6;
             let class = format!(in alloc; "layer h{colour}")?;
             return put(out, class.as_str());
         }
         Look::Paid(layer) => {
-            let colour = layer % 4;
+            let colour = layer % 6;
             let class = format!(in alloc; "layer p{colour}")?;
             return put(out, class.as_str());
         }
@@ -48,6 +48,7 @@ fn put_class(alloc: Global, out: &mut Vec<u8>, look: Look) -> Result<(), AllocEr
         Look::Strong => "strong",
         Look::Warning => "warning",
         Look::Rule => "rule",
+        Look::Grid => "grid",
         Look::TimeLine => "time",
         Look::Open => "open",
         Look::Challenged => "challenged",
@@ -86,7 +87,9 @@ fn run_text(alloc: Global, x: u64, y: u64, run: Run) -> Result<String, AllocErro
         Run::Left => format!(in alloc; " text-anchor=\"end\""),
         Run::Both => format!(in alloc; " text-anchor=\"middle\""),
         Run::Rising => format!(in alloc; " transform=\"rotate(-33 {x} {y})\""),
-        Run::Falling => format!(in alloc; " transform=\"rotate(33 {x} {y})\""),
+        Run::RisingTo => {
+            format!(in alloc; " text-anchor=\"end\" transform=\"rotate(-33 {x} {y})\"")
+        }
     }
 }
 

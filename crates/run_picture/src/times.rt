@@ -1,51 +1,68 @@
 //! The entries' numbers, and the time entries.
 
-use crate::frame::{Frame, LEFT, RIGHT, Spaced, TOP};
+use crate::frame::{Frame, LEFT, RIGHT, Spaced, TOP, Texts};
 use crate::px::minus;
-use crate::shapes::{Look, Run as Runs, Sketch};
+use crate::shapes::{Look, Run as Runs, Sketch, joined};
 use run_text::{Call, Entry, Reply};
 use std::alloc::AllocError;
 
-fn draw_numbers(sketch: &mut Sketch, frame: Frame, entries: &[Entry]) -> Result<(), AllocError> {
-    let mut room = Spaced::by(36);
+/// The numbers of the entries, at a height, as far as they have room.
+pub(crate) fn draw_numbers(
+    sketch: &mut Sketch,
+    frame: Frame,
+    entries: &[Entry],
+    y: u64,
+) -> Result<(), AllocError> {
+    sketch.text(Look::Small, (minus(LEFT, 10), y), Runs::Left, &[b"entry"])?;
+    let mut room = Texts::new();
     for (at, entry) in entries.iter().enumerate() {
         let x = frame.middle(at);
-        if room.takes(x) {
-            let number = sketch.number(entry.number)?;
-            let place = (x, minus(TOP, 8));
-            sketch.text(Look::Small, place, Runs::Both, &[number.as_bytes()])?;
+        let number = sketch.number(entry.number)?;
+        if room.takes(x, number.len()) {
+            sketch.text(Look::Small, (x, y), Runs::Both, &[number.as_bytes()])?;
+        }
+    }
+    Ok(())
+}
+
+/// A dotted line at each entry that set the time, between two heights, as far as they have room.
+pub(crate) fn draw_time_lines(
+    sketch: &mut Sketch,
+    frame: Frame,
+    entries: &[Entry],
+    top: u64,
+    end: u64,
+) -> Result<(), AllocError> {
+    let mut room = Spaced::by(16);
+    for (at, entry) in entries.iter().enumerate() {
+        let x = frame.middle(at);
+        if let (Call::Time(_), Reply::Now(_)) = (entry.call, entry.reply) {
+            if room.takes(x) {
+                sketch.line(Look::TimeLine, (x, top), (x, end), entry.line)?;
+            }
         }
     }
     Ok(())
 }
 
 /// What a time entry says: the time, or the name of its refusal.
-fn draw_time_word(sketch: &mut Sketch, x: u64, to: u64, entry: &Entry) -> Result<(), AllocError> {
-    let place = (x, minus(TOP, 40));
+fn time_word(sketch: &Sketch, to: u64, entry: &Entry) -> Result<(Look, Vec<u8>), AllocError> {
     if let Reply::No(said) = entry.reply {
-        return sketch.text(Look::Warning, place, Runs::Both, &[said.name]);
+        return Ok((Look::Warning, joined(sketch.alloc(), &[said.name])?));
     }
     let to = sketch.number(to)?;
-    sketch.text(Look::Word, place, Runs::Both, &[b"time ", to.as_bytes()])
+    Ok((Look::Word, joined(sketch.alloc(), &[to.as_bytes()])?))
 }
 
-fn draw_time_line(sketch: &mut Sketch, x: u64, end: u64, entry: &Entry) -> Result<(), AllocError> {
-    match entry.reply {
-        Reply::Now(_) => sketch.line(Look::TimeLine, (x, TOP), (x, end), entry.line),
-        _ => Ok(()),
-    }
-}
-
-/// The lines and marks of the time entries, down to a height, as far as they have room: how many marks.
+/// The marks of the time entries and what they say, as far as they have room: how many marks.
 fn draw_time_entries(
     sketch: &mut Sketch,
     frame: Frame,
     entries: &[Entry],
-    end: u64,
 ) -> Result<u64, AllocError> {
     let radius = frame.radius();
     let mut marks = Spaced::by(minus(radius.saturating_mul(2), 1));
-    let mut words = Spaced::by(64);
+    let mut words = Texts::new();
     let mut drawn = 0u64;
     for (at, entry) in entries.iter().enumerate() {
         let x = frame.middle(at);
@@ -53,13 +70,10 @@ fn draw_time_entries(
             if marks.takes(x) {
                 drawn = drawn.saturating_add(1);
                 let top = minus(TOP, 27);
-                let has_word = words.takes(x);
-                if frame.has_words() || has_word {
-                    draw_time_line(sketch, x, end, entry)?;
-                }
                 sketch.mark(entry.by, &entry.reply, (x, top), radius, entry.line)?;
-                if has_word {
-                    draw_time_word(sketch, x, to, entry)?;
+                let (look, word) = time_word(sketch, to, entry)?;
+                if words.takes(x, word.len()) {
+                    sketch.text(look, (x, minus(TOP, 39)), Runs::Both, &[&word])?;
                 }
             }
         }
@@ -67,17 +81,20 @@ fn draw_time_entries(
     Ok(drawn)
 }
 
-/// Draws what stands above the lanes, and the lines of time over them.
+/// Draws what is above the lanes, and the lines of time over them: how many time entries have marks.
 pub(crate) fn draw_times(
     sketch: &mut Sketch,
     frame: Frame,
     entries: &[Entry],
     end: u64,
 ) -> Result<u64, AllocError> {
-    let at = minus(LEFT, 10);
-    sketch.text(Look::Small, (at, minus(TOP, 23)), Runs::Left, &[b"time"])?;
-    sketch.text(Look::Small, (at, minus(TOP, 8)), Runs::Left, &[b"entry"])?;
     sketch.line(Look::Rule, (LEFT, TOP), (RIGHT, TOP), b"")?;
-    draw_numbers(sketch, frame, entries)?;
-    draw_time_entries(sketch, frame, entries, end)
+    draw_numbers(sketch, frame, entries, minus(TOP, 8))?;
+    draw_time_lines(sketch, frame, entries, TOP, end)?;
+    let drawn = draw_time_entries(sketch, frame, entries)?;
+    if drawn > 0 {
+        let at = (minus(LEFT, 10), minus(TOP, 39));
+        sketch.text(Look::Small, at, Runs::Left, &[b"time"])?;
+    }
+    Ok(drawn)
 }

@@ -12,6 +12,7 @@ use Rattle.hop_script.specs.Hop.{hop_steps}
 use Rattle.network.specs.Ways.{Ways}
 use Rattle.network.specs.declared.command.Command.{Command}
 use Rattle.network_rounds.specs.Players.{Player}
+use Rattle.node_guarantees.specs.Ways.{ways as node_ways}
 use Rattle.report_text.specs.declared.report.Report.{Report}
 use Rattle.support_rules.specs.Real.{real}
 use Rattle.script_run.specs.Keeping.{Keeps}
@@ -122,3 +123,14 @@ module _ {P : Type 0} (ways : Ways P) where
     -- Words that ask for a route lead to it, and others to none, unless memory runs out or the sink fails.
     pub complete : ¬ (Rose k.faults_before k.faults_after)
         → (status ≡ routes.status_of (routes.wanted words)) ⊎ (status ≡ NoMemory)
+
+-- ---- the same, of the network's own node
+
+abbrev pub IsNodeRun : List Player → Given → Sunk → Status → Option Report → Type 0
+IsNodeRun cast g k status report = IsRun node_ways cast g k status report
+
+abbrev pub IsNodeRecording : List Player → Given → Sunk → Recorded → Type 0
+IsNodeRecording cast g k status = IsRecording node_ways cast g k status
+
+abbrev pub IsNodeRoute : List (List ℕ) → Sunk → Status → Option Report → Type 0
+IsNodeRoute words k status report = IsRoute node_ways words k status report

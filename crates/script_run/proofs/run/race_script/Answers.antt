@@ -14,7 +14,7 @@ returns-in-Err-Broken-clause-ends g c given asks taken done short =
 
 pub returns-in-Err-Full-clause-ends : goal.returns-in-Err-Full-clause-ends
 returns-in-Err-Full-clause-ends g c given asks taken done short =
-    full_race g.P.Party.ways _ given c.args.bytes.now taken done short asks _ c.without_report-in-Err-Full.result c.without_report-in-Err-Full.ensures (search rules)
+    full_race g.P.Party.ways _ given c.args.bytes.now taken done short asks c.in-Ok.script.steps c.without_report-in-Err-Full.result c.without_report-in-Err-Full.ensures (search rules)
 
 pub report_race-requires-clause-may_race : goal.report_race-requires-clause-may_race
 report_race-requires-clause-may_race g c κs within =
