@@ -161,7 +161,10 @@ def check_arrows(shapes):
     ends = {}
     for arrow in (s for s in shapes if s.tag == "line" and s.looks.startswith("arrow") and s.title):
         amount = re.search(r" ok paid (\d+)", arrow.title)[1]
-        x, bottom = arrow.get("x1"), arrow.get("y1") + (31 if arrow.get("y2") < arrow.get("y1") else 0)
+        # an arrow up begins above its band, but for that of a channel that pays itself
+        words = arrow.title.split()
+        is_above = arrow.get("y2") < arrow.get("y1") and words[-2:] != ["channel", words[3]]
+        x, bottom = arrow.get("x1"), arrow.get("y1") + (31 if is_above else 0)
         near = [s for s in shapes if s.looks == "word" and s.tag == "text" and s.get("x") == x + 4
                 and s.get("y") == bottom + 12 and s.text == amount]
         if near:
