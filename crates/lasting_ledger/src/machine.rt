@@ -9,7 +9,7 @@ ghost use Rattle.lasting_ledger.specs.Ledgers.{taken, unplayed};
 use crate::answers::{error_text, newest_answer, op_bytes};
 use crate::events::{Event, EventError, Invalid, read_event};
 use call_history::{Entry, every_legal_history_conserves};
-use lasting_lines::{Machine, Played};
+use lasting_lines::{Fault, Machine, Played};
 use network::Docket;
 use sequential_ledger::Ledger;
 use std::alloc::{AllocError, Global};
@@ -75,22 +75,22 @@ impl Machine for LedgerMachine {
         }
     }
 
-    fn step(&mut self, alloc: Global, line: &[u8]) -> Result<Vec<u8>, AllocError> {
+    fn step(&mut self, alloc: Global, line: &[u8]) -> Result<Vec<u8>, Fault> {
         let event = match read_event(alloc, line) {
             Ok(event) => event,
-            Err(EventError::NoMemory) => return Err(AllocError),
+            Err(EventError::NoMemory) => return Err(Fault::NoMemory),
             Err(EventError::Invalid(_)) => unreachable!(),
         };
         let Ok(op) = op_bytes(alloc, &event.op) else {
             drop(event);
-            return Err(AllocError);
+            return Err(Fault::NoMemory);
         };
         let Ok(()) = self.ledger.enter(event.by, event.op) else {
-            return Err(AllocError);
+            return Err(Fault::NoMemory);
         };
         match newest_answer(alloc, self.ledger.entries(), &op) {
             Ok(text) => Ok(text),
-            Err(_) => Err(AllocError),
+            Err(_) => Err(Fault::NoMemory),
         }
     }
 }

@@ -100,6 +100,7 @@ fn serving_status(served: Result<(), Fault>) -> Status
         Err(Fault::NoMemory) => Status::OutOfMemory,
         Err(Fault::Input) => Status::InputFailed,
         Err(Fault::Failed | Fault::Full) => Status::OutputFailed,
+        Err(Fault::Foreign) => Status::Foreign,
     }
 }
 

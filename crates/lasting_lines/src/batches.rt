@@ -8,7 +8,7 @@ use crate::machine::Machine;
 use crate::outside::Fault;
 use crate::played::{Given, Played};
 use crate::source::Source;
-use std::alloc::{AllocError, Global};
+use std::alloc::Global;
 
 /// Stands between two lines of a batch. No line of a source has it.
 pub const SEPARATOR: u8 = 30;
@@ -60,12 +60,12 @@ fn split_batch(batch: &[u8]) -> First<'_>
 }
 
 /// Takes the lines of a batch one after the other, and gives their answers; `None` where one of them isn't taken. Then,
-/// and after an `Err`, the machine is of no more use.
+/// and after an `Err`, which is `NoMemory` or the machine's, the machine is of no more use.
 pub(crate) fn step_all<M: Machine>(
     alloc: Global,
     machine: &mut M,
     batch: &[u8],
-) -> Result<Option<Vec<u8>>, AllocError>
+) -> Result<Option<Vec<u8>>, Fault>
     ensures takes { IfOk result (λ o. is_some o ≡ takes_all M.ways machine.old (parts batch.now)) }
     ensures next { IfOk result (λ o. OnSome o (machine.new ≡ next_all M.ways machine.old (parts batch.now))) }
     ensures owes { IfOk result (λ o. IfSome o (λ text.
@@ -87,7 +87,7 @@ pub(crate) fn step_all<M: Machine>(
 
 impl<M: Machine> Played<M> {
     // Takes the first line of a batch.
-    fn begin(&mut self, alloc: Global, line: &[u8]) -> Result<Batch, AllocError>
+    fn begin(&mut self, alloc: Global, line: &[u8]) -> Result<Batch, Fault>
         requires part { IsPart line.now }
         requires taken { M.ways.takes self.old.machine line.now ≡ true }
         ensures holds { IfOk result (λ b. Holds M.ways self.old self.new b.lines.items b.answer.items) }
@@ -99,7 +99,7 @@ impl<M: Machine> Played<M> {
     }
 
     // Takes one more line.
-    fn add(&mut self, alloc: Global, batch: &mut Batch, line: &[u8]) -> Result<(), AllocError>
+    fn add(&mut self, alloc: Global, batch: &mut Batch, line: &[u8]) -> Result<(), Fault>
         requires part { IsPart line.now }
         requires taken { M.ways.takes self.old.machine line.now ≡ true }
         ensures holds { OnOk result ((p : Played M)
@@ -114,7 +114,8 @@ impl<M: Machine> Played<M> {
         Ok(())
     }
 
-    /// Takes a line, and with it those after it that the source holds already, up to one that isn't taken.
+    /// Takes a line, and with it those after it that the source holds already, up to one that isn't taken. An `Err` at one
+    /// of them is that of all: none gets a record.
     pub(crate) fn gather<S: Source>(
         &mut self,
         alloc: Global,

@@ -3,7 +3,7 @@
 ghost use Rattle.std.specs.Prelude.{◌≡◌, ◌∷◌, List, OnOk, OnErr};
 ghost use Rattle.lasting_lines.specs.Files.{Op, MayAdd, Appended, Synced, Written, Aside};
 
-use std::alloc::AllocError;
+use std::alloc::{AllocError, AllocFailed};
 
 /// Why serving ended.
 #[derive(Clone, Copy, Debug, PartialEq, Eq)]
@@ -16,10 +16,18 @@ pub enum Fault {
     Failed,
     /// The file can't have more records.
     Full,
+    /// The line belongs to another story: what it says isn't what the machine finds. It is not kept, and the run ends.
+    Foreign,
 }
 
 impl From<AllocError> for Fault {
     fn from(_e: AllocError) -> Fault {
+        Fault::NoMemory
+    }
+}
+
+impl<T: Drop> From<AllocFailed<T>> for Fault {
+    fn from(_e: AllocFailed<T>) -> Fault {
         Fault::NoMemory
     }
 }

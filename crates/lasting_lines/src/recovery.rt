@@ -77,6 +77,7 @@ fn add_above(texts: &mut Vec<u8>, from: u64, number: u64, text: &[u8]) -> Result
 }
 
 /// Plays the records of a file over a new machine, and collects the responses to those with numbers above `from`.
+/// `Foreign` where the machine says so of a line in the file.
 pub fn recover<M: Machine + Drop>(
     alloc: Global,
     mut played: Played<M>,
