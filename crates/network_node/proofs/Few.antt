@@ -38,13 +38,15 @@ use Rattle.channel_node.specs.Nodes.{NodeOf, new_node, handled, signed, signed_i
 use Rattle.channel_node.specs.Openings.{opened_by, takes_part, adds, opened, virtual, parts_of}
 use Rattle.channel_node.specs.Playing.{Signing, SignerOf}
 use Rattle.channel_node.specs.Refusing.{message_refusal, command_refusal, open_refusal, signs_in}
-use Rattle.channel_node.specs.Answers.{SameJournal, HandleAnswers}
+use Rattle.channel_node.specs.Answers.{SameJournal, HandleAnswers, CommandAnswers}
 use Rattle.node_decisions.proofs.Taken.{has_room}
 use Rattle.stage_tables.specs.Stages.{stages}
 use Rattle.support_rules.specs.Real.{real}
 use Rattle.history_view.specs.Views.{view_of}
 use Rattle.node_guarantees.specs.Ways.{key_of}
+use Rattle.network_node.specs.Counts.{IsCounted}
 use Rattle.network_node.specs.Few.{KeepsFew, IsSmall, IsNode}
+use Rattle.network_node.proofs.Counted.{lost_counted, new_counted, commanded_counted}
 
 -- ---- what is known
 
@@ -253,11 +255,24 @@ new_small signer = λ kept. record { kept = omega arith; planned = omega arith }
 
 -- ---- the node with its key
 
-pub is_node : (key : List ℕ) (old new : NodeOf) → IsNode key old → new.signer ≡ old.signer → IsSmall new → IsNode key new
-is_node key old new was signer small = record { own = was.own ∙ ap key_of (sym signer); small = small }
+pub is_node : (key : List ℕ) (old new : NodeOf) → IsNode key old → new.signer ≡ old.signer → IsSmall new → IsCounted new → IsNode key new
+is_node key old new was signer small counted = record { own = was.own ∙ ap key_of (sym signer); small = small; counted = counted }
+
+-- a command that failed, or was refused
+pub failed_node : (key : List ℕ) (s : Signing) (step : ℕ) (command : Command) (old new : NodeOf) (fault : NodeFault) → CommandAnswers stages real s step command old new (Err fault)
+    → IsNode key old → new.signer ≡ old.signer → IsNode key new
+failed_node key s step command old new (Refused refusal) answer was signer =
+    is_node key old new was signer (commanded_small s step command old new answer.2 was.small) (commanded_counted s step command old new answer.2 was.counted)
+failed_node key s step command old new NoMemory answer was signer = is_node key old new was signer (lost_small new answer) (lost_counted new answer)
 
 pub lost_node : (key : List ℕ) (old new : NodeOf) → IsNode key old → new ≡ record old { is_lost = true } → IsNode key new
-lost_node key old new was is = is_node key old new was (ap (λ (n : NodeOf). n.signer) is) (lost_small new (ap (λ (n : NodeOf). n.is_lost) is))
+lost_node key old new was is =
+    is_node key old new was (ap (λ (n : NodeOf). n.signer) is) (lost_small new (ap (λ (n : NodeOf). n.is_lost) is))
+    (lost_counted new (ap (λ (n : NodeOf). n.is_lost) is))
 
 pub made_node : (key : List ℕ) (signer : SignerOf) (n : NodeOf) → n ≡ new_node signer → key ≡ key_of signer → IsNode key n
-made_node key signer n is own = record { own = own ∙ ap key_of (sym (ap (λ (k : NodeOf). k.signer) is)); small = subst IsSmall (sym is) (new_small signer) }
+made_node key signer n is own = record {
+  own = own ∙ ap key_of (sym (ap (λ (k : NodeOf). k.signer) is));
+  small = subst IsSmall (sym is) (new_small signer);
+  counted = subst IsCounted (sym is) (new_counted signer);
+}

@@ -5,7 +5,9 @@ ghost use Rattle.std.specs.List.{flat_map};
 ghost use Rattle.channel_store.specs.Keeping.{held_chain};
 ghost use Rattle.channel_store.specs.Noting.{refusal_of};
 ghost use Rattle.node_knowledge.specs.Owned.{AreOwned};
+ghost use Rattle.call_history.specs.Reading.{message_of};
 ghost use Rattle.channel_node.specs.Minds.{fresh, noted};
+ghost use Rattle.channel_node.specs.Refusing.{message_refusal};
 ghost use Rattle.stage_tables.specs.Stages.{stages};
 ghost use Rattle.node_guarantees.specs.Ways.{made_of, key_of};
 ghost use Rattle.lms_signatures.specs.Made.{made_bytes};
@@ -13,14 +15,16 @@ ghost use Rattle.lms_signatures.specs.Signing.{IsHeight};
 ghost use Rattle.support_rules.specs.Real.{real};
 
 use crate::seeing::can_see;
+use call_bytes::read_message;
 use call_history::{Call, Entry, HeldChain, NodeRefusal};
 use channel_node::{Knowing, OwnChallenge};
 use channel_values::{
-    Listed, Name, NoMemory, Signed, State, challenge_message, state_digest, state_message,
+    ByteFault, Listed, Name, NoMemory, Signed, State, challenge_message, state_digest,
+    state_message,
 };
 use lms_signatures::{SignFault, Signer};
 use network::Command;
-use node_decisions::{command_refusal, handle, paying, signable};
+use node_decisions::{command_refusal, handle, message_refusal, paying, signable};
 use node_knowledge::Known;
 use std::alloc::Global;
 use std::marker::Model;
@@ -61,6 +65,25 @@ impl Mind {
         ensures { result.now ≡ self.now.known }
     {
         &self.known
+    }
+
+    /// How often its signer can sign in all.
+    pub(crate) fn limit(&self) -> u32
+        ensures { result ≡ 2 ^ self.now.signer.h }
+    {
+        self.signer.limit()
+    }
+
+    /// Why a message of these bytes would be refused, if it would be.
+    pub(crate) fn refusal_of(&self, bytes: &[u8]) -> Result<Option<NodeRefusal>, NoMemory>
+        ensures { IfOk result (λ refusal.
+            refusal ≡ message_refusal stages real self.now.known (message_of bytes.now)) }
+    {
+        let read = read_message(self.known.view().channels.allocator(), bytes);
+        if let Err(ByteFault::NoMemory) = read {
+            return Err(NoMemory);
+        }
+        Ok(message_refusal(&self.known, &read))
     }
 
     /// The chains that it holds.

@@ -11,13 +11,15 @@ ghost use Rattle.fairness_laws.specs.Owning.{StandsOwning};
 ghost use Rattle.channel_node.specs.Exiting.{leaves};
 ghost use Rattle.node_guarantees.specs.Gains.{shares_known};
 ghost use Rattle.node_guarantees.specs.Ways.{ways};
+ghost use Rattle.network_node.specs.Counts.{times_signed};
 ghost use Rattle.network_node.specs.Notes.{note_if};
 ghost use Rattle.network_node.specs.Shares.{is_lost};
 ghost use Rattle.std.specs.Option.{option_map};
 
 use crate::mind::Mind;
 use crate::sharing::shares_known;
-use call_history::{Call, Entry, Event, HeldChain, Known, WorldView};
+use crate::signatures::times_signed;
+use call_history::{Call, Entry, Event, HeldChain, Known, NodeRefusal, WorldView};
 use channel_node::Knowing;
 use channel_values::{Key, Listed, NoMemory};
 use funding_plans::Plan;
@@ -138,6 +140,28 @@ impl Node {
         ensures { result.now ≡ (facts_of self.now.node.mind).known }
     {
         self.mind().store().known()
+    }
+
+    /// Why it would refuse a message of these bytes, if it would. The message isn't taken.
+    pub fn refusal_of(&self, bytes: &[u8]) -> Result<Option<NodeRefusal>, NoMemory>
+        ensures { IfOk result (λ refusal. refusal ≡ ways.refuses bytes.now self.now) }
+    {
+        self.node.mind().refusal_of(bytes)
+    }
+
+    /// How many signatures its journal has. Unless memory failed it, so many indices of its key are used.
+    pub fn used(&self) -> usize
+        ensures journal { result ≡ times_signed self.now.node.journal }
+        ensures used { self.now.node.is_lost ≡ false → result ≡ self.now.node.used }
+    {
+        times_signed(self.node.journal())
+    }
+
+    /// How many indices its key has.
+    pub fn limit(&self) -> u32
+        ensures { result ≡ 2 ^ self.now.node.signer.h }
+    {
+        self.node.mind().limit()
     }
 
     pub(crate) fn alloc(&self) -> Global {

@@ -157,6 +157,21 @@ fn waiting(alloc: Global) -> Result<(Node, Vec<u8>), Fail> {
     Ok((node, message))
 }
 
+/// Of a node that waits: how often its key has signed and can sign, and why it would refuse no bytes, and that message.
+fn asked(alloc: Global) -> Result<(usize, u32, [Option<NodeRefusal>; 2]), Fail> {
+    let (node, message) = waiting(alloc)?;
+    let nothing = node.refusal_of(&[])?;
+    let whole = node.refusal_of(&message)?;
+    Ok((node.used(), node.limit(), [nothing, whole]))
+}
+
+#[test]
+fn a_node_says_what_it_would_refuse(rt: HostRuntime) -> Result<(), Fail> {
+    let wanted = (1, 32, [Some(NodeRefusal::BadBytes), None]);
+    assert_eq!(rt; asked(rt.alloc())?, wanted);
+    Ok(())
+}
+
 /// How many parts, kept chains and known states the node has.
 fn sizes(node: &Node) -> (usize, usize, usize) {
     let parts = node.plan().parts.as_slice().len();
