@@ -4,7 +4,7 @@ use Rattle.std.specs.Str.{bytes_eq}
 use Rattle.byte_streams.specs.OutsideSource.{Rose}
 use Rattle.std.specs.Io.KnownBytes.{Consumes, IsAtEnd}
 use Rattle.run_text.specs.Lines.{line_feeds, IsInLines}
-use Rattle.run_text.specs.Unread.TheVariants.{Line}
+use Rattle.run_text.specs.declared.fault.Unread.TheVariants.{Line}
 use Rattle.run_record.specs.Reading.{record_of}
 use Rattle.picture.specs.declared.drawing.Undrawn.{Undrawn}
 use Rattle.picture.specs.declared.drawing.Undrawn.TheVariants as undrawn

@@ -1,2 +1,1 @@
-pub use Rattle.text_lines.specs.Lines
-pub use Rattle.text_lines.specs.declared.fault.Unread
+pub mod Lines

@@ -1,10 +1,10 @@
 //! Whether lines go on with what was read of a run, and whether that is whole.
 
+use crate::fault::{Untaken, Wanted};
 use crate::line::{ExitLine, Line, PersonLine};
 use crate::model::{AssetEnd, Balance, Call, End, Entry, PersonEnd, Reply, Run};
 use crate::stage::Stage;
 use std::alloc::Global;
-use text_lines::{Untaken, Wanted};
 
 /// What is deposited of an asset by the entries.
 fn deposited(entries: &[Entry], asset: u64) -> u64 {

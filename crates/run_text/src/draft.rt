@@ -1,11 +1,12 @@
 //! A run, line by line.
 
 use crate::checks::{check_line, check_stage, check_whole};
+use crate::fault::Untaken;
 use crate::line::{Line, read_line};
+use crate::line_reader::LineReader;
 use crate::model::{End, PersonAsset, PersonEnd, Premises, Run};
 use crate::stage::Stage;
 use std::alloc::{AllocError, Global};
-use text_lines::{LineReader, Untaken};
 
 /// What was read so far.
 #[derive(Drop)]

@@ -1,10 +1,10 @@
 //! The lines that are no entries.
 
+use crate::fault::Wanted;
 use crate::line::{ExitLine, Line, PersonLine};
 use crate::model::{AssetEnd, Balance, End, Made, Premises, Refused};
 use crate::refusals::read_node_refusal;
 use crate::words::Words;
-use text_lines::Wanted;
 
 /// `seed S count N`.
 fn read_load<'a>(words: &mut Words<'a>) -> Result<Line<'a>, Wanted> {

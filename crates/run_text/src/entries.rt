@@ -1,10 +1,10 @@
 //! The lines of entries.
 
+use crate::fault::Wanted;
 use crate::line::Line;
 use crate::model::{Call, Entry, Payee, Reply, TurnCall};
 use crate::refusals::read_refusal;
 use crate::words::Words;
-use text_lines::Wanted;
 
 fn read_deposit<'a>(words: &mut Words<'a>) -> Result<Call<'a>, Wanted> {
     let channel = words.name()?;

@@ -5,7 +5,10 @@ mod checks;
 mod draft;
 mod endings;
 mod entries;
+mod fault;
 mod line;
+mod line_reader;
+mod lines;
 mod model;
 mod reading;
 mod refusals;
@@ -13,9 +16,9 @@ mod stage;
 mod words;
 
 pub use entries::read_paying_entry;
+pub use fault::{LineFault, Unread, Wanted};
 pub use model::{
     AssetEnd, Balance, Call, End, Entry, Made, Payee, PersonAsset, PersonEnd, Premises, Refused,
     Reply, Run, Said, TurnCall,
 };
 pub use reading::read_run;
-pub use text_lines::{LineFault, Unread, Wanted};

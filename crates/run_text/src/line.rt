@@ -2,9 +2,9 @@
 
 use crate::endings::read_ending;
 use crate::entries::read_entry;
+use crate::fault::Wanted;
 use crate::model::{AssetEnd, Balance, End, Entry, Made, PersonAsset, Premises, Refused};
 use crate::words::Words;
-use text_lines::Wanted;
 
 /// What a person was paid, and its share, of an asset.
 #[derive(Clone, Copy)]

@@ -1,8 +1,8 @@
 //! Refusals: their numbers, names and values.
 
+use crate::fault::Wanted;
 use crate::model::Said;
 use crate::words::Words;
-use text_lines::Wanted;
 
 /// What stands after the name of a refusal.
 #[derive(Clone, Copy, PartialEq, Eq)]

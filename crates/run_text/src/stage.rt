@@ -1,7 +1,7 @@
 //! The order of the lines.
 
+use crate::fault::Wanted;
 use crate::line::Line;
-use text_lines::Wanted;
 
 /// Which lines were read last.
 #[derive(Clone, Copy, PartialEq, Eq)]

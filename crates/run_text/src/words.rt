@@ -1,6 +1,6 @@
 //! The words of a line, which are parted by one space.
 
-use text_lines::Wanted;
+use crate::fault::Wanted;
 
 /// The words that are left of a line: none after the last one was taken.
 #[derive(Clone, Copy)]

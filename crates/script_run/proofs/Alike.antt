@@ -17,7 +17,7 @@ use Rattle.network_rounds.specs.Players.{Player}
 use Rattle.script_run.specs.Run.{Given, IsCalm, EndsAlike, EndsAs, Comes, wanted, made_from}
 use Rattle.command_words.specs.declared.asking.Asked.{Asked}
 use Rattle.command_words.specs.declared.asking.Asked.TheVariants.{Run, Race, Load}
-use Rattle.load.specs.Load.{load_steps}
+use Rattle.script_run.specs.Load.{load_steps}
 use Rattle.script_run.specs.declared.run.Status.{Status}
 use Rattle.script_run.specs.declared.run.Status.TheVariants.{Done, NoMemory, Usage, Script, ReadFault, WriteFault, TooLong, Full}
 use Rattle.byte_streams.proofs.Known.{all_taken, no_more_taken}

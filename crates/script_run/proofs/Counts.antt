@@ -3,7 +3,7 @@ use Rattle.std.proofs.Common.{◌≡◌, ℕ, ◌≤◌, List, [], ◌∷◌, Bo
 use Rattle.std.specs.Prelude.{◌&&◌, nat_le, flat_map}
 use Rattle.std.specs.Str.{bytes_eq}
 use Rattle.std.proofs.lemmas.Bool.{leb-true}
-use Rattle.load.specs.Load.{are_two}
+use Rattle.script_run.specs.Load.{are_two}
 use Rattle.script_run.specs.Run.{playable, wanted}
 use Rattle.command_words.specs.Words.{number_of, load_of, parts_of, is_end, load_in, asked}
 use Rattle.command_words.specs.declared.asking.Asked.{Asked}

@@ -5,7 +5,7 @@ use Rattle.play_report.specs.Reported.{IsPlayed}
 use Rattle.report_text.specs.declared.report.Report.{Report}
 use Rattle.script_reader.specs.step.Step.{Step}
 use Rattle.command_words.specs.declared.asking.Asked.TheVariants.{Load}
-use Rattle.load.specs.Load.{load_steps}
+use Rattle.script_run.specs.Load.{load_steps}
 use Rattle.network_rounds.specs.Players.{Player}
 use Rattle.script_run.specs.Run.{Given, IsUnread, EndsAs, made_from, wanted}
 use Rattle.script_run.specs.declared.run.Status.TheVariants.{Done}

@@ -1,9 +1,9 @@
 -- The report of a load says that it paid what it says.
 use Rattle.std.proofs.Common.{◌≡◌, ℕ, Bool, true, false, cond, List, Option, Some, None, Result, Ok, Err, refl, sym, ap, subst}
 use Rattle.std.specs.Prelude.{IfOk, IfSome}
-use Rattle.load.proofs.Reports.{loads_pay}
-use Rattle.load.specs.Paying.{Pays}
-use Rattle.load.specs.Load.{are_two}
+use Rattle.script_run.proofs.Reports.{loads_pay}
+use Rattle.script_run.specs.Paying.{Pays}
+use Rattle.script_run.specs.Load.{are_two}
 use Rattle.node_guarantees.specs.Ways.{ways}
 use Rattle.report_text.specs.declared.report.Load.{Load as Note}
 use Rattle.report_text.specs.declared.report.Report.{Report}

@@ -10,7 +10,7 @@ use Rattle.report_text.specs.declared.report.Report.{Report}
 use Rattle.script_race.specs.Raced.{IsOfRace}
 use Rattle.script_steps.specs.declared.step.Step.{Step}
 use Rattle.step_meanings.specs.Commands.{command_of}
-use Rattle.load.specs.Load.{load_steps}
+use Rattle.script_run.specs.Load.{load_steps}
 use Rattle.command_words.specs.declared.asking.Asked.TheVariants.{Run, Race, Load}
 use Rattle.script_run.specs.Keeping.{Keeps}
 use Rattle.script_run.specs.Telling.{AreByRules, TellsPlay, TellsRace, TellsOf}

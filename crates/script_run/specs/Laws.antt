@@ -1,7 +1,7 @@
 -- What a checker finds of the record of a report.
 use Rattle.std.specs.Prelude.{◌≡◌, ℕ, true, List, Option, IfSome}
 use Rattle.call_history.specs.History.{Legal, newest_first}
-use Rattle.load.specs.Paying.{Pays}
+use Rattle.script_run.specs.Paying.{Pays}
 use Rattle.run_record.specs.Sound.{HasSums, IsSound}
 use Rattle.network.specs.Ways.{Ways}
 use Rattle.network.specs.declared.command.Command.{Command}

@@ -21,7 +21,7 @@ use Rattle.script_run.specs.declared.run.Status.TheVariants.{Done, NoMemory, Usa
 use Rattle.command_words.specs.Words.{asked}
 use Rattle.command_words.specs.declared.asking.Asked.{Asked}
 use Rattle.command_words.specs.declared.asking.Asked.TheVariants.{Run, Race, Load}
-use Rattle.load.specs.Load.{are_two, load_steps}
+use Rattle.script_run.specs.Load.{are_two, load_steps}
 
 -- the words and the source that a run was handed: what was left of it and its count of faults, before and after
 pub record Given : Type 0 where

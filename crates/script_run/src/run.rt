@@ -17,10 +17,11 @@ ghost use Rattle.script_run.specs.Laws.{IsLegalIn, PaysItsLoad};
 ghost use Rattle.script_run.specs.Promises.{IsRun, sunk};
 ghost use Rattle.script_run.specs.Run.{Given, IsUnread, given, code_of, wanted, EndsAs, rule_text, owed};
 
+use crate::fault::LoadFault;
+use crate::load::load_script;
 use byte_streams::{ReadEnd, Sink, Source, put_all, read_all};
 use channel_values::{Label, NoMemory};
 use command_words::{Asked, asked};
-use load::{LoadFault, load_script};
 use network_node::Node;
 use network_rounds::{Cast, RoundFault};
 use node_guarantees::ReportedNode;

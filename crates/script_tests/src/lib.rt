@@ -1,12 +1,10 @@
-//! Sources and scripts, whole and broken, and the scripts of loads.
+//! Sources and scripts, whole and broken.
 #![tactic(auto)]
 
 #[cfg(test)]
 mod broken;
 #[cfg(test)]
 mod limits;
-#[cfg(test)]
-mod loads;
 #[cfg(test)]
 mod payouts;
 #[cfg(test)]

@@ -1,5 +1,0 @@
-use Rattle.load.proofs.Rounds.{rounds_are_made}
-use Rattle.load.proofs.pair_play_laws.rounds_are_made.Goals as goal
-
-pub returns : goal.returns
-returns c = rounds_are_made

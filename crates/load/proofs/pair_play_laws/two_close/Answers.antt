@@ -1,5 +1,0 @@
-use Rattle.load.proofs.Phased.{two_close}
-use Rattle.load.proofs.pair_play_laws.two_close.Goals as goal
-
-pub returns : goal.returns
-returns c = two_close

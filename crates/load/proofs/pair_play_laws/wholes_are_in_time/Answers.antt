@@ -1,5 +1,0 @@
-use Rattle.load.proofs.Timely.{wholes_are_in_time}
-use Rattle.load.proofs.pair_play_laws.wholes_are_in_time.Goals as goal
-
-pub returns : goal.returns
-returns c = wholes_are_in_time
