@@ -121,6 +121,21 @@ pub fn run_from(alloc: Global, holding: Holding, file: &[u8], left: u32) -> Resu
     left_by(alloc, file, memory.calls())
 }
 
+/// How many bytes of records a run leaves that ends at a line of another story, the second; `None` where it ends otherwise.
+pub fn left_at_foreign(alloc: Global, holding: Holding) -> Result<Option<usize>, Fault> {
+    let mut memory = Memory::new(alloc, u32::MAX);
+    let mut played = fresh();
+    let mut lines = TextLines {
+        rest: b"a\n!\nbc\n",
+        holding,
+    };
+    let Err(Fault::Foreign) = run(alloc, &mut memory, &mut played, &[], &mut lines) else {
+        return Ok(None);
+    };
+    let left = left_by(alloc, &[], memory.calls())?;
+    Ok(Some(left.safe.len()))
+}
+
 /// Whether a run on this file writes the whole text, and leaves the whole file.
 fn is_restarted(alloc: Global, holding: Holding, file: &[u8], whole: &Left) -> Result<bool, Fault> {
     let left = run_from(alloc, holding, file, u32::MAX)?;

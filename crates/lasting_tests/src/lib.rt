@@ -1,8 +1,13 @@
-//! Tests of lines that last: a run fails at each call, and each file that a crash may leave is restarted.
+//! Tests of lines that last: a run fails at each call, and each file that a crash may leave is restarted. And what a node
+//! reads of lines.
 #![tactic(auto)]
 
 mod crashes;
 mod memory;
+#[cfg(test)]
+mod node_texts;
 mod tally;
 #[cfg(test)]
 mod tests;
+#[cfg(test)]
+mod told;

@@ -1,9 +1,10 @@
-//! A tiny machine: it answers each line with the number of bytes of all lines so far, and takes no empty line.
+//! A tiny machine: it answers each line with the number of bytes of all lines so far, and takes no empty line. The line `!`
+//! is of another story.
 
 ghost use Rattle.std.specs.Prelude.{◌≡◌, ◌+◌, ◌-◌, ◌^◌, ◌++◌, ◌∷◌, [], true, false, not, nat_lt};
 ghost use Rattle.std.specs.Prelude.{length, min, decimal, IfOk};
 
-use lasting_lines::Machine;
+use lasting_lines::{Fault, Machine};
 use std::alloc::{AllocError, Global};
 
 /// The bytes so far.
@@ -25,7 +26,10 @@ impl Machine for Tally {
         }
     }
 
-    fn step(&mut self, alloc: Global, line: &[u8]) -> Result<Vec<u8>, AllocError> {
+    fn step(&mut self, alloc: Global, line: &[u8]) -> Result<Vec<u8>, Fault> {
+        if let [b'!'] = line {
+            return Err(Fault::Foreign);
+        }
         self.total = self.total.saturating_add(line.len() as u64);
         let total = self.total;
         Ok(format!(in alloc; "{total}\n")?.into_bytes())

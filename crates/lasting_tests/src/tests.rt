@@ -1,6 +1,6 @@
 //! Crashes at each call, and a changed byte at each place.
 
-use crate::crashes::{Holding, are_restarted, found, run_from};
+use crate::crashes::{Holding, are_restarted, found, left_at_foreign, run_from};
 use std::test::Fail;
 
 /// A source, and one more than the calls of a run on it: one for the responses that were asked for, three for each record,
@@ -33,6 +33,16 @@ fn lines_share_a_record(rt: HostRuntime) -> Result<(), Fail> {
             .text
             .starts_with(b"1\n3\n{\"effect\":\"done\",\"n\":1,")
     );
+    Ok(())
+}
+
+/// A line of another story ends the run: neither it nor a line that would share its record is kept.
+#[test]
+fn a_line_of_another_story_ends_the_run(rt: HostRuntime) -> Result<(), Fail> {
+    let alloc = rt.alloc();
+    for (holding, kept) in [(Holding::One, 69), (Holding::All, 0)] {
+        assert_eq!(rt; left_at_foreign(alloc, holding)?, Some(kept));
+    }
     Ok(())
 }
 

@@ -1,0 +1,4 @@
+pub mod Many
+pub mod Json
+pub mod Two
+pub mod Words

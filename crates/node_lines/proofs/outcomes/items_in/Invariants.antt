@@ -1,0 +1,7 @@
+use Rattle.std.proofs.Common.{◌≡◌, [], drop}
+use Rattle.node_lines.specs.Outcomes.{item_of}
+use Rattle.node_lines.proofs.Many.{many_left}
+use Rattle.node_lines.proofs.outcomes.items_in.Given as goal
+
+abbrev pub invariant-loop-value : goal.invariant-loop-value
+invariant-loop-value l = many_left item_of l.items (drop l.value-index l.values) ≡ many_left item_of [] l.values
