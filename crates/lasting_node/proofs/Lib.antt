@@ -1,0 +1,13 @@
+pub mod Steps
+pub mod Histories
+pub mod Told
+pub mod Results
+pub mod Leaves
+pub mod Entries
+pub mod Standing
+pub mod Sent
+pub mod Called
+pub mod Resent
+pub mod Sending
+pub mod Lasting
+pub mod Values

@@ -1,0 +1,6 @@
+use Rattle.std.proofs.Common.{◌≡◌, take}
+use Rattle.lasting_node.specs.InFlight.{not_dropped}
+use Rattle.lasting_node.proofs.in_flight.not_dropped.Given as goal
+
+abbrev pub invariant-loop-w : goal.invariant-loop-w
+invariant-loop-w l = l.left.items ≡ not_dropped l.number (take l.w-index l.waiting)

@@ -1,0 +1,9 @@
+pub mod InFlight
+pub mod Reserves
+pub mod Effects
+pub mod Machines
+pub mod Taking
+pub mod Queries
+pub mod Runs
+pub mod Statuses
+pub mod Laws
