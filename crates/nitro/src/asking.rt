@@ -32,22 +32,24 @@ pub struct Request<'a> {
     pub file: Option<&'a str>,
 }
 
-/// The state file of a ledger, the number of the last event whose effects aren't printed again, and whether the file was moved.
+/// The state file of a service, the number of the last record whose effects aren't printed again, and whether the file
+/// was moved.
 #[derive(Clone, Copy, Drop)]
-pub struct LedgerRequest<'a> {
+pub struct StateRequest<'a> {
     pub state: &'a str,
     pub after: Option<u64>,
     pub is_moved: bool,
 }
 
-/// What words come to. A ledger is served by `main`, since its file takes the runtime of the system.
+/// What words come to. Ledgers and nodes are served by `main`, since their files take the runtime of the system.
 #[derive(Drop)]
 pub enum Wanted<'a> {
-    Ledger(LedgerRequest<'a>),
+    Ledger(StateRequest<'a>),
+    Node(StateRequest<'a>),
     Other(Asked<'a>),
 }
 
-/// What words come to that ask for no ledger.
+/// What words come to that ask for no service.
 #[derive(Drop)]
 pub enum Asked<'a> {
     Task(Request<'a>),
@@ -150,11 +152,15 @@ pub(crate) fn read_words<'a>(alloc: Global, words: &'a [&'a str]) -> Result<Want
         return Ok(Wanted::Other(Asked::Page(Page::by_word(word))));
     }
     if let Some(state) = own.get_str("state") {
-        return Ok(Wanted::Ledger(LedgerRequest {
+        let request = StateRequest {
             state,
             after: own.get_one::<u64>("after"),
             is_moved: own.get_flag("moved"),
-        }));
+        };
+        return Ok(match name {
+            "node" => Wanted::Node(request),
+            _ => Wanted::Ledger(request),
+        });
     }
     let Some(task) = task_of(name) else {
         return Ok(Wanted::Other(Asked::Version));

@@ -14,12 +14,13 @@ mod requests;
 mod table;
 mod telling;
 
-use asking::{Asked, LedgerRequest, Task, Wanted, read_words};
+use asking::{Asked, StateRequest, Task, Wanted, read_words};
 use byte_streams::{Sink, Source, StdSink, StdSource};
 use channel_values::NoMemory;
 use clap::Error;
 use doing::perform;
 use lasting_ledger::{Start, run_ledger};
+use lasting_node::{NodeStart, run_node};
 use pages::{Page, page_of};
 use requests::do_request;
 use std::alloc::Global;
@@ -79,13 +80,24 @@ fn print_page<R: Print>(rt: &R, alloc: Global, page: Page) -> Result<u8, NoMemor
 }
 
 /// Serves a ledger over its state file, with standard input and standard output, and gives the status that it ends with.
-fn serve(rt: &HostRuntime, request: &LedgerRequest) -> u8 {
+fn serve_ledger(rt: &HostRuntime, request: &StateRequest) -> u8 {
     let start = Start {
         path: request.state,
         after: request.after,
         moved: request.is_moved,
     };
     let ended = run_ledger(rt, &start, rt.stdin(), rt.stdout());
+    ended.status.code()
+}
+
+/// Serves a node over its state file, in the same way.
+fn serve_node(rt: &HostRuntime, request: &StateRequest) -> u8 {
+    let start = NodeStart {
+        path: request.state,
+        after: request.after,
+        moved: request.is_moved,
+    };
+    let ended = run_node(rt, &start, rt.stdin(), rt.stdout());
     ended.status.code()
 }
 
@@ -124,7 +136,8 @@ fn main(rt: HostRuntime) -> ExitCode {
         };
     }
     let asked = match read_words(alloc, &texts) {
-        Ok(Wanted::Ledger(request)) => return ExitCode::from(serve(&rt, &request)),
+        Ok(Wanted::Ledger(request)) => return ExitCode::from(serve_ledger(&rt, &request)),
+        Ok(Wanted::Node(request)) => return ExitCode::from(serve_node(&rt, &request)),
         Ok(Wanted::Other(asked)) => asked,
         Err(NoMemory) => return ExitCode::from(1),
     };

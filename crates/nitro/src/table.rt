@@ -10,9 +10,9 @@ const ABOUT: &str = "A state channel network on one machine: an exact simulator,
 const AFTER_HELP: &str = "\
 Exit status: 0 done; 1 out of memory; 2 wrong arguments; 3 the script, the text or the record is refused;
 4 the input can't be read; 5 the output can't be written; 6 the input has more than 4 MiB; 7 the record
-would be past the limits of its format. Of `ledger` also: 8 the state file is in use; 9 it is damaged; 10 it is
-another program's or version's, or was moved; 11 it has fewer records than --after says. Of a race also: 12 its
-history has no room for another entry.";
+would be past the limits of its format. Of `ledger` and `node` also: 8 the state file is in use; 9 it is damaged;
+10 it is another program's, version's or key's, or was moved; 11 it has fewer records than --after says. Of `node`
+also: 12 the reply of an entry isn't the adjudicator's. Of a race also: 12 its history has no room for another entry.";
 
 const SCRIPT: &str = "A script, one JSON text; without it, or with -, standard input is read";
 
@@ -20,6 +20,12 @@ const RECORD: &str = "A record; without it, or with -, standard input is read";
 
 const TEXT: &str =
     "What run, load or route printed, or a record; without it, or with -, standard input is read";
+
+const LEDGER: &str =
+    "Serve a ledger that survives crashes: one JSON event a line in, one JSON effect a line out";
+
+const NODE: &str =
+    "Serve a node that survives crashes: one JSON event a line in, one JSON effect a line out";
 
 const JSON: &str = "\
 Print each line as a JSON object with a version. What is proved of the text isn't proved of the JSON, beyond \
@@ -145,8 +151,8 @@ fn lint<'a>(alloc: Global) -> Result<Command<'a>, AllocError> {
         .arg(file(alloc, SCRIPT))
 }
 
-/// `ledger`, with its state file.
-fn ledger<'a>(alloc: Global) -> Result<Command<'a>, AllocError> {
+/// A service, with its state file.
+fn service<'a>(alloc: Global, name: &'a str, about: &'a str) -> Result<Command<'a>, AllocError> {
     let state = Arg::new(alloc, "state")
         .long("state")
         .value_name("FILE")
@@ -161,10 +167,8 @@ fn ledger<'a>(alloc: Global) -> Result<Command<'a>, AllocError> {
         .long("moved")
         .action(ArgAction::SetTrue)
         .help("Take a file that was moved: no other copy of it may be in use");
-    Command::new(alloc, "ledger")
-        .about(
-            "Serve a ledger that survives crashes: one JSON event a line in, one JSON effect a line out",
-        )
+    Command::new(alloc, name)
+        .about(about)
         .arg(state)?
         .arg(after)?
         .arg(moved)
@@ -206,7 +210,8 @@ pub(crate) fn program<'a>(alloc: Global) -> Result<Command<'a>, AllocError> {
         .subcommand(reader(alloc, "show", show, RECORD)?)?
         .subcommand(drawing(alloc)?)?
         .subcommand(lint(alloc)?)?
-        .subcommand(ledger(alloc)?)?
+        .subcommand(service(alloc, "ledger", LEDGER)?)?
+        .subcommand(service(alloc, "node", NODE)?)?
         .subcommand(page(alloc)?)?
         .subcommand(Command::new(alloc, "version").about("Print the version"))
 }
