@@ -26,7 +26,7 @@ use Rattle.channel_safety.proofs.Places.{inert}
 use Rattle.channel_safety.specs.Journals.{In, Line, is_followed, opened, some_if, told_in, noted_in}
 use Rattle.channel_safety.specs.Held.{note}
 use Rattle.network.specs.declared.command.Command.{Command}
-use Rattle.network.specs.declared.command.Command.TheVariants.{Open, OpenOn, OpenVirtual, Pay, Close, Exit}
+use Rattle.network.specs.declared.command.Command.TheVariants.{Open, OpenOn, OpenVirtual, Pay, Close, Release, Resend, Exit}
 use Rattle.channel_node.specs.Openings.{opened_by, place_among, takes_part, adds}
 use Rattle.channel_node.specs.Openings as openings
 use Rattle.channel_node.specs.Minds.{Mind, noted_message, with_opened, commanded_if, did}
@@ -158,6 +158,10 @@ module _ (r : Rules) (key : List ℕ) (f : FixedParts) (lines : List Line) where
   did-agrees seen (deeds.Commanded step None) (Some (Pay channel asset amount)) m st own there a =
       subst (Agree r key f lines (kept_of (r.named f) m.kept)) (sym (inert r f (record { seen = seen; deed = deeds.Commanded step None; adds = [] }) refl refl st)) a
   did-agrees seen (deeds.Commanded step None) (Some (Close channel)) m st own there a =
+      subst (Agree r key f lines (kept_of (r.named f) m.kept)) (sym (inert r f (record { seen = seen; deed = deeds.Commanded step None; adds = [] }) refl refl st)) a
+  did-agrees seen (deeds.Commanded step None) (Some (Release how channel)) m st own there a =
+      subst (Agree r key f lines (kept_of (r.named f) m.kept)) (sym (inert r f (record { seen = seen; deed = deeds.Commanded step None; adds = [] }) refl refl st)) a
+  did-agrees seen (deeds.Commanded step None) (Some (Resend channel)) m st own there a =
       subst (Agree r key f lines (kept_of (r.named f) m.kept)) (sym (inert r f (record { seen = seen; deed = deeds.Commanded step None; adds = [] }) refl refl st)) a
   did-agrees seen (deeds.Commanded step None) (Some Exit) m st own there a =
       subst (Agree r key f lines (kept_of (r.named f) m.kept)) (sym (inert r f (record { seen = seen; deed = deeds.Commanded step None; adds = [] }) refl refl st)) a

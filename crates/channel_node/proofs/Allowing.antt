@@ -32,7 +32,7 @@ use Rattle.channel_node.specs.Refusing.{is_open, stands_in, not_open, unfinished
 use Rattle.channel_node.specs.Tables.{Tables}
 use Rattle.channel_node.specs.Playing.{Signing, SignsWell, Allowed}
 use Rattle.network.specs.declared.command.Command.{Command}
-use Rattle.network.specs.declared.command.Command.TheVariants.{Open, OpenOn, OpenVirtual, Pay, Close, Exit}
+use Rattle.network.specs.declared.command.Command.TheVariants.{Open, OpenOn, OpenVirtual, Pay, Close, Release, Resend, Exit}
 use Rattle.channel_node.proofs.Agreeing.{IsOwn}
 
 -- ---- lines of a table
@@ -142,11 +142,11 @@ pub record SignsOwn (r : Rules) (m : Mind) (c : List ℕ) (t : Signed) : Type 0 
   pub own : mover (people extending.k.chain.fixed) t.state.turn ≡ extending.k.me
   pub stays_open : is_open (stands_in (facts_of m) c) ≡ true
 
-is-a-step : (r : Rules) (k : Kept) (s : StateParts) (latest : Option StateParts) → is_none (step_after r k s latest) ≡ true → is_step r k.chain.fixed s latest ≡ true
+pub is-a-step : (r : Rules) (k : Kept) (s : StateParts) (latest : Option StateParts) → is_none (step_after r k s latest) ≡ true → is_step r k.chain.fixed s latest ≡ true
 is-a-step r k s None e = refl
 is-a-step r k s (Some before) e = e
 
-none-is : {A : Type 0} (o : Option A) → is_some o ≡ false → is_none o ≡ true
+pub none-is : {A : Type 0} (o : Option A) → is_some o ≡ false → is_none o ≡ true
 none-is None e = refl
 none-is (Some x) e = absurd cc
 
@@ -322,6 +322,8 @@ module _ (ts : Tables) (r : Rules) (s : Signing) (signs-well : SignsWell r s) (p
   new-of (OpenVirtual v) e g i = open-new (OpenVirtual v) e
   new-of (Pay channel asset amount) e g i = absurd i
   new-of (Close channel) e g i = absurd i
+  new-of (Release how channel) e g i = absurd i
+  new-of (Resend channel) e g i = absurd i
   new-of Exit e g i = absurd i
 
   -- the channels of a command whose line opens this one

@@ -24,7 +24,7 @@ use Rattle.channel_node.specs.Playing.{Signing, Allowed, PlaysEvent}
 use Rattle.channel_node.specs.Refusing.{is_open, stands_in, wish_staying, if_signable, signs_of, signs_in}
 use Rattle.channel_node.specs.Tables.{Tables}
 use Rattle.network.specs.declared.command.Command.{Command}
-use Rattle.network.specs.declared.command.Command.TheVariants.{Open, OpenOn, OpenVirtual, Pay, Close, Exit}
+use Rattle.network.specs.declared.command.Command.TheVariants.{Open, OpenOn, OpenVirtual, Pay, Close, Release, Resend, Exit}
 use Rattle.channel_node.specs.Exits.{is_exit}
 
 -- ---- what the journal says
@@ -81,6 +81,8 @@ did-left r (deeds.Commanded step None) (Some (OpenOn o)) m = refl
 did-left r (deeds.Commanded step None) (Some (OpenVirtual v)) m = refl
 did-left r (deeds.Commanded step None) (Some (Pay channel asset amount)) m = refl
 did-left r (deeds.Commanded step None) (Some (Close channel)) m = refl
+did-left r (deeds.Commanded step None) (Some (Release how channel)) m = refl
+did-left r (deeds.Commanded step None) (Some (Resend channel)) m = refl
 did-left r (deeds.Commanded step None) (Some Exit) m = refl
 did-left r (deeds.Commanded step None) None m = refl
 did-left r (deeds.Commanded step (Some refusal)) None m = refl

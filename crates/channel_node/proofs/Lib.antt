@@ -23,3 +23,4 @@ pub mod Losing
 pub mod Wanting
 pub mod Opened
 pub mod Raced
+pub mod Resending

@@ -28,7 +28,7 @@ use Rattle.channel_store.specs.declared.kept.Kept.{Kept}
 use Rattle.channel_store.proofs.Keeping.{KeepsName, or_last, kept_here, kept_other, kept_append}
 use Rattle.channel_safety.specs.Journals.{In, Line, opened, some_if, told_in, noted_in}
 use Rattle.network.specs.declared.command.Command.{Command}
-use Rattle.network.specs.declared.command.Command.TheVariants.{Open, OpenOn, OpenVirtual, Pay, Close, Exit}
+use Rattle.network.specs.declared.command.Command.TheVariants.{Open, OpenOn, OpenVirtual, Pay, Close, Release, Resend, Exit}
 use Rattle.channel_node.specs.Openings.{adds}
 use Rattle.channel_node.specs.Openings as openings
 use Rattle.channel_node.specs.Minds.{Mind, fresh, shown_by, kept_seeing, saw, noted_message, with_opened, did}
@@ -147,6 +147,9 @@ module _ (r : Rules) (key : List ℕ) (lines : List Line) where
   did-opened seen (deeds.Commanded step None) (Some (Pay channel asset amount)) m there was = was
   did-opened seen (deeds.Commanded step None) (Some (Close channel)) m there was =
       record { own = was.own; each = was.each }
+  did-opened seen (deeds.Commanded step None) (Some (Release how channel)) m there was =
+      record { own = was.own; each = was.each }
+  did-opened seen (deeds.Commanded step None) (Some (Resend channel)) m there was = was
   did-opened seen (deeds.Commanded step None) (Some Exit) m there was = record { own = was.own; each = was.each }
   did-opened seen (deeds.Commanded step None) None m there was = was
   did-opened seen (deeds.Commanded step (Some refusal)) None m there was = was

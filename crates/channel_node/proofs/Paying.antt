@@ -31,7 +31,7 @@ use Rattle.funding_plans.specs.Shapes.{items_in}
 use Rattle.funding_plans.specs.declared.plan.Part.{Part}
 use Rattle.funding_plans.specs.declared.plan.Part.TheVariants.{Root, OnLedger, End, Middle}
 use Rattle.network.specs.declared.command.Command.{Command}
-use Rattle.network.specs.declared.command.Command.TheVariants.{Open, OpenOn, OpenVirtual, Pay, Close, Exit}
+use Rattle.network.specs.declared.command.Command.TheVariants.{Open, OpenOn, OpenVirtual, Pay, Close, Release, Resend, Exit}
 use Rattle.channel_node.proofs.Allowing.{first_none, rest_none, holds_not}
 use Rattle.channel_node.proofs.Keepers.{Waits, signs, asks}
 
@@ -77,7 +77,11 @@ stays-open ts f channel (p ∷ parts) e run = go (is_among channel (joined_of p)
 
 -- the state of a payment, which the node signs
 pub record Payable (ts : Tables) (r : Rules) (limit used : ℕ) (m : Mind) (channel : List ℕ) (asset amount : ℕ) : Type 0 where
+  pub k : Kept
+  pub keeps : kept_of channel m.kept ≡ Some k
+  pub can : can_sign r (facts_of m) channel k (paying m channel asset amount k) ≡ true
   pub state : StateParts
+  pub is : state ≡ paying m channel asset amount k
   pub signs : signs_in ts r (Some (Pay channel asset amount)) m channel ≡ Some state
   pub below : used < limit
 
@@ -87,7 +91,11 @@ payable ts r limit used m channel asset amount e = at (kept_of channel m.kept) r
     at : (o : Option Kept) → kept_of channel m.kept ≡ o → pay_refusal ts r limit used m channel asset amount o ≡ None → Payable ts r limit used m channel asset amount
     at None is e = absurd (none-eq _ (sym e))
     at (Some k) is e = record {
+      k = k;
+      keeps = is;
+      can = can;
       state = paying m channel asset amount k;
+      is = refl;
       signs = ap (signs_of ts r (Some (Pay channel asset amount)) m channel) is ∙ wished ∙ ap (λ (b : Bool). cond b (Some (paying m channel asset amount k)) None) can;
       below = le-false limit used (holds_not (nat_le limit used) (KeySpent used) (rest_none line4 line5 after3));
     }
@@ -187,6 +195,8 @@ module _ (ts : Tables) (r : Rules) (s : Signing) (h : List Entry) (legal : Legal
               → Waits ts r s h legal (paid_if ts r s None c (asked r s step c None n)) None
           by (Open f outcome) e a = a
           by (Close channel) e a = a
+          by (Release how channel) e a = a
+          by (Resend channel) e a = a
           by (OpenOn o) e a = a
           by (OpenVirtual v) e a = a
           by Exit e a = a

@@ -28,7 +28,7 @@ one-line : (t : Tables) (r : Rules) (bytes : List ℕ) (n : NodeOf) (refusal : N
     → handled t r bytes n ≡ with_refused bytes refusal n
 one-line t r bytes n refusal e = rw e refl
 
-refuses : (t : Tables) (r : Rules) (bytes : List ℕ) (refusal : NodeRefusal) (n : NodeOf) → message_refusal t r n.mind (message_of bytes) ≡ Some refusal
+pub refuses : (t : Tables) (r : Rules) (bytes : List ℕ) (refusal : NodeRefusal) (n : NodeOf) → message_refusal t r n.mind (message_of bytes) ≡ Some refusal
     → Refuses t r bytes refusal n
 refuses t r bytes refusal n e = record { told = e; left = one-line t r bytes n refusal e }
 

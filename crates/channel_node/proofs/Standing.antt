@@ -39,7 +39,7 @@ use Rattle.channel_store.specs.Keeping.{adopting}
 use Rattle.channel_node.specs.Minds.{Mind, fresh, shown_by, kept_seeing, saw, noted_message, did}
 use Rattle.channel_node.specs.Places.{Told, line_of, lines_of, slot, mind_at, AreFew}
 use Rattle.network.specs.declared.command.Command.{Command}
-use Rattle.network.specs.declared.command.Command.TheVariants.{OpenOn, OpenVirtual, Pay, Close, Exit}
+use Rattle.network.specs.declared.command.Command.TheVariants.{OpenOn, OpenVirtual, Pay, Close, Release, Resend, Exit}
 use Rattle.network.specs.declared.command.Command.TheVariants as commands
 use Rattle.channel_store.proofs.Keeping.{kept_here, kept_other}
 use Rattle.channel_node.proofs.Agreeing.{Agree, did-agrees}
@@ -138,6 +138,8 @@ did-view : (r : Rules) (deed : Deed) (command : Option Command) (m : Mind) → (
 did-view r (deeds.Commanded step None) (Some (commands.Open g outcome)) m = (refl, refl)
 did-view r (deeds.Commanded step None) (Some (Pay channel asset amount)) m = (refl, refl)
 did-view r (deeds.Commanded step None) (Some (Close channel)) m = (refl, refl)
+did-view r (deeds.Commanded step None) (Some (Release how channel)) m = (refl, refl)
+did-view r (deeds.Commanded step None) (Some (Resend channel)) m = (refl, refl)
 did-view r (deeds.Commanded step None) (Some (OpenOn o)) m = (refl, refl)
 did-view r (deeds.Commanded step None) (Some (OpenVirtual v)) m = (refl, refl)
 did-view r (deeds.Commanded step None) (Some Exit) m = (refl, refl)

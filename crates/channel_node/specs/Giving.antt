@@ -1,13 +1,18 @@
 -- What a node gives: the order of its channels, the messages of the states that it signs, and its calls.
-use Rattle.std.specs.Prelude.{ℕ, ◌+◌, Bool, true, false, nat_lt, List, [], ◌∷◌, ◌++◌, map, take, drop, Option, Some, None, Result, Ok, Err, if◌then◌else◌}
+use Rattle.std.specs.Prelude.{ℕ, ◌+◌, Bool, true, false, nat_lt, List, [], ◌∷◌, ◌++◌, map, take, drop, fold, Option, Some, None, Result, Ok, Err, if◌then◌else◌}
 use Rattle.std.specs.List.{flat_map}
 use Rattle.std.specs.Option.{option_or}
+use Rattle.std.specs.Str.{bytes_eq}
 use Rattle.channel_values.specs.Parts.{StateParts}
+use Rattle.channel_values.specs.declared.chain.Signed.{Signed}
 use Rattle.channel_values.specs.Messages.{message_of_state, message_of_challenge}
 use Rattle.channel_values.specs.Rules.{Rules}
 use Rattle.call_history.specs.Spelling.{message}
 use Rattle.call_history.specs.declared.call.Call.{Call}
 use Rattle.call_history.specs.Calls.{make_challenge}
+use Rattle.call_history.specs.declared.event.Deed.{Deed}
+use Rattle.call_history.specs.declared.event.Deed.TheVariants as deeds
+use Rattle.call_history.specs.declared.event.Event.{Event}
 use Rattle.call_history.specs.declared.event.NodeRefusal.{NodeRefusal}
 use Rattle.support_rules.specs.Steps.{persons}
 use Rattle.channel_store.specs.Storing.{kept_of}
@@ -16,7 +21,7 @@ use Rattle.funding_plans.specs.Parts.{joined_of}
 use Rattle.funding_plans.specs.declared.plan.Part.{Part}
 use Rattle.funding_plans.specs.declared.plan.Part.TheVariants.{Root}
 use Rattle.network.specs.declared.command.Command.{Command}
-use Rattle.network.specs.declared.command.Command.TheVariants.{Pay}
+use Rattle.network.specs.declared.command.Command.TheVariants.{Pay, Resend}
 use Rattle.network.specs.declared.outs.NodeFault.{NodeFault}
 use Rattle.network.specs.declared.outs.NodeFault.TheVariants.{Refused}
 use Rattle.network.specs.declared.outs.Outs.{Outs}
@@ -124,14 +129,32 @@ tick_gives t r s n =
 
 -- ---- a command
 
--- an accepted payment sends its state; no command calls anything
-abbrev pub paid_sends : Tables → Rules → Signing → Command → NodeOf → List (List ℕ × List ℕ)
-paid_sends t r s (Pay channel asset amount) n = sent_if r s channel (signs_in t r (Some (Pay channel asset amount)) n.mind channel) n
-paid_sends t r s command n = []
+-- what an event signed in a channel
+abbrev pub signed_here : List ℕ → Deed → Option Signed
+signed_here channel (deeds.Signed own state signature) = if bytes_eq own channel then Some (record { state = state; signature = signature }) else None
+signed_here channel deed = None
+
+-- the last state that a journal, in the order of time, signed in a channel
+abbrev pub last_signed : List ℕ → List Event → Option Signed
+last_signed channel events = fold (λ before e. option_or (signed_here channel e.deed) before) None events
+
+-- its messages
+abbrev pub sends_again : Mind → List ℕ → Option Signed → List (List ℕ × List ℕ)
+sends_again m channel None = []
+sends_again m channel (Some s) = sends_of m channel s.state s.signature
+
+abbrev pub resent : List ℕ → NodeOf → List (List ℕ × List ℕ)
+resent channel n = sends_again n.mind channel (last_signed channel n.journal)
+
+-- an accepted payment sends its state, and Resend the newest state that was signed; no command calls anything
+abbrev pub command_sends : Tables → Rules → Signing → Command → NodeOf → List (List ℕ × List ℕ)
+command_sends t r s (Pay channel asset amount) n = sent_if r s channel (signs_in t r (Some (Pay channel asset amount)) n.mind channel) n
+command_sends t r s (Resend channel) n = resent channel n
+command_sends t r s command n = []
 
 abbrev pub command_gives : Tables → Rules → Signing → ℕ → Command → NodeOf → Option NodeRefusal → Result Outs NodeFault
 command_gives t r s step command n (Some refusal) = Err (Refused refusal)
-command_gives t r s step command n None = Ok (record { sends = paid_sends t r s command (asked r s step command None n); calls = []; spent = None })
+command_gives t r s step command n None = Ok (record { sends = command_sends t r s command (asked r s step command None n); calls = []; spent = None })
 
 abbrev pub command_answers : Tables → Rules → Signing → ℕ → Command → NodeOf → Result Outs NodeFault
 command_answers t r s step command n = command_gives t r s step command n (command_refusal t r s.limit n.used n.mind command)

@@ -1,5 +1,5 @@
 -- What a node knows, and what entries, commands and states make of it.
-use Rattle.std.specs.Prelude.{ℕ, ◌==◌, Bool, true, false, List, [], ◌++◌, length, map, Option, Some, None, Result, Ok, Err, if◌then◌else◌}
+use Rattle.std.specs.Prelude.{ℕ, ◌==◌, ◌||◌, Bool, true, false, List, [], ◌++◌, length, map, Option, Some, None, Result, Ok, Err, if◌then◌else◌}
 use Rattle.std.specs.List.{flat_map, position_or_len}
 use Rattle.channel_values.specs.Parts.{FixedParts}
 use Rattle.channel_values.specs.declared.chain.Chain.{Chain}
@@ -30,7 +30,7 @@ use Rattle.funding_plans.specs.Parts.{channels_of}
 use Rattle.funding_plans.specs.declared.plan.Goal.{Goal}
 use Rattle.funding_plans.specs.declared.plan.Part.{Part}
 use Rattle.network.specs.declared.command.Command.{Command}
-use Rattle.network.specs.declared.command.Command.TheVariants.{Open, OpenOn, OpenVirtual, Pay, Close, Exit}
+use Rattle.network.specs.declared.command.Command.TheVariants.{Open, OpenOn, OpenVirtual, Pay, Close, Release, Resend, Exit}
 use Rattle.channel_node.specs.Openings.{adds, opened, parts_of, goals_of}
 
 -- Its key, what it opened and what was commanded of that, its view of the history, and what its store keeps; and whether it
@@ -102,16 +102,19 @@ with_opened r command m =
 abbrev pub place_with : List ℕ → List Part → ℕ
 place_with channel parts = position_or_len (λ part. is_among channel (channels_of part)) parts
 
-abbrev pub close_if : Bool → Goal → Goal
-close_if true goal = record goal { closing = true }
-close_if false goal = goal
+-- it closes; `lets` says that the participant lets go of it
+abbrev pub close_if : (lets : Bool) → Bool → Goal → Goal
+close_if lets true goal = record goal { closing = true; over = lets || goal.over }
+close_if lets false goal = goal
 
 abbrev pub commanded : Rules → Command → Mind → Mind
 commanded r (Open f outcome) m = with_opened r (Open f outcome) m
 commanded r (OpenOn o) m = with_opened r (OpenOn o) m
 commanded r (OpenVirtual v) m = with_opened r (OpenVirtual v) m
-commanded r (Close channel) m = record m { goals = map (λ goal. close_if (goal.part == place_with channel m.parts) goal) m.goals }
+commanded r (Close channel) m = record m { goals = map (λ goal. close_if false (goal.part == place_with channel m.parts) goal) m.goals }
+commanded r (Release how channel) m = record m { goals = map (λ goal. close_if true (goal.part == place_with channel m.parts) goal) m.goals }
 commanded r (Pay channel asset amount) m = m
+commanded r (Resend channel) m = m
 commanded r Exit m = record m { left = true }
 
 -- ---- events

@@ -97,7 +97,7 @@ shared f asset amounts =
     } ∷ []
 
 abbrev pub goal_with : ℕ → List AssetOutcome → (ℕ × ℕ) → Goal
-goal_with part opening amounts = record { part = part; opening = opening; amounts = amounts; closing = false }
+goal_with part opening amounts = record { part = part; opening = opening; amounts = amounts; closing = false; over = false }
 
 -- what is commanded of the part, which gets this place in the plan
 abbrev pub goals_of : ℕ → Command → List Goal

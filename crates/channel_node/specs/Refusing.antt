@@ -1,5 +1,5 @@
 -- Why a node refuses a message or a command: the first line that holds. And what it signs.
-use Rattle.std.specs.Prelude.{ℕ, ◌+◌, ◌-◌, ◌^◌, ◌==◌, Bool, true, false, ◌&&◌, ◌||◌, not, nat_lt, nat_le, List, [], ◌∷◌, length, map, slice_index_or, Option, Some, None, is_none, is_some, Result, Ok, Err, if◌then◌else◌}
+use Rattle.std.specs.Prelude.{ℕ, ◌+◌, ◌-◌, ◌^◌, ◌==◌, Bool, true, false, ◌&&◌, ◌||◌, not, nat_lt, nat_le, List, [], ◌∷◌, length, map, position, slice_index_or, Option, Some, None, is_none, is_some, Result, Ok, Err, if◌then◌else◌}
 use Rattle.std.specs.List.{find, list_all}
 use Rattle.std.specs.Str.{bytes_eq}
 use Rattle.channel_values.specs.Parts.{StateParts, state_with}
@@ -38,6 +38,7 @@ use Rattle.network.specs.declared.command.Command.TheVariants as commands
 use Rattle.channel_node.specs.Tables.{Tables}
 use Rattle.channel_node.specs.Openings.{opened_by, ledgers_for, are_apart}
 use Rattle.channel_node.specs.Minds.{Mind, facts_of, place_with}
+use Rattle.network.specs.declared.command.Release.{Release}
 
 -- the first of these that has a fault
 abbrev pub first_fault : {A E : Type 0} → (A → Option E) → List A → Option E
@@ -183,9 +184,24 @@ are_new m names = are_apart names && list_all (λ name. not (is_planned m name))
 abbrev pub can_open : Tables → Rules → Mind → Command → Bool
 can_open t r m command = t.fits (facts_of m) command && are_new m (map r.named (opened_by command))
 
--- each of these channels is in the plan
+-- what was commanded of the part that is about a channel
+abbrev pub goal_at : Option ℕ → List Goal → Option Goal
+goal_at None goals = None
+goal_at (Some part) goals = find (λ g. g.part == part) goals
+
+abbrev pub goal_about : Mind → List ℕ → Option Goal
+goal_about m name = goal_at (position (λ p. bytes_eq (own_channel p) name) m.parts) m.goals
+
+abbrev pub is_over : Option Goal → Bool
+is_over None = false
+is_over (Some g) = g.over
+
+-- each of these channels is in the plan, and the node didn't let go of it
+abbrev pub is_there : Mind → List ℕ → Bool
+is_there m name = is_among name (channels m.parts) && not (is_over (goal_about m name))
+
 abbrev pub are_planned : Mind → List (List ℕ) → Bool
-are_planned m names = list_all (λ name. is_among name (channels m.parts)) names
+are_planned m names = list_all (is_there m) names
 
 abbrev pub open_refusal : Tables → Rules → Mind → Command → Option NodeRefusal
 open_refusal t r m command =
@@ -212,6 +228,23 @@ close_part t m (Some part) =
     ⊳ not_running t (facts_of m) (Some part)
     ⊳ first_fault (standing_part t (facts_of m) (own_channel part)) m.parts
 
+-- ---- letting go
+
+-- it may be let go of this way, and on it no unclosed part stands; whether other channels are open doesn't matter
+abbrev pub release_part : Tables → Mind → Release → Option Part → Option NodeRefusal
+release_part t m how None = Some UnknownChannel
+release_part t m how (Some part) =
+    has_left m
+    ⊳ fault_if (not (t.releases (facts_of m) how part)) (NotWanted (t.stage (facts_of m) part))
+    ⊳ first_fault (standing_part t (facts_of m) (own_channel part)) m.parts
+
+-- ---- sending again
+
+-- the node signed a state in the channel
+abbrev pub resend_refusal : Tables → Mind → List ℕ → Option Kept → Option NodeRefusal
+resend_refusal t m channel None = Some UnknownChannel
+resend_refusal t m channel (Some k) = fault_if (is_none k.last) (NotWanted (stage_of t (facts_of m) (part_joined channel m.parts)))
+
 -- ---- commands
 
 -- with a key that signs `limit` times and has signed `used` times
@@ -221,6 +254,8 @@ command_refusal t r limit used m (commands.OpenOn o) = open_refusal t r m (comma
 command_refusal t r limit used m (commands.OpenVirtual v) = open_refusal t r m (commands.OpenVirtual v)
 command_refusal t r limit used m (commands.Pay channel asset amount) = pay_refusal t r limit used m channel asset amount (kept_of channel m.kept)
 command_refusal t r limit used m (commands.Close channel) = close_part t m (part_with channel m.parts)
+command_refusal t r limit used m (commands.Release how channel) = release_part t m how (part_with channel m.parts)
+command_refusal t r limit used m (commands.Resend channel) = resend_refusal t m channel (kept_of channel m.kept)
 command_refusal t r limit used m commands.Exit = None
 
 -- ---- what is signed

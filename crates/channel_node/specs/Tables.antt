@@ -5,6 +5,7 @@ use Rattle.call_history.specs.declared.call.Call.{Call}
 use Rattle.funding_plans.specs.Known.{FactsOf}
 use Rattle.funding_plans.specs.declared.plan.Part.{Part}
 use Rattle.network.specs.declared.command.Command.{Command}
+use Rattle.network.specs.declared.command.Release.{Release}
 
 -- What the tables say, by what a participant's facts are.
 pub record Tables : Type 0 where
@@ -23,3 +24,5 @@ pub record Tables : Type 0 where
   pub is_owed : FactsOf → Bool
   -- the fixed parts, people and amounts of a command that opens fit the facts
   pub fits : FactsOf → Command → Bool
+  -- the participant may let go of a part this way
+  pub releases : FactsOf → Release → Part → Bool

@@ -3,7 +3,7 @@
 ghost use Rattle.std.specs.Prelude.{◌≡◌, ◌≤◌, ◌++◌, [], ◌∷◌, length, List, true, false, None, IfOk, IfSome, OnOk, OnErr};
 ghost use Rattle.std.specs.List.{All};
 ghost use Rattle.std.specs.Option.{option_or};
-ghost use Rattle.channel_node.specs.Giving.{sent_if, spent_if, sent, spent, challenge_call, challenge_calls, spent_challenging, paid_sends, after_challenging, tick_gives, after_tick};
+ghost use Rattle.channel_node.specs.Giving.{sent_if, spent_if, sent, spent, challenge_call, challenge_calls, spent_challenging, command_sends, signed_here, last_signed, resent, after_challenging, tick_gives, after_tick};
 ghost use Rattle.channel_node.specs.Leaving.{challenge_in, MayCall};
 ghost use Rattle.call_history.specs.History.{Legal};
 ghost use Rattle.call_history.specs.Calls.{make_challenge};
@@ -12,7 +12,7 @@ ghost use Rattle.call_history.specs.Reading.{message_of};
 ghost use Rattle.channel_node.specs.Minds.{fresh};
 ghost use Rattle.channel_node.specs.Playing.{signing_of};
 ghost use Rattle.channel_node.specs.Refusing.{message_refusal, command_refusal, signs_in};
-ghost use Rattle.network.specs.declared.command.Command.TheVariants.{Pay};
+ghost use Rattle.network.specs.declared.command.Command.TheVariants.{Pay, Resend};
 ghost use Rattle.channel_node.specs.Nodes.{NodeOf, new_node, handled, asked, paid_if, signed_if, ticked, challenged_if, challenged_all, gave_one, gave, told_to, saw_one, watched, wrote_at};
 ghost use Rattle.channel_node.specs.Standing.{Stands, ComesNext, Looks};
 ghost use Rattle.channel_node.specs.Answers.{IsWanted, CommandAnswers, HandleAnswers, IsPartly, SameJournal, StandsPartly, StaysFor, StaysForAll};
@@ -63,6 +63,45 @@ fn add_challenged(all: &mut Challenged, more: Challenged) -> Result<(), NoMemory
     all.calls.append(&mut calls)?;
     all.spent = all.spent.or(spent);
     Ok(())
+}
+
+/// A state that the node signed, with its signature. Contracts see the values.
+#[derive(Drop)]
+struct OwnState<'a> {
+    state: &'a State,
+    signature: &'a Listed<u8>,
+}
+
+impl<'a> Model for OwnState<'a> {
+    ghost use Rattle.channel_values.specs.declared.chain.Signed.{Signed};
+
+    ghost Value = { Signed };
+
+    ghost view = { λ s. record { state = s.state.now; signature = s.signature.now } };
+}
+
+/// What an event signed in a channel.
+fn signed_here<'a>(channel: &Name, event: &'a Event) -> Option<OwnState<'a>>
+    ensures { result ≡ signed_here channel.now event.now.deed }
+{
+    match &event.deed {
+        Deed::Signed(own, state, signature) if own == channel => Some(OwnState {
+            state,
+            signature,
+        }),
+        _ => None,
+    }
+}
+
+/// The last state that a journal signed in a channel.
+fn last_signed<'a>(channel: &Name, events: &'a [Event]) -> Option<OwnState<'a>>
+    ensures { result ≡ last_signed channel.now events.now }
+{
+    let mut last = None;
+    for event in events {
+        last = signed_here(channel, event).or(last);
+    }
+    last
 }
 
 /// A node. After it answered that memory is gone it answers nothing else.
@@ -172,7 +211,7 @@ impl<M: Knowing + Drop> Node<M> {
         requires { command_refusal M.tables M.rules (signing_of self.old.signer).limit self.old.used self.old.mind
             (Pay channel.now asset amount) ≡ None }
         ensures sends { IfOk result (λ sent.
-            sent.sends.items ≡ paid_sends M.tables M.rules (signing_of self.old.signer)
+            sent.sends.items ≡ command_sends M.tables M.rules (signing_of self.old.signer)
             (Pay channel.now asset amount) self.old) }
         ensures ok { OnOk result (self.new
             ≡ paid_if M.tables M.rules (signing_of self.old.signer) None (Pay channel.now asset amount) self.old) }
@@ -195,7 +234,7 @@ impl<M: Knowing + Drop> Node<M> {
             (signing_of self.old.signer).limit self.old.used self.old.mind (Pay channel asset amount)) }
         ensures sends { IfOk result (λ told.
             told.refusal ≡ None → told.sends.items
-            ≡ paid_sends M.tables M.rules (signing_of self.old.signer) (Pay channel asset amount)
+            ≡ command_sends M.tables M.rules (signing_of self.old.signer) (Pay channel asset amount)
             (asked M.rules (signing_of self.old.signer) step (Pay channel asset amount) None self.old)) }
         ensures ok { IfOk result (λ told.
             self.new ≡ paid_if M.tables M.rules (signing_of self.old.signer) told.refusal (Pay channel asset amount)
@@ -235,6 +274,44 @@ impl<M: Knowing + Drop> Node<M> {
         }
     }
 
+    /// The messages of the last state that the node signed in a channel.
+    fn resent(&self, channel: &Name) -> Result<Vec<(Name, Listed<u8>)>, NoMemory>
+        ensures { IfOk result (λ sends. sends.items ≡ resent channel.now self.now) }
+    {
+        match last_signed(channel, self.journal.as_slice()) {
+            None => Ok(Vec::new(*self.journal.allocator())),
+            Some(signed) => {
+                self.mind
+                    .messages(channel, signed.state, signed.signature.as_slice())
+            }
+        }
+    }
+
+    fn resend_now(&mut self, step: u32, channel: Name) -> Result<Answered, NoMemory>
+        ensures refusal { IfOk result (λ told.
+            told.refusal ≡ command_refusal M.tables M.rules
+            (signing_of self.old.signer).limit self.old.used self.old.mind (Resend channel)) }
+        ensures sends { IfOk result (λ told.
+            told.refusal ≡ None → told.sends.items
+            ≡ command_sends M.tables M.rules (signing_of self.old.signer) (Resend channel)
+            (asked M.rules (signing_of self.old.signer) step (Resend channel) None self.old)) }
+        ensures ok { IfOk result (λ told.
+            self.new ≡ asked M.rules (signing_of self.old.signer) step (Resend channel) told.refusal self.old) }
+        ensures err { OnErr result (IsPartly M.tables M.rules (signing_of self.old.signer) step
+            (Resend channel) self.old self.new) }
+        ensures signer { self.new.signer ≡ self.old.signer }
+    {
+        let refusal = self.take_up(step, Command::Resend { channel })?;
+        if refusal.is_some() {
+            return Ok(self.quiet(refusal));
+        }
+        let sends = self.resent(&channel)?;
+        Ok(Answered {
+            refusal: None,
+            sends,
+        })
+    }
+
     fn take_up_quietly(&mut self, step: u32, command: Command) -> Result<Answered, NoMemory>
         ensures refusal { IfOk result (λ told.
             told.refusal ≡ command_refusal M.tables M.rules
@@ -255,7 +332,7 @@ impl<M: Knowing + Drop> Node<M> {
             (signing_of self.old.signer).limit self.old.used self.old.mind command) }
         ensures sends { IfOk result (λ told.
             told.refusal ≡ None → told.sends.items
-            ≡ paid_sends M.tables M.rules (signing_of self.old.signer) command
+            ≡ command_sends M.tables M.rules (signing_of self.old.signer) command
             (asked M.rules (signing_of self.old.signer) step command None self.old)) }
         ensures ok { IfOk result (λ told.
             self.new ≡ told_to M.tables M.rules (signing_of self.old.signer) step command self.old) }
@@ -277,6 +354,10 @@ impl<M: Knowing + Drop> Node<M> {
                 self.take_up_quietly(step, Command::OpenVirtual(funding))
             }
             Command::Close { channel } => self.take_up_quietly(step, Command::Close { channel }),
+            Command::Release { how, channel } => {
+                self.take_up_quietly(step, Command::Release { how, channel })
+            }
+            Command::Resend { channel } => self.resend_now(step, channel),
             Command::Exit => self.take_up_quietly(step, Command::Exit),
         }
     }
@@ -306,6 +387,13 @@ impl<M: Knowing + Drop> Node<M> {
                 }),
             },
         }
+    }
+
+    /// How often its key has signed.
+    pub fn used(&self) -> u32
+        ensures { result ≡ self.now.used }
+    {
+        self.mind.used()
     }
 
     fn see_now(&mut self, entry: &Entry) -> Result<(), NoMemory>

@@ -1,7 +1,7 @@
 -- What the plan was when a command was accepted.
-use Rattle.std.proofs.Common.{◌≡◌, ℕ, ◌^◌, Bool, true, ◌&&◌, not, List, refl, sym, subst}
+use Rattle.std.proofs.Common.{◌≡◌, ℕ, ◌^◌, Bool, true, false, ◌&&◌, not, List, refl, sym, subst}
 use Rattle.std.specs.Prelude.{◌==◌, nat_lt, Option, Some, None}
-use Rattle.channel_safety.proofs.Tests.{none-eq, and-left, not-false, eqb-true}
+use Rattle.channel_safety.proofs.Tests.{none-eq, and-left, not-false, clash, eqb-true}
 use Rattle.call_history.specs.Flows.{is_among}
 use Rattle.call_history.specs.declared.entry.Entry.{Entry}
 use Rattle.call_history.specs.declared.event.Deed.{Deed}
@@ -22,12 +22,17 @@ use Rattle.network.specs.declared.command.Command.TheVariants as commands
 use Rattle.channel_node.proofs.Allowing.{first_none, rest_none, holds_not}
 use Rattle.channel_node.specs.Minds.{Mind, facts_of}
 use Rattle.channel_node.specs.Playing.{Signing, payment_in, Allowed}
-use Rattle.channel_node.specs.Refusing.{not_open, unfinished, has_left, not_running, part_with, part_joined, close_part, standing_part, pay_refusal, is_payable, latest_outcome}
+use Rattle.channel_node.specs.Refusing.{not_open, unfinished, has_left, not_running, part_with, part_joined, close_part, release_part, standing_part, pay_refusal, is_payable, latest_outcome}
 use Rattle.stage_tables.specs.Stages.{stages}
 use Rattle.channel_store.proofs.Places.{found_passes}
 use Rattle.support_rules.specs.Real.{real}
 use Rattle.fairness_laws.proofs.Closing.{find-in}
 use Rattle.fairness_laws.proofs.Live.{each-none}
+use Rattle.funding_plans.specs.Known.{FactsOf}
+use Rattle.funding_plans.specs.declared.plan.Part.TheVariants as kinds
+use Rattle.funding_plans.specs.declared.plan.Virtual.{Virtual}
+use Rattle.network.specs.declared.command.Release.{Release}
+use Rattle.network.specs.declared.command.Release.TheVariants.{Settle, Abandon}
 
 -- a part that isn't refused runs
 runs-so : (m : Mind) (p : Part) → not_running stages (facts_of m) (Some p) ≡ None → (stages.stage (facts_of m) p == running p) ≡ true
@@ -60,6 +65,49 @@ closed m channel taken = go (part_with channel m.parts) refl taken
           standing = each-none (standing_part stages (facts_of m) (own_channel q)) m.parts (rest_none (not_running stages (facts_of m) (Some q)) _ after-unfinished);
         }
 
+-- ---- an accepted Release
+
+-- the part of which the node lets go, which it may; and no part stands on the channel and isn't closed
+pub record LetGo (m : Mind) (channel : List ℕ) : Type 0 where
+  pub part : Part
+  pub found : part_with channel m.parts ≡ Some part
+  pub how : Release
+  pub may : stages.releases (facts_of m) how part ≡ true
+  pub standing : (p : Part) → In p m.parts → standing_part stages (facts_of m) (own_channel part) p ≡ None
+
+pub let-go : (m : Mind) (channel : List ℕ) (how : Release) → None ≡ release_part stages m how (part_with channel m.parts) → LetGo m channel
+let-go m channel how taken = go (part_with channel m.parts) refl taken
+  where
+    go : (o : Option Part) → part_with channel m.parts ≡ o → None ≡ release_part stages m how o → LetGo m channel
+    go None is e = absurd (none-eq _ e)
+    go (Some q) is e =
+        let after-left = rest_none (has_left m) _ (sym e) in
+        let test = fault_if (not (stages.releases (facts_of m) how q)) (NotWanted (stages.stage (facts_of m) q)) in
+        record {
+          part = q;
+          found = is;
+          how = how;
+          may = not-false (stages.releases (facts_of m) how q)
+              (holds_not (not (stages.releases (facts_of m) how q)) (NotWanted (stages.stage (facts_of m) q)) (first_none test _ after-left));
+          standing = each-none (standing_part stages (facts_of m) (own_channel q)) m.parts (rest_none test _ after-left);
+        }
+
+-- the node lets go of no other part than a root
+abbrev pub IsKept : FactsOf → Part → Type 0
+IsKept f p = (how : Release) → stages.releases f how p ≡ true → ⊥
+
+pub kept-on-ledger : (f : FactsOf) (l c : List ℕ) → IsKept f (kinds.OnLedger l c)
+kept-on-ledger f l c Settle e = clash false e refl
+kept-on-ledger f l c Abandon e = clash false e refl
+
+pub kept-end : (f : FactsOf) (v : Virtual) → IsKept f (kinds.End v)
+kept-end f v Settle e = clash false e refl
+kept-end f v Abandon e = clash false e refl
+
+pub kept-middle : (f : FactsOf) (v : Virtual) → IsKept f (kinds.Middle v)
+kept-middle f v Settle e = clash false e refl
+kept-middle f v Abandon e = clash false e refl
+
 -- ---- an accepted payment
 
 -- the event by which it was accepted
@@ -74,6 +122,8 @@ paid-by (deeds.Commanded step None) (Some (commands.Open f outcome)) paid asset 
 paid-by (deeds.Commanded step None) (Some (commands.OpenOn o)) paid asset amount e = absurd (none-eq _ e)
 paid-by (deeds.Commanded step None) (Some (commands.OpenVirtual v)) paid asset amount e = absurd (none-eq _ e)
 paid-by (deeds.Commanded step None) (Some (commands.Close c)) paid asset amount e = absurd (none-eq _ e)
+paid-by (deeds.Commanded step None) (Some (commands.Release how c)) paid asset amount e = absurd (none-eq _ e)
+paid-by (deeds.Commanded step None) (Some (commands.Resend c)) paid asset amount e = absurd (none-eq _ e)
 paid-by (deeds.Commanded step None) (Some commands.Exit) paid asset amount e = absurd (none-eq _ e)
 paid-by (deeds.Commanded step None) None paid asset amount e = absurd (none-eq _ e)
 paid-by (deeds.Commanded step (Some refusal)) o paid asset amount e = absurd (none-eq _ e)

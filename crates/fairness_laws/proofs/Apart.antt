@@ -167,6 +167,8 @@ command-apart t r s used m (commands.OpenVirtual v) e apart =
     opens-apart r m (commands.OpenVirtual v) (accepted-new t r m (commands.OpenVirtual v) e) apart
 command-apart t r s used m (commands.Pay channel asset amount) e apart = apart
 command-apart t r s used m (commands.Close channel) e apart = apart
+command-apart t r s used m (commands.Release how channel) e apart = apart
+command-apart t r s used m (commands.Resend channel) e apart = apart
 command-apart t r s used m commands.Exit e apart = apart
 
 event-apart : (t : Tables) (r : Rules) (s : Signing) (past : List Entry) (used : ℕ) (waits : Option Command) (deed : Deed) (command : Option Command) (m : Mind)

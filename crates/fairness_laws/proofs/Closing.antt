@@ -21,7 +21,7 @@ use Rattle.channel_store.specs.declared.kept.Kept.{Kept}
 use Rattle.funding_plans.specs.Parts.{own_channel, channels_of, running}
 use Rattle.funding_plans.specs.declared.plan.Goal.{Goal}
 use Rattle.funding_plans.specs.declared.plan.Part.{Part}
-use Rattle.funding_plans.specs.declared.plan.Part.TheVariants.{Root}
+use Rattle.funding_plans.specs.declared.plan.Part.TheVariants.{Root, OnLedger, End, Middle}
 use Rattle.funding_plans.specs.Gathered as gathered
 use Rattle.funding_plans.specs.Rows.{stage_in}
 use Rattle.funding_plans.specs.Seats.{holds, state_is, is_set_up}
@@ -40,7 +40,7 @@ use Rattle.channel_node.specs.Minds.{Mind, facts_of, place_with, close_if, did}
 use Rattle.channel_node.specs.Openings.{parts_of, goals_of, are_apart}
 use Rattle.channel_node.specs.Places.{Told, line_of, lines_of, mind_at, AreFew}
 use Rattle.channel_node.specs.Playing.{Signing, signings, pending, Plays}
-use Rattle.channel_node.specs.Refusing.{not_open, unfinished, has_left, not_running, part_with, close_part}
+use Rattle.channel_node.specs.Refusing.{not_open, unfinished, has_left, not_running, part_with, close_part, release_part}
 use Rattle.fairness_laws.specs.Table.{stages}
 use Rattle.channel_store.proofs.Places.{found_at_place, found_passes}
 use Rattle.channel_safety.proofs.Tests.{some-eq, none-eq, or-right, not-false, clash, lt-true, le-true, eqb-true}
@@ -58,7 +58,10 @@ use Rattle.fairness_laws.proofs.Finding.{names, held_of, passes, chain-found, as
 use Rattle.fairness_laws.proofs.RootWishes.{seat, as-many, direct-found}
 use Rattle.fairness_laws.proofs.Apart.{kept-apart}
 use Rattle.fairness_laws.proofs.Over.{Seen, AtEvent, over, looked}
-use Rattle.fairness_laws.proofs.Planned.{Change, stays, opens, closes, event-changes, Planned, is-planned, new-goal, root-is}
+use Rattle.fairness_laws.proofs.Planned.{Change, stays, opens, closes, event-changes, Planned, is-planned, new-goal, root-is, IsShut}
+use Rattle.channel_values.specs.Words.{fault_if}
+use Rattle.network.specs.declared.command.Release.{Release}
+use Rattle.network.specs.declared.command.Release.TheVariants.{Settle, Abandon}
 
 -- ---- the stage in which a root runs
 
@@ -79,7 +82,7 @@ three true true true true n e = absurd (not-three (suc (suc (suc (suc n)))) e (�
 posts : (d : Direct) → (stage_in (root_rows d) == 3) ≡ true → holds (2 * direct.people d - 1) d.channel ≡ true
 posts d e =
     let t = three (d.closing || is_set_up d.channel) (d.closing || is_funded d || holds (direct.people d) d.channel) (d.closing || holds (2 * direct.people d - 1) d.channel) d.closing
-    (cond d.channel.all_final (suc (cond (is_final d.standing && not (is_any_due d)) (suc 0) 0)) 0) e in
+    (cond (d.over || d.channel.all_final) (suc (cond (d.over || (is_final d.standing && not (is_any_due d))) (suc 0) 0)) 0) e in
     or-right d.closing (holds (2 * direct.people d - 1) d.channel) t.posted t.runs
 
 -- the latest state that is kept has this turn or more
@@ -168,6 +171,32 @@ closing-runs m channel p e =
     (holds_not (not (stages.stage (facts_of m) p == running p)) (NotWanted (stages.stage (facts_of m) p))
     (first_none (not_running stages (facts_of m) (Some p)) _ after-unfinished))
 
+-- ---- letting go
+
+-- the participant let go of the part: of a channel that holds its own funds alone
+abbrev pub lets_go : Part → Goal → Bool
+lets_go (Root c) g = g.over
+lets_go _ g = false
+
+-- only of a channel that holds its own funds
+let-go : (m : Mind) (p : Part) (how : Release) → None ≡ release_part stages m how (Some p) → (g : Goal) → g.over ≡ true → lets_go p g ≡ false → ⊥
+let-go m p how e g is held-on = by p how may is held-on
+  where
+    may : stages.releases (facts_of m) how p ≡ true
+    may =
+        not-false (stages.releases (facts_of m) how p)
+        (holds_not (not (stages.releases (facts_of m) how p)) (NotWanted (stages.stage (facts_of m) p))
+        (first_none (fault_if (not (stages.releases (facts_of m) how p)) (NotWanted (stages.stage (facts_of m) p))) _ (rest_none (has_left m) _ (sym e))))
+
+    by : (p : Part) (how : Release) → stages.releases (facts_of m) how p ≡ true → g.over ≡ true → lets_go p g ≡ false → ⊥
+    by (Root c) how may is held-on = clash g.over is held-on
+    by (OnLedger l c) Settle may is held-on = clash false may refl
+    by (OnLedger l c) Abandon may is held-on = clash false may refl
+    by (End v) Settle may is held-on = clash false may refl
+    by (End v) Abandon may is held-on = clash false may refl
+    by (Middle v) Settle may is held-on = clash false may refl
+    by (Middle v) Abandon may is held-on = clash false may refl
+
 -- ---- the goal of a channel
 
 pub find-in : {A : Type 0} (test : A → Bool) (xs : List A) (x : A) → find test xs ≡ Some x → In x xs
@@ -204,43 +233,47 @@ goal-found parts goals c g e = go (nat_lt n (length parts)) refl e
 
 -- ---- what is held where Close was commanded
 
--- of a channel of the part, where a goal of that is closing
+-- of a channel of the part, where a goal of that is closing, and the participant didn't let go of it
 abbrev pub IsLate : Part → FixedParts → ℕ → Mind → Option Marked → Type 0
-IsLate p f turn m st = (g : Goal) → In g m.goals → g.closing ≡ true → slice_get m.parts g.part ≡ Some p → Reaches real f turn st
+IsLate p f turn m st = (g : Goal) → In g m.goals → g.closing ≡ true → lets_go p g ≡ false → slice_get m.parts g.part ≡ Some p → Reaches real f turn st
 
 module _ (p : Part) (f : FixedParts) (turn : ℕ) (m new : Mind) (st after : Option Marked) (plan : Planned m) (up : Reaches real f turn st → Reaches real f turn after)
     (accepted : (channel : List ℕ) → None ≡ close_part stages m (Some p) → Reaches real f turn st) (was : IsLate p f turn m st) where
   opens-late : (news : List Part) (fresh : List Goal) → new.parts ≡ m.parts ++ news → new.goals ≡ m.goals ++ fresh → ((g : Goal) → In g fresh → g.closing ≡ false) → IsLate p f turn new after
-  opens-late news fresh parts goals open-yet g i closing at = go (In-append_cases g m.goals fresh (subst (In g) goals i))
+  opens-late news fresh parts goals open-yet g i closing held-on at = go (In-append_cases g m.goals fresh (subst (In g) goals i))
     where
       go : In g m.goals ⊎ In g fresh → Reaches real f turn after
       go (inl i) =
-          up (was g i closing (sym (get-append m.parts news g.part (plan.within g i)) ∙ subst (λ (x : List Part). slice_get x g.part ≡ Some p) parts at))
+          up (was g i closing held-on (sym (get-append m.parts news g.part (plan.within g i)) ∙ subst (λ (x : List Part). slice_get x g.part ≡ Some p) parts at))
       go (inr i) = absurd (clash g.closing closing (open-yet g i))
 
-  closes-late : (channel : List ℕ) → None ≡ close_part stages m (part_with channel m.parts) → new.parts ≡ m.parts
-      → new.goals ≡ map (λ goal. close_if (goal.part == place_with channel m.parts) goal) m.goals → IsLate p f turn new after
-  closes-late channel taken parts goals g i closing at =
-      let old = mapped (λ (goal : Goal). close_if (goal.part == place_with channel m.parts) goal) g m.goals (subst (In g) goals i) in
+  closes-late : (lets : Bool) (channel : List ℕ) → IsShut lets stages m (part_with channel m.parts) → new.parts ≡ m.parts
+      → new.goals ≡ map (λ goal. close_if lets (goal.part == place_with channel m.parts) goal) m.goals → IsLate p f turn new after
+  closes-late lets channel taken parts goals g i closing held-on at =
+      let old = mapped (λ (goal : Goal). close_if lets (goal.part == place_with channel m.parts) goal) g m.goals (subst (In g) goals i) in
       go old.from old.there (old.from.part == place_with channel m.parts) refl old.is
     where
+      by : (lets : Bool) (from : Goal) → IsShut lets stages m (Some p) → g ≡ close_if lets true from → Reaches real f turn after
+      by false from shut same = up (accepted channel shut)
+      by true from shut same = absurd (let-go m p shut.0 shut.1 g (ap (λ (x : Goal). x.over) same) held-on)
+
       here : slice_get m.parts g.part ≡ Some p
       here = subst (λ (x : List Part). slice_get x g.part ≡ Some p) parts at
 
-      go : (from : Goal) → In from m.goals → (b : Bool) → (from.part == place_with channel m.parts) ≡ b → g ≡ close_if b from → Reaches real f turn after
-      go from there false is same = up (was g (subst (λ (x : Goal). In x m.goals) (sym same) there) closing here)
+      go : (from : Goal) → In from m.goals → (b : Bool) → (from.part == place_with channel m.parts) ≡ b → g ≡ close_if lets b from → Reaches real f turn after
+      go from there false is same = up (was g (subst (λ (x : Goal). In x m.goals) (sym same) there) closing held-on here)
       go from there true is same =
           let place : g.part ≡ place_with channel m.parts = ap (λ (x : Goal). x.part) same ∙ eqb-true from.part (place_with channel m.parts) is in
           let found : part_with channel m.parts ≡ Some p =
           sym (found_at_place (λ (part : Part). is_among channel (channels_of part)) m.parts) ∙ (sym (ap (slice_get m.parts) place) ∙ here) in
-          up (accepted channel (taken ∙ ap (close_part stages m) found))
+          by lets from (subst (IsShut lets stages m) found taken) same
 
   change-late : (deed : Deed) (of : Option Command) → Change stages real deed of m new → IsLate p f turn new after
   change-late deed of (stays parts goals) =
-      λ g i closing at. up (was g (subst (In g) goals i) closing (subst (λ (x : List Part). slice_get x g.part ≡ Some p) parts at))
+      λ g i closing held-on at. up (was g (subst (In g) goals i) closing held-on (subst (λ (x : List Part). slice_get x g.part ≡ Some p) parts at))
   change-late deed of (opens command followed is taken parts goals) =
       opens-late (parts_of real m.key command) (goals_of (length m.parts) command) parts goals (λ g i. (new-goal real m.key (length m.parts) command g i).fresh)
-  change-late deed of (closes channel taken parts goals) = closes-late channel taken parts goals
+  change-late deed of (closes lets channel taken parts goals) = closes-late lets channel taken parts goals
 
 -- ---- what is held so stays
 
@@ -319,7 +352,7 @@ module _ (s : Signing) (h : List Entry) (journal : List Told) (legal : Legal rea
       own-fixed k (Some w) a = fixed newer front events k a.0
 
   nothing-late : (past : List Entry) → Late past []
-  nothing-late past g i closing at = absurd (subst (In g) (no-goals past) i)
+  nothing-late past g i closing held-on at = absurd (subst (In g) (no-goals past) i)
     where
       no-goals : (past : List Entry) → (mind_at real s.key past []).goals ≡ []
       no-goals [] = refl
@@ -345,12 +378,12 @@ module _ (s : Signing) (h : List Entry) (journal : List Told) (legal : Legal rea
   at-look : (past : List Entry) (x : Told) (front : List Told) → is_watched x.deed ≡ true → Late past front → Late past (x ∷ front)
   at-look past x front w was =
       subst (λ (m : Mind). IsLate p f turn m (held real f past (lines_of s.key (x ∷ front)))) (sym (mind-watched real s.key past x front (looked real x.deed x.command w)))
-      (λ g i closing at. look-reaches s f turn past front x w (was g i closing at))
+      (λ g i closing held-on at. look-reaches s f turn past front x w (was g i closing held-on at))
 
   at-entry : (past : List Entry) (e : Entry) (front : List Told) → Seen past front → Late past front → Late (e ∷ past) front
   at-entry past e front seen was =
       subst (λ (m : Mind). IsLate p f turn m (held real f (e ∷ past) (lines_of s.key front))) (sym (mind-entry real s.key past e front seen))
-      (λ g i closing at. entry-reaches s f turn past front e (was g i closing at))
+      (λ g i closing held-on at. entry-reaches s f turn past front e (was g i closing held-on at))
 
   pub late : (newer front : List Told) → journal ≡ newer ++ front → Plays stages real s h front → (later past : List Entry) → h ≡ later ++ past → Seen past front → Late past front
   late newer front = over stages real s h journal Late (record { first = nothing-late; event = at-event; look = at-look; entry = at-entry }) newer front
@@ -371,7 +404,7 @@ rest-plays s h [] front q = q
 rest-plays s h (x ∷ newer) front q = rest-plays s h newer front q.1
 
 pub close_late : RootsCloseAfterSetUp
-close_late s h journal legal plays distinct f g k p closing = by (known real s.key f p.past p.front (legal-suffix real p.later p.past (subst (Legal real) p.entries legal)) p.few).agree
+close_late s h journal legal plays distinct f g k p closing held-on = by (known real s.key f p.past p.front (legal-suffix real p.later p.past (subst (Legal real) p.entries legal)) p.few).agree
   where
     front-plays : Plays stages real s h p.front
     front-plays = rest-plays s h p.newer p.front (subst (Plays stages real s h) p.events plays)
@@ -395,7 +428,7 @@ close_late s h journal legal plays distinct f g k p closing = by (known real s.k
 
     there : Reaches real f (2 * people f - 1) (held real f p.past (lines_of s.key p.front))
     there =
-        late s h journal legal f some (fixed-is s h journal distinct f occurs) (Root (real.named f)) (2 * people f - 1) (root-runs f) p.newer p.front p.events front-plays p.later p.past p.entries p.before g found.there closing
+        late s h journal legal f some (fixed-is s h journal distinct f occurs) (Root (real.named f)) (2 * people f - 1) (root-runs f) p.newer p.front p.events front-plays p.later p.past p.entries p.before g found.there closing held-on
         (found.at ∙ ap (λ (q : Part). Some q) root)
 
     by : Agree real s.key f (lines_of s.key p.front) (kept_of (real.named f) m.kept) (held real f p.past (lines_of s.key p.front)) → 2 * people k.chain.fixed ≤ next_of k

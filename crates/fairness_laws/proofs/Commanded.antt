@@ -109,6 +109,8 @@ taken-parts r (deeds.Commanded step None) (Some c) command m w is p i = by c (su
     by (commands.OpenVirtual v) i = In-append_right p m.parts (parts_of r m.key (commands.OpenVirtual v)) i
     by (commands.Pay channel asset amount) i = absurd i
     by (commands.Close channel) i = absurd i
+    by (commands.Release how channel) i = absurd i
+    by (commands.Resend channel) i = absurd i
     by commands.Exit i = absurd i
 taken-parts r (deeds.Commanded step (Some refusal)) of command m w is p i = absurd cc
 taken-parts r (deeds.Handled bytes refusal) of command m w is p i = absurd cc
@@ -130,6 +132,8 @@ taken-can t r s past used waits (deeds.Commanded step None) (Some c) m allowed w
     by (commands.OpenVirtual v) a i = accepted-can t r m (commands.OpenVirtual v) a.1
     by (commands.Pay channel asset amount) a i = absurd i
     by (commands.Close channel) a i = absurd i
+    by (commands.Release how channel) a i = absurd i
+    by (commands.Resend channel) a i = absurd i
     by commands.Exit a i = absurd i
 taken-can t r s past used waits (deeds.Commanded step (Some refusal)) of m allowed w command is f i = absurd cc
 taken-can t r s past used waits (deeds.Handled bytes refusal) of m allowed w command is f i = absurd cc
@@ -141,7 +145,7 @@ taken-can t r s past used waits (deeds.Watched watcher calls) of m allowed w com
 grows : (t : Tables) (r : Rules) (deed : Deed) (of : Option Command) (m new : Mind) → Change t r deed of m new → (p : Part) → In p m.parts → In p new.parts
 grows t r deed of m new (stays parts goals) p i = subst (In p) (sym parts) i
 grows t r deed of m new (opens command followed is accepted parts goals) p i = subst (In p) (sym parts) (In-append_left p m.parts (parts_of r m.key command) i)
-grows t r deed of m new (closes channel accepted parts goals) p i = subst (In p) (sym parts) i
+grows t r deed of m new (closes lets channel accepted parts goals) p i = subst (In p) (sym parts) i
 
 -- what was taken is taken in a longer journal
 pub took-later : (command : Command) (newer front : List Told) → Took command front → Took command (newer ++ front)
@@ -177,9 +181,9 @@ pub record GoalOf (r : Rules) (key : List ℕ) (parts : List Part) (front : List
   pub of : In p (parts_of r key command)
   pub goal : IsGoalOf command g
 
-close-keeps : (b : Bool) (g : Goal) → ((close_if b g).opening ≡ g.opening) × ((close_if b g).amounts ≡ g.amounts)
-close-keeps true g = (refl, refl)
-close-keeps false g = (refl, refl)
+close-keeps : (lets b : Bool) (g : Goal) → ((close_if lets b g).opening ≡ g.opening) × ((close_if lets b g).amounts ≡ g.amounts)
+close-keeps lets true g = (refl, refl)
+close-keeps lets false g = (refl, refl)
 
 -- the last of these parts
 record LastPart (old news : List Part) : Type 0 where
@@ -323,13 +327,13 @@ module _ (t : Tables) (r : Rules) (s : Signing) (h : List Entry) (legal : Legal 
   goals-event past x front m new own within (stays parts goals) was g i =
       let o = was g (subst (In g) goals i) in
       longer m.parts new.parts x front g g o refl refl (ap (λ (ps : List Part). slice_get ps g.part) parts ∙ o.at)
-  goals-event past x front m new own within (closes channel accepted parts goals) was g i =
-      let old = mapped (λ (goal : Goal). close_if (goal.part == place_with channel m.parts) goal) g m.goals (subst (In g) goals i) in
+  goals-event past x front m new own within (closes lets channel accepted parts goals) was g i =
+      let old = mapped (λ (goal : Goal). close_if lets (goal.part == place_with channel m.parts) goal) g m.goals (subst (In g) goals i) in
       let b : Bool = old.from.part == place_with channel m.parts in
       let o = was old.from old.there in
-      let keeps = close-keeps b old.from in
+      let keeps = close-keeps lets b old.from in
       longer m.parts new.parts x front g old.from o (ap (λ (z : Goal). z.opening) old.is ∙ keeps.0) (ap (λ (z : Goal). z.amounts) old.is ∙ keeps.1)
-      (ap (λ (ps : List Part). slice_get ps g.part) parts ∙ (ap (slice_get m.parts) (ap (λ (z : Goal). z.part) old.is ∙ close-part b old.from) ∙ o.at))
+      (ap (λ (ps : List Part). slice_get ps g.part) parts ∙ (ap (slice_get m.parts) (ap (λ (z : Goal). z.part) old.is ∙ close-part lets b old.from) ∙ o.at))
   goals-event past x front m new own within (opens command followed is accepted parts goals) was g i = go (In-append_cases g m.goals (goals_of (length m.parts) command) (subst (In g) goals i))
     where
       news : List Part

@@ -1,7 +1,7 @@
 -- What is noted in the first round of a channel that a command opened repeats the outcome with which its part opens it.
 use Rattle.std.proofs.Common.{◌≡◌, ℕ, ◌+◌, ◌<◌, ◌≤◌, Bool, true, false, cond, ◌&&◌, ◌||◌, not, ◌⊎◌, List, [], ◌∷◌, ◌++◌, inl, inr, refl, sym, ◌∙◌, ap, subst, arith}
 use Rattle.std.specs.Prelude.{◌==◌, ◌^◌, nat_lt, Option, Some, None, map}
-use Rattle.std.specs.List.{list_all}
+use Rattle.std.specs.List.{list_all, position}
 use Rattle.std.specs.Option.{option_or}
 use Rattle.std.specs.Str.{bytes_eq}
 use Rattle.channel_values.specs.Parts.{FixedParts, StateParts}
@@ -40,7 +40,7 @@ use Rattle.channel_node.specs.Openings.{opened_by, place_among, takes_part, adds
 use Rattle.channel_node.specs.Places.{Told, lines_of, mind_at, AreFew}
 use Rattle.channel_node.specs.Playing.{Signing, signings, payment_in, pending, Allowed, Plays}
 use Rattle.channel_node.specs.Refusing as refusing
-use Rattle.channel_node.specs.Refusing.{not_open, unfinished_part, unfinished, has_left, part_joined, not_running, pay_refusal, are_new, is_planned, are_planned, open_refusal, command_refusal}
+use Rattle.channel_node.specs.Refusing.{not_open, unfinished_part, unfinished, has_left, part_joined, not_running, pay_refusal, are_new, is_planned, goal_about, is_over, is_there, are_planned, open_refusal, command_refusal}
 use Rattle.fairness_laws.specs.Table.{stages}
 use Rattle.channel_store.proofs.Places.{found_passes}
 use Rattle.channel_safety.proofs.Lists.{split_of, suffix_of, In-get, get-within, append_assoc'}
@@ -55,14 +55,18 @@ use Rattle.channel_node.proofs.Standing.{known}
 use Rattle.fairness_laws.specs.Roots.{is_repeated}
 use Rattle.fairness_laws.specs.Carried.{OpensWith}
 use Rattle.fairness_laws.specs.Opens.{Took}
-use Rattle.fairness_laws.proofs.Finding.{names, on-in}
+use Rattle.fairness_laws.proofs.Finding.{names, on-in, not-true}
 use Rattle.fairness_laws.proofs.Apart.{accepted-new, kept-apart}
 use Rattle.fairness_laws.proofs.Over.{Seen, AtEvent, over, looked}
 use Rattle.fairness_laws.proofs.Planned.{Change, stays, opens, closes, event-changes, is-planned, opened-channels, channels-append, own-among, in-left, or-true, among-channels, one-part}
-use Rattle.fairness_laws.proofs.Closing.{RunsTo, event-reaches, look-reaches, entry-reaches, find-in, goal-found, running-reaches, late, rest-plays}
+use Rattle.fairness_laws.proofs.Closing.{RunsTo, event-reaches, look-reaches, entry-reaches, find-in, goal-found, running-reaches, late, rest-plays, lets_go}
 use Rattle.fairness_laws.proofs.Noting as noting
 use Rattle.fairness_laws.proofs.Noting.{IsPaid, IsNoted, why-made, why-noted}
 use Rattle.fairness_laws.proofs.Commanded.{all-at, fresh-name, name-in, took-later, IsGoalOf, stand, one-command, apart-names, goals-of}
+use Rattle.ledger_channel.specs.Stages.{direct_with, direct_of, wanted_of_root}
+use Rattle.funding_plans.specs.Seats.{Seat}
+use Rattle.fairness_laws.proofs.Picking.{none-wanted}
+use Rattle.funding_plans.specs.Gathered as gathered
 
 -- ---- parts
 
@@ -107,6 +111,8 @@ ledgers-are key (commands.OpenVirtual funding) q i = go (takes_part key funding.
     go false t (inr i) = absurd i
 ledgers-are key (commands.Pay channel asset amount) q i = absurd i
 ledgers-are key (commands.Close channel) q i = absurd i
+ledgers-are key (commands.Release how channel) q i = absurd i
+ledgers-are key (commands.Resend channel) q i = absurd i
 ledgers-are key commands.Exit q i = absurd i
 
 clear-at : (f : FactsOf) (parts : List Part) (p : Part) → In p parts → refusing.first_fault (unfinished_part stages f) parts ≡ None → stages.is_unfinished f p ≡ false
@@ -114,6 +120,40 @@ clear-at f [] p i e = absurd i
 clear-at f (q ∷ qs) p (inl is) e =
     ap (stages.is_unfinished f) is ∙ holds_not (stages.is_unfinished f q) (NotWanted (stages.stage f q)) (first_none (unfinished_part stages f q) (refusing.first_fault (unfinished_part stages f) qs) e)
 clear-at f (q ∷ qs) p (inr i) e = clear-at f qs p i (rest_none (unfinished_part stages f q) (refusing.first_fault (unfinished_part stages f) qs) e)
+
+-- of a channel of which the node didn't let go
+let-go-not : (m : Mind) (p : Part) (c : List ℕ) → is_among c (joined_of p) ≡ true → is_over (goal_about m c) ≡ false
+    → (g : Goal) → goal_in (facts_of m) (own_channel p) ≡ Some g → lets_go p g ≡ false
+let-go-not m (Root n) c own e g is = sym (ap is_over (sym (about (position (λ p. bytes_eq (own_channel p) n) m.parts)) ∙ is)) ∙ (ap (λ (x : List ℕ). is_over (goal_about m x)) (sym (one c n own)) ∙ e)
+  where
+    about : (o : Option ℕ) → refusing.goal_at o m.goals ≡ gathered.goal_at o m.goals
+    about None = refl
+    about (Some n) = refl
+
+    one : (c n : List ℕ) → is_among c (n ∷ []) ≡ true → c ≡ n
+    one c n e = go (bytes_eq c n) refl e
+      where
+        go : (b : Bool) → bytes_eq c n ≡ b → (b || false) ≡ true → c ≡ n
+        go true is e = same_bytes c n is
+        go false is e = absurd cc
+let-go-not m (OnLedger l n) c own e g is = refl
+let-go-not m (End v) c own e g is = refl
+let-go-not m (Middle v) c own e g is = refl
+
+-- a root of which the node let go wants nothing
+over-wants : (f : FactsOf) (p : Part) (c : List ℕ) (g : Goal) (n : StateParts) → stages.asked f c ≡ Some p → goal_in f (own_channel p) ≡ Some g → g.closing ≡ true → lets_go p g ≡ true
+    → stages.wanted f c ≡ Some n → ⊥
+over-wants f (Root r) c g n asked-is is closing gone wanted =
+    by (gathered.seat_with f r g.opening)
+    (sym (ap (λ (o : Option Goal). wanted_of_root c (direct_of f r (gathered.seat_for f r o) o)) is) ∙ (sym (ap (asked.wanted_of f c) asked-is) ∙ wanted))
+  where
+    by : (o : Option Seat) → wanted_of_root c (direct_of f r o (Some g)) ≡ Some n → ⊥
+    by None e = none-eq n e
+    by (Some seat) e =
+        none-eq n (sym (none-wanted (direct_with f seat g (gathered.chain_in r f.chains) (gathered.view_in r f.view.channels)) c closing gone) ∙ e)
+over-wants f (OnLedger l r) c g n asked-is is closing gone wanted = clash false gone refl
+over-wants f (End v) c g n asked-is is closing gone wanted = clash false gone refl
+over-wants f (Middle v) c g n asked-is is closing gone wanted = clash false gone refl
 
 -- the lines of an accepted opening
 pub record Accepted (m : Mind) (command : Command) : Type 0 where
@@ -154,6 +194,8 @@ pays s past m used waits (deeds.Commanded step None) (Some (commands.Open f outc
 pays s past m used waits (deeds.Commanded step None) (Some (commands.OpenOn o)) channel asset amount allowed e = absurd (none-eq _ e)
 pays s past m used waits (deeds.Commanded step None) (Some (commands.OpenVirtual v)) channel asset amount allowed e = absurd (none-eq _ e)
 pays s past m used waits (deeds.Commanded step None) (Some (commands.Close c)) channel asset amount allowed e = absurd (none-eq _ e)
+pays s past m used waits (deeds.Commanded step None) (Some (commands.Release how c)) channel asset amount allowed e = absurd (none-eq _ e)
+pays s past m used waits (deeds.Commanded step None) (Some (commands.Resend c)) channel asset amount allowed e = absurd (none-eq _ e)
 pays s past m used waits (deeds.Commanded step None) (Some commands.Exit) channel asset amount allowed e = absurd (none-eq _ e)
 pays s past m used waits (deeds.Commanded step None) None channel asset amount allowed e = absurd (none-eq _ e)
 pays s past m used waits (deeds.Commanded step (Some refusal)) of channel asset amount allowed e = absurd (none-eq _ e)
@@ -276,15 +318,15 @@ module _ (s : Signing) (h : List Entry) (journal : List Told) (legal : Legal rea
       runs-full = running-reaches s h journal legal f several one-fixed p turn st.runs past front newer events front-plays later entries before few
 
       -- where a goal of it is closing
-      closing-full : (g : Goal) → goal_in (facts_of m) (own_channel p) ≡ Some g → In p m.parts → g.closing ≡ true → Full past front
-      closing-full g is i closing =
+      closing-full : (g : Goal) → goal_in (facts_of m) (own_channel p) ≡ Some g → In p m.parts → g.closing ≡ true → lets_go p g ≡ false → Full past front
+      closing-full g is i closing held-on =
           let found = goal-found m.parts m.goals (own_channel p) g is in
-          late s h journal legal f several one-fixed p turn st.runs newer front events front-plays later past entries before g found.there closing
+          late s h journal legal f several one-fixed p turn st.runs newer front events front-plays later past entries before g found.there closing held-on
           (found.at ∙ ap (λ (q : Part). Some q) (found-is m found.q apart i (In-get m.parts g.part found.q found.at) found.about))
 
       -- where nothing is unfinished
-      finished-full : unfinished stages (facts_of m) ≡ None → In p m.parts → Full past front
-      finished-full e i = by (goal_in (facts_of m) (own_channel p)) refl
+      finished-full : unfinished stages (facts_of m) ≡ None → ((g : Goal) → goal_in (facts_of m) (own_channel p) ≡ Some g → lets_go p g ≡ false) → In p m.parts → Full past front
+      finished-full e held-on i = by (goal_in (facts_of m) (own_channel p)) refl
         where
           settled : asked.is_closing (goal_in (facts_of m) (own_channel p)) ≡ false → Full past front
           settled open-yet =
@@ -297,7 +339,7 @@ module _ (s : Signing) (h : List Entry) (journal : List Told) (legal : Legal rea
           by (Some g) is = go g.closing refl
             where
               go : (b : Bool) → g.closing ≡ b → Full past front
-              go true closing = closing-full g is i closing
+              go true closing = closing-full g is i closing (held-on g is)
               go false open-yet = settled (ap asked.is_closing is ∙ open-yet)
 
     -- ---- parts that stand on the channel
@@ -313,10 +355,11 @@ module _ (s : Signing) (h : List Entry) (journal : List Told) (legal : Legal rea
         let w = was q (subst (In q) parts i) l in
         (subst (λ (ps : List Part). is_among c (channels ps) ≡ true) (sym parts) w.0, λ j. up (w.1 (subst (In p) parts j)))
 
-    change-lent : (deed : Deed) (o : Option Command) (m new : Mind) (Before After : Type 0) → (Before → After) → (unfinished stages (facts_of m) ≡ None → In p m.parts → Before) → Change stages real deed o m new
+    change-lent : (deed : Deed) (o : Option Command) (m new : Mind) (Before After : Type 0) → (Before → After)
+        → (unfinished stages (facts_of m) ≡ None → ((g : Goal) → goal_in (facts_of m) (own_channel p) ≡ Some g → lets_go p g ≡ false) → In p m.parts → Before) → Change stages real deed o m new
         → LentAt m Before → LentAt new After
     change-lent deed o m new Before After up done (stays parts goals) was q i l = same-lent m new Before After parts up was q i l
-    change-lent deed o m new Before After up done (closes channel taken parts goals) was q i l = same-lent m new Before After parts up was q i l
+    change-lent deed o m new Before After up done (closes lets channel taken parts goals) was q i l = same-lent m new Before After parts up was q i l
     change-lent deed o m new Before After up done (opens d followed is taken parts goals) was q i l = (
       subst (λ (ps : List Part). is_among c (channels ps) ≡ true) (sym parts) (ap (is_among c) (channels-append m.parts news) ∙ in-left c (channels m.parts) (channels news) planned),
       λ j. up (full (In-append_cases p m.parts news (subst (In p) parts j))),
@@ -328,15 +371,26 @@ module _ (s : Signing) (h : List Entry) (journal : List Told) (legal : Legal rea
         a : Accepted m d
         a = accepted m d taken
 
+        -- a ledger of what is opened is in the plan, and the node didn't let go of it
+        there : In q news → is_there m c ≡ true
+        there j = all-at (is_there m) (ledgers_for m.key d) c a.ledgers (ap (is_among c) (sym (ledgers-are m.key d q j)) ∙ l)
+
+        held-on : In q news → (g : Goal) → goal_in (facts_of m) (own_channel p) ≡ Some g → lets_go p g ≡ false
+        held-on j = let-go-not m p c st.own (not-true (is_over (goal_about m c)) (and-right (is_among c (channels m.parts)) (not (is_over (goal_about m c))) (there j)))
+
         planned : is_among c (channels m.parts) ≡ true
         planned = by (In-append_cases q m.parts news (subst (In q) parts i))
           where
             by : In q m.parts ⊎ In q news → is_among c (channels m.parts) ≡ true
             by (inl j) = (was q j l).0
-            by (inr j) = all-at (λ name. is_among name (channels m.parts)) (ledgers_for m.key d) c a.ledgers (ap (is_among c) (sym (ledgers-are m.key d q j)) ∙ l)
+            by (inr j) = and-left (is_among c (channels m.parts)) (not (is_over (goal_about m c))) (there j)
 
         full : In p m.parts ⊎ In p news → Before
-        full (inl j) = done a.finished j
+        full (inl j) = by (In-append_cases q m.parts news (subst (In q) parts i))
+          where
+            by : In q m.parts ⊎ In q news → Before
+            by (inl k) = (was q k l).1 j
+            by (inr k) = done a.finished (held-on k) j
         full (inr j) =
             absurd (clash (is_among c (channels m.parts)) planned
             (fresh-name m (map real.named (opened_by d)) c
@@ -483,11 +537,15 @@ module _ (s : Signing) (h : List Entry) (journal : List Told) (legal : Legal rea
       on-none : (Full past front → ⊥) → (q : Part) → In q here.parts → is_among c (ledgers_of q) ≡ true → ⊥
       on-none not-full q j l = not-full ((lent newer front events front-plays later past entries before q j l).1 there)
 
-      open-yet : (Full past front → ⊥) → (g : Goal) → goal_in (facts_of here) (own_channel p) ≡ Some g → g.closing ≡ false
-      open-yet not-full g is = go g.closing refl
+      open-yet : (Full past front → ⊥) → (n : StateParts) → stages.wanted (facts_of here) c ≡ Some n → (g : Goal) → goal_in (facts_of here) (own_channel p) ≡ Some g → g.closing ≡ false
+      open-yet not-full n wanted g is = go g.closing refl
         where
           go : (b : Bool) → g.closing ≡ b → b ≡ false
-          go true closing = absurd (not-full (closing-full past front newer events front-plays later entries before few g is there closing))
+          go true closing = by (lets_go p g) refl
+            where
+              by : (o : Bool) → lets_go p g ≡ o → true ≡ false
+              by false held-on = absurd (not-full (closing-full past front newer events front-plays later entries before few g is there closing held-on))
+              by true gone = absurd (over-wants (facts_of here) p c g n (asked-own (on-none not-full)) is closing gone wanted)
           go false e = refl
 
       place-here : (Full past front → ⊥) → IsPlace here command p f
@@ -509,7 +567,7 @@ module _ (s : Signing) (h : List Entry) (journal : List Told) (legal : Legal rea
           by : (stages.accepts (facts_of here) c n ≡ true) ⊎ noting.IsWished stages (pending front) here c n → is_repeated opening n ≡ true
           by (inl e) = first (inl e)
           by (inr (inl paid)) = absurd (not-paid not-full paid)
-          by (inr (inr e)) = first (inr (open-yet not-full, e))
+          by (inr (inr e)) = first (inr (open-yet not-full n e, e))
 
       first-here : (n : StateParts) → noting.IsMade stages (pending front) here c n → n.turn < people f → FirstPlace n
       first-here n made small = by made.why
@@ -519,7 +577,7 @@ module _ (s : Signing) (h : List Entry) (journal : List Told) (legal : Legal rea
 
           by : noting.IsWished stages (pending front) here c n → FirstPlace n
           by (inl paid) = absurd (not-paid not-full paid)
-          by (inr e) = record { m = here; known_there = place-here not-full; asked_is = asked-own (on-none not-full); going = open-yet not-full; wants = e }
+          by (inr e) = record { m = here; known_there = place-here not-full; asked_is = asked-own (on-none not-full); going = open-yet not-full n e; wants = e }
 
   -- ---- over the journal
 

@@ -128,8 +128,8 @@ opening-follows g k su small = go (newest k.chain.states) refl
         both-hold k (state_with (next_of k) false g.opening []) (going-on k t e open-state)
         (ap (step_after real k (state_with (next_of k) false g.opening [])) e ∙ repeat-step k.chain.fixed t g.opening (next_of k) rep small)
 
-pub final-follows : (g : Goal) (k : Kept) (t : StateParts) → SetsUp g k → g.closing ≡ true → newest k.chain.states ≡ Some t → is_ended k ≡ false → has_no_data t ≡ true
+pub final-follows : (g : Goal) (k : Kept) (t : StateParts) → SetsUp g k → g.closing ≡ true → g.over ≡ false → newest k.chain.states ≡ Some t → is_ended k ≡ false → has_no_data t ≡ true
     → follows real k (state_with (next_of k) true t.outcome []) ≡ true
-final-follows g k t su closing e going bare =
+final-follows g k t su closing held-on e going bare =
     both-hold k (state_with (next_of k) true t.outcome []) going
-    (ap (step_after real k (state_with (next_of k) true t.outcome [])) e ∙ final-step k.chain.fixed t (next_of k) bare (su.closes closing))
+    (ap (step_after real k (state_with (next_of k) true t.outcome [])) e ∙ final-step k.chain.fixed t (next_of k) bare (su.closes closing held-on))

@@ -200,6 +200,8 @@ module _ (s : Signing) (h : List Entry) (journal : List Told) (fair : IsFair s h
       of-virtual v.route v.ledgers v.guarantors v.joint v.channel v.asset v.amounts took f i own inside
   of-command f i own (commands.Pay channel asset amount) took j = absurd j
   of-command f i own (commands.Close channel) took j = absurd j
+  of-command f i own (commands.Release how channel) took j = absurd j
+  of-command f i own (commands.Resend channel) took j = absurd j
   of-command f i own commands.Exit took j = absurd j
 
   pub own-joined : (f : FixedParts) → In f (channels (lines_of s.key front)) → HasJoined m.parts (real.named f)

@@ -20,7 +20,7 @@ use Rattle.channel_store.specs.Storing.{is_of, place_of, kept_of, kept_at, kept_
 use Rattle.channel_store.specs.declared.kept.Kept.{Kept}
 use Rattle.history_view.specs.Views.{view_of}
 use Rattle.network.specs.declared.command.Command.{Command}
-use Rattle.network.specs.declared.command.Command.TheVariants.{Open, OpenOn, OpenVirtual, Pay, Close, Exit}
+use Rattle.network.specs.declared.command.Command.TheVariants.{Open, OpenOn, OpenVirtual, Pay, Close, Release, Resend, Exit}
 use Rattle.channel_node.specs.Minds.{Mind, saw, shown_by, kept_seeing, noted, noted_message, with_opened, commanded, did}
 use Rattle.channel_node.proofs.Agreeing.{among, filtered}
 use Rattle.channel_node.specs.Openings.{opened_by, takes_part, adds, opened}
@@ -103,6 +103,8 @@ module _ (key : List ℕ) where
   commanded-named (OpenVirtual v) m is = with-opened (OpenVirtual v) m is
   commanded-named (Pay channel asset amount) m is = is
   commanded-named (Close channel) m is = record { same = is.same; named = is.named }
+  commanded-named (Release how channel) m is = record { same = is.same; named = is.named }
+  commanded-named (Resend channel) m is = is
   commanded-named Exit m is = record { same = is.same; named = is.named }
 
   pub command-named : (step : ℕ) (refusal : Option NodeRefusal) (command : Command) (m : Mind) → IsMindOf key m → IsMindOf key (did real (deeds.Commanded step refusal) (Some command) m)

@@ -85,6 +85,8 @@ wished t waits m c k s e = by waits (staying m.left (wish_staying t waits m c k)
     by (Some (commands.OpenOn o)) e = inr (wants e)
     by (Some (commands.OpenVirtual v)) e = inr (wants e)
     by (Some (commands.Close channel)) e = inr (wants e)
+    by (Some (commands.Release how channel)) e = inr (wants e)
+    by (Some (commands.Resend channel)) e = inr (wants e)
     by (Some commands.Exit) e = inr (wants e)
 
 signs : (t : Tables) (r : Rules) (waits : Option Command) (m : Mind) (c : List ℕ) (s : StateParts) → signs_in t r waits m c ≡ Some s → IsMade t waits m c s

@@ -157,6 +157,8 @@ module _ (s : Signing) (h : List Entry) (journal : List Told) (fair : IsFair s h
           no false (inr k) = k
       of (commands.Pay channel asset amount) took j goal = absurd j
       of (commands.Close channel) took j goal = absurd j
+      of (commands.Release how channel) took j goal = absurd j
+      of (commands.Resend channel) took j goal = absurd j
       of commands.Exit took j goal = absurd j
 
   pub child-first : (ledger name : List ℕ) (g : Goal) → In (parts.OnLedger ledger name) m.parts → (o : OnLedgerIs s.key past (lines_of s.key front) (facts_of m) ledger name g)

@@ -131,6 +131,8 @@ module _ (s : Signing) (h : List Entry) (journal : List Told) (fair : IsFair s h
           by end false takes (inr k) = absurd k
       by-command end (commands.Pay channel asset amount) took j goal = absurd j
       by-command end (commands.Close channel) took j goal = absurd j
+      by-command end (commands.Release how channel) took j goal = absurd j
+      by-command end (commands.Resend channel) took j goal = absurd j
       by-command end commands.Exit took j goal = absurd j
 
   -- an own channel by the name of one that a command opens is that one

@@ -30,7 +30,7 @@ first-line true false opening other vote e is = absurd cc
 first-line false false opening other vote e is = absurd cc
 
 takes-opening : (d : Direct) (s : StateParts) → root_takes d s ≡ true → nat_lt s.turn (length d.channel.people) ≡ true → is_opening d.channel s ≡ true
-takes-opening d s e early = go d.pays (nat_lt s.turn (length d.channel.people)) early e
+takes-opening d s e early = held-on d.over e
   where
     vote : Bool
     vote = s.is_final || ((is_now d.channel.top s || is_spelled None (outcome s.outcome)) && takes_ballot (is_spelled None) (ballot_of (length d.channel.people) s.app_bytes))
@@ -38,8 +38,13 @@ takes-opening d s e early = go d.pays (nat_lt s.turn (length d.channel.people)) 
     go : (pays first : Bool) → first ≡ true → cond pays (cond first (is_opening d.channel s) true) (cond first (is_opening d.channel s) vote) ≡ true → is_opening d.channel s ≡ true
     go pays first is e = first-line pays first (is_opening d.channel s) true vote e is
 
+    held-on : (over : Bool) → cond over false (cond d.pays (cond (nat_lt s.turn (length d.channel.people)) (is_opening d.channel s) true) (cond (nat_lt s.turn (length d.channel.people)) (is_opening d.channel s) vote)) ≡ true
+        → is_opening d.channel s ≡ true
+    held-on true e = absurd cc
+    held-on false e = go d.pays (nat_lt s.turn (length d.channel.people)) early e
+
 wants-opening : (d : Direct) (s : StateParts) → d.closing ≡ false → IsWanted d s → is_repeated d.channel.opening s ≡ true
-wants-opening d s stays (closes closing going e) = absurd (clash d.closing closing stays)
+wants-opening d s stays (closes closing held-on going e) = absurd (clash d.closing closing stays)
 wants-opening d s stays (opens from until which e) =
     let w = when-some (nat_le from d.channel.next && nat_lt d.channel.next until && is_turn d.channel && is_valid d.channel.opening) (state_with d.channel.next false d.channel.opening []) s e in
     subst (λ (x : StateParts). is_repeated d.channel.opening x ≡ true) w.is

@@ -22,7 +22,7 @@ use Rattle.channel_store.specs.Storing.{kept_of}
 use Rattle.channel_store.specs.declared.kept.Kept.{Kept}
 use Rattle.network.specs.Ways.{followed, looked}
 use Rattle.network.specs.declared.command.Command.{Command}
-use Rattle.network.specs.declared.command.Command.TheVariants.{Open, OpenOn, OpenVirtual, Pay, Close, Exit}
+use Rattle.network.specs.declared.command.Command.TheVariants.{Open, OpenOn, OpenVirtual, Pay, Close, Release, Resend, Exit}
 use Rattle.channel_node.proofs.Leaving.{from-held}
 use Rattle.channel_node.proofs.Places.{told-event, told-command}
 use Rattle.channel_node.specs.Exiting.{leaves}
@@ -263,6 +263,8 @@ module _ (key : List ℕ) where
     pays None (OpenVirtual v) n o = o
     pays None (Pay channel asset amount) n o = signs channel (signs_in stages real (Some (Pay channel asset amount)) n.mind channel) n o
     pays None (Close channel) n o = o
+    pays None (Release how channel) n o = o
+    pays None (Resend channel) n o = o
     pays None Exit n o = o
 
     tells : (step : ℕ) (command : Command) (n : NodeOf) → Owns key n → Owns key (told_to stages real s step command n)

@@ -187,6 +187,8 @@ module _ (s : Signing) (h : List Entry) (journal : List Told) (fair : IsFair s h
       by (inr (inr (inr (inr i)))) = absurd i
   starts-so f own (commands.Pay channel asset amount) took i app = absurd i
   starts-so f own (commands.Close channel) took i app = absurd i
+  starts-so f own (commands.Release how channel) took i app = absurd i
+  starts-so f own (commands.Resend channel) took i app = absurd i
   starts-so f own commands.Exit took i app = absurd i
 
 -- where a payment waits a chain is held

@@ -1,5 +1,5 @@
 -- What is kept at a place is what is held there, which sets up as it opened.
-use Rattle.std.proofs.Common.{◌≡◌, ℕ, ◌+◌, ◌*◌, ◌<◌, ◌≤◌, true, List, [], ◌∷◌, ◌++◌, inr, length, refl, sym, ◌∙◌, ap, subst, arith}
+use Rattle.std.proofs.Common.{◌≡◌, ℕ, ◌+◌, ◌*◌, ◌<◌, ◌≤◌, true, false, List, [], ◌∷◌, ◌++◌, inr, length, refl, sym, ◌∙◌, ap, subst, arith}
 use Rattle.std.specs.Prelude.{Option, Some, None}
 use Rattle.channel_values.specs.Parts.{FixedParts, StateParts}
 use Rattle.channel_values.specs.Rows.{last_of}
@@ -43,7 +43,7 @@ newest-there (s ∷ rest) t e = subst (λ (x : StateParts). In x (s ∷ rest)) (
 
 -- of a chain that is good, and whose latest state repeats the opening outcome while the set-up lasts
 sets-up-by : (f : FixedParts) (g : Goal) (k : Kept) (w : Marked) → k.chain.fixed ≡ f → marked_of k.chain ≡ w → IsGood real f w → IsRepeatedIfAny f g.opening (Some w)
-    → (g.closing ≡ true → 2 * people k.chain.fixed ≤ next_of k) → SetsUp g k
+    → (g.closing ≡ true → g.over ≡ false → 2 * people k.chain.fixed ≤ next_of k) → SetsUp g k
 sets-up-by f g k w fixed-is same good repeated closes = record {
   good = subst (λ (x : FixedParts). IsGood real x (marked_of k.chain)) (sym fixed-is) (subst (IsGood real f) (sym same) good);
   repeats = λ t is up. record {

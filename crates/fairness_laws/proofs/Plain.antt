@@ -1,6 +1,6 @@
 -- No call of a stage or of an exit is a challenge.
 use Rattle.std.proofs.Common.{ℕ, Bool, true, false, cond, not, ◌||◌, ◌&&◌, List, [], ◌∷◌, ◌++◌}
-use Rattle.std.specs.Prelude.{Option, Some, None}
+use Rattle.std.specs.Prelude.{Option, Some, None, if◌then◌else◌}
 use Rattle.std.specs.List.{AllByRecursion, flat_map, filter_map, cons_option}
 use Rattle.channel_values.specs.declared.chain.Chain.{Chain}
 use Rattle.channel_values.specs.declared.value.AssetOutcome.{AssetOutcome}
@@ -9,6 +9,7 @@ use Rattle.channel_values.specs.declared.value.Dest.TheVariants.{Person, Channel
 use Rattle.channel_values.specs.declared.value.Item.{Item}
 use Rattle.channel_values.specs.Amounts.{has}
 use Rattle.channel_values.specs.Places.{place_of}
+use Rattle.call_history.specs.Mode.{is_final}
 use Rattle.call_history.specs.Calls.{make_transfer, make_claim}
 use Rattle.call_history.specs.Flows.{is_among}
 use Rattle.call_history.specs.declared.call.Call.{Call}
@@ -158,6 +159,10 @@ concluding-plain d Open = conclude-plain d.chain
 concluding-plain d Challenged = tt
 concluding-plain d Final = transfers-plain d d.settled d.rest
 
+-- what is due in a channel of which the participant let go
+rest-plain : (d : Direct) → ArePlain (if d.over && is_final d.standing then roots.transfers d else [])
+rest-plain d = if-so (d.over && is_final d.standing) (roots.transfers d) (transfers-plain d d.settled d.rest)
+
 deposits-plain : (d : Direct) → ArePlain (roots.deposits d)
 deposits-plain d = if-so (roots.is_open d.standing) (filter_map (roots.deposit_in d) d.channel.opening) (picked (roots.deposit_in d) (a-deposit d) d.channel.opening)
 
@@ -171,7 +176,7 @@ rows-plain (row ∷ rows) all = go row.leaves (rows-plain rows all.1)
 
 root-plain : (o : Option Direct) → ArePlain (called_of_root o)
 root-plain None = tt
-root-plain (Some d) = rows-plain (root_rows d) (tt, (deposits-plain d, (tt, (tt, (tt, (concluding-plain d d.standing, tt))))))
+root-plain (Some d) = rows-plain (root_rows d) (tt, (deposits-plain d, (tt, (tt, (tt, (concluding-plain d d.standing, (rest-plain d, tt)))))))
 
 part-plain : (f : FactsOf) (part : Part) → ArePlain (called_of f part)
 part-plain f (Root name) = root-plain (direct_in f name)

@@ -25,23 +25,29 @@ use Rattle.channel_node.specs.Minds.{Mind, saw, noted_message, place_with, close
 use Rattle.channel_node.specs.Openings.{opened_by, takes_part, virtual, parts_of, goals_of, are_apart}
 use Rattle.channel_node.specs.Places.{Told, mind_at}
 use Rattle.channel_node.specs.Playing.{Signing, signings, pending, Allowed, Plays}
-use Rattle.channel_node.specs.Refusing.{part_with, is_planned, are_new, open_refusal, close_part}
+use Rattle.channel_node.specs.Refusing.{part_with, is_planned, are_new, open_refusal, close_part, release_part}
 use Rattle.channel_node.specs.Tables.{Tables}
 use Rattle.channel_safety.proofs.Tests.{and-left, and-right, and-both, clash}
 use Rattle.channel_node.proofs.Places.{mind-event, mind-watched, mind-entry}
 use Rattle.fairness_laws.proofs.Finding.{not-true, or-rest}
 use Rattle.fairness_laws.proofs.Apart.{joined-apart, accepted-new}
 use Rattle.fairness_laws.proofs.Over.{Seen, IsKept, over, looked}
+use Rattle.network.specs.declared.command.Release.{Release}
 
 -- ---- what an event makes of the plan
 
--- nothing; or its command opens new channels; or it closes a part
+-- a part is told to close, or the participant lets go of it
+abbrev pub IsShut : (lets : Bool) → Tables → Mind → Option Part → Type 0
+IsShut false t m p = None ≡ close_part t m p
+IsShut true t m p = (how : Release) × (None ≡ release_part t m how p)
+
+-- nothing; or its command opens new channels; or it closes a part, or lets go of it
 pub data Change (t : Tables) (r : Rules) (deed : Deed) (of : Option Command) (m new : Mind) : Type 0 where
   stays : new.parts ≡ m.parts → new.goals ≡ m.goals → Change t r deed of m new
   opens : (command : Command) → is_followed deed ≡ true → of ≡ Some command → None ≡ open_refusal t r m command → new.parts ≡ m.parts ++ parts_of r m.key command
       → new.goals ≡ m.goals ++ goals_of (length m.parts) command → Change t r deed of m new
-  closes : (channel : List ℕ) → None ≡ close_part t m (part_with channel m.parts) → new.parts ≡ m.parts
-      → new.goals ≡ map (λ goal. close_if (goal.part == place_with channel m.parts) goal) m.goals → Change t r deed of m new
+  closes : (lets : Bool) (channel : List ℕ) → IsShut lets t m (part_with channel m.parts) → new.parts ≡ m.parts
+      → new.goals ≡ map (λ goal. close_if lets (goal.part == place_with channel m.parts) goal) m.goals → Change t r deed of m new
 
 pub event-changes : (t : Tables) (r : Rules) (s : Signing) (past : List Entry) (used : ℕ) (waits : Option Command) (deed : Deed) (command : Option Command) (m : Mind)
     → Allowed t r s past m used waits deed command → Change t r deed command m (did r deed command m)
@@ -55,7 +61,9 @@ event-changes t r s past used waits (deeds.Commanded step None) (Some (commands.
 event-changes t r s past used waits (deeds.Commanded step None) (Some (commands.OpenVirtual v)) m allowed =
     opens (commands.OpenVirtual v) refl refl allowed.1 refl refl
 event-changes t r s past used waits (deeds.Commanded step None) (Some (commands.Pay channel asset amount)) m allowed = stays refl refl
-event-changes t r s past used waits (deeds.Commanded step None) (Some (commands.Close channel)) m allowed = closes channel allowed.1 refl refl
+event-changes t r s past used waits (deeds.Commanded step None) (Some (commands.Close channel)) m allowed = closes false channel allowed.1 refl refl
+event-changes t r s past used waits (deeds.Commanded step None) (Some (commands.Release how channel)) m allowed = closes true channel (how, allowed.1) refl refl
+event-changes t r s past used waits (deeds.Commanded step None) (Some (commands.Resend channel)) m allowed = stays refl refl
 event-changes t r s past used waits (deeds.Commanded step None) (Some commands.Exit) m allowed = stays refl refl
 event-changes t r s past used waits (deeds.Handled bytes None) command m allowed = at (message_of bytes)
   where
@@ -94,6 +102,8 @@ opened-channels r key (commands.OpenVirtual v) = go (takes_part key v.channel)
     go false = refl
 opened-channels r key (commands.Pay channel asset amount) = refl
 opened-channels r key (commands.Close channel) = refl
+opened-channels r key (commands.Release how channel) = refl
+opened-channels r key (commands.Resend channel) = refl
 opened-channels r key commands.Exit = refl
 
 append-nothing-yet : (xs ys zs : List (List ℕ)) → xs ++ (ys ++ zs) ≡ (xs ++ ys) ++ zs
@@ -132,6 +142,8 @@ new-goal r key n (commands.OpenVirtual v) g (inl e) =
 new-goal r key n (commands.OpenVirtual v) g (inr i) = absurd i
 new-goal r key n (commands.Pay channel asset amount) g i = absurd i
 new-goal r key n (commands.Close channel) g i = absurd i
+new-goal r key n (commands.Release how channel) g i = absurd i
+new-goal r key n (commands.Resend channel) g i = absurd i
 new-goal r key n commands.Exit g i = absurd i
 
 opens-planned : (r : Rules) (m new : Mind) (command : Command) → are_new m (map r.named (opened_by command)) ≡ true → new.parts ≡ m.parts ++ parts_of r m.key command
@@ -161,26 +173,26 @@ opens-planned r m new command fresh parts goals p = record { apart = apart; with
         last : (a b c d : ℕ) → a ≡ b → c ≡ 1 → d ≡ b + c → a < d
         last a b c d w o l = omega arith
 
-pub close-part : (b : Bool) (g : Goal) → (close_if b g).part ≡ g.part
-close-part true g = refl
-close-part false g = refl
+pub close-part : (lets b : Bool) (g : Goal) → (close_if lets b g).part ≡ g.part
+close-part lets true g = refl
+close-part lets false g = refl
 
-closes-planned : (m new : Mind) (channel : List ℕ) → new.parts ≡ m.parts → new.goals ≡ map (λ goal. close_if (goal.part == place_with channel m.parts) goal) m.goals → Planned m → Planned new
-closes-planned m new channel parts goals p = record {
+closes-planned : (lets : Bool) (m new : Mind) (channel : List ℕ) → new.parts ≡ m.parts → new.goals ≡ map (λ goal. close_if lets (goal.part == place_with channel m.parts) goal) m.goals → Planned m → Planned new
+closes-planned lets m new channel parts goals p = record {
   apart = subst (λ (x : List Part). are_apart (channels x) ≡ true) (sym parts) p.apart;
   within = λ g i. within g i;
 }
   where
     within : (g : Goal) → In g new.goals → g.part < length new.parts
     within g i =
-        let was = mapped (λ (goal : Goal). close_if (goal.part == place_with channel m.parts) goal) g m.goals (subst (In g) goals i) in
-        let same : g.part ≡ was.from.part = ap (λ (x : Goal). x.part) was.is ∙ close-part (was.from.part == place_with channel m.parts) was.from in
+        let was = mapped (λ (goal : Goal). close_if lets (goal.part == place_with channel m.parts) goal) g m.goals (subst (In g) goals i) in
+        let same : g.part ≡ was.from.part = ap (λ (x : Goal). x.part) was.is ∙ close-part lets (was.from.part == place_with channel m.parts) was.from in
         subst (λ (n : ℕ). n < length new.parts) (sym same) (subst (λ (x : List Part). was.from.part < length x) (sym parts) (p.within was.from was.there))
 
 change-planned : (t : Tables) (r : Rules) (deed : Deed) (of : Option Command) (m new : Mind) → Change t r deed of m new → Planned m → Planned new
 change-planned t r deed of m new (stays parts goals) p = same-plan m new parts goals p
 change-planned t r deed of m new (opens command followed is accepted parts goals) p = opens-planned r m new command (accepted-new t r m command accepted) parts goals p
-change-planned t r deed of m new (closes channel accepted parts goals) p = closes-planned m new channel parts goals p
+change-planned t r deed of m new (closes lets channel accepted parts goals) p = closes-planned lets m new channel parts goals p
 
 -- ---- over the places
 

@@ -61,7 +61,7 @@ at-three true true true false n c e = refl
 root-at-three : (d : Direct) → d.closing ≡ false → nat_lt (stage_in (root_rows d)) 3 ≡ false → (stage_in (root_rows d) == 3) ≡ true
 root-at-three d e low =
     at-three (d.closing || is_set_up d.channel) (d.closing || is_funded d || holds (direct.people d) d.channel) (d.closing || holds (2 * direct.people d - 1) d.channel) d.closing
-    (cond d.channel.all_final (suc (cond (is_final d.standing && not (is_any_due d)) (suc 0) 0)) 0) e low
+    (cond (d.over || d.channel.all_final) (suc (cond (d.over || (is_final d.standing && not (is_any_due d))) (suc 0) 0)) 0) e low
 
 module _ (m : Mind) (c : List ℕ) where
   no-direct : gathered.goal_in (facts_of m) c ≡ None → direct_in (facts_of m) c ≡ None
@@ -162,6 +162,8 @@ root-of key c (commands.OpenVirtual funding) i = absurd (go (takes_part key fund
     go false (inr i) = i
 root-of key c (commands.Pay channel asset amount) i = absurd i
 root-of key c (commands.Close channel) i = absurd i
+root-of key c (commands.Release how channel) i = absurd i
+root-of key c (commands.Resend channel) i = absurd i
 root-of key c commands.Exit i = absurd i
 
 -- a root at a place opens with its goal's outcome

@@ -104,26 +104,26 @@ opening-signable g k s from until su few e =
     below : (a b c : ℕ) → a < b → b ≤ c → a < c
     below a b c p q = omega arith
 
-final-signable : (g : Goal) (k : Kept) (s t : StateParts) → SetsUp g k → g.closing ≡ true → newest k.chain.states ≡ Some t → is_ended k ≡ false
+final-signable : (g : Goal) (k : Kept) (s t : StateParts) → SetsUp g k → g.closing ≡ true → g.over ≡ false → newest k.chain.states ≡ Some t → is_ended k ≡ false
     → when (has_no_data t && nat_lt (next_of k) (2 ^ 48) && (next_of k % length (persons k.chain.fixed) == k.me)) (state_with (next_of k) true t.outcome []) ≡ Some s → Signable k s
-final-signable g k s t su closing newest-is going e =
+final-signable g k s t su closing held-on newest-is going e =
     let w = when-some (has_no_data t && nat_lt (next_of k) (2 ^ 48) && (next_of k % length (persons k.chain.fixed) == k.me)) (state_with (next_of k) true t.outcome []) s e in
     let bare = and-left (has_no_data t) (nat_lt (next_of k) (2 ^ 48)) (and-left (has_no_data t && nat_lt (next_of k) (2 ^ 48)) (next_of k % length (persons k.chain.fixed) == k.me) w.holds) in
     record {
       turn = sym (ap (λ (x : StateParts). x.turn) w.is);
       mine = own-turn k (and-right (has_no_data t && nat_lt (next_of k) (2 ^ 48)) (next_of k % length (persons k.chain.fixed) == k.me) w.holds);
-      comes = subst (λ (x : StateParts). follows real k x ≡ true) w.is (final-follows g k t su closing newest-is going bare);
+      comes = subst (λ (x : StateParts). follows real k x ≡ true) w.is (final-follows g k t su closing held-on newest-is going bare);
     }
 
 -- the top of the held chain, where the row of closing wants something
-after-top : (g : Goal) (k : Kept) (s : StateParts) → SetsUp g k → g.closing ≡ true → (held : Bool) → is_held k ≡ held
+after-top : (g : Goal) (k : Kept) (s : StateParts) → SetsUp g k → g.closing ≡ true → g.over ≡ false → (held : Bool) → is_held k ≡ held
     → gathered.are_final (cond held (Some (record { channel = k.channel; chain = k.chain })) None) ≡ false → (top : Option StateParts)
     → gathered.top_of (cond held (Some (record { channel = k.channel; chain = k.chain })) None) ≡ top
     → (own : Option StateParts) (channel : List ℕ) (h : Option HeldChain) → final_after (seat k g channel h own) top ≡ Some s → Signable k s
-after-top g k s su closing held is going None t own channel h e = absurd (none-eq s e)
-after-top g k s su closing false is going (Some top) t own channel h e = absurd (none-eq top t)
-after-top g k s su closing true is going (Some top) t own channel h e =
-    final-signable g k s top su closing t (ap (λ (b : Bool). b && all-final) is ∙ going) e
+after-top g k s su closing held-on held is going None t own channel h e = absurd (none-eq s e)
+after-top g k s su closing held-on false is going (Some top) t own channel h e = absurd (none-eq top t)
+after-top g k s su closing held-on true is going (Some top) t own channel h e =
+    final-signable g k s top su closing held-on t (ap (λ (b : Bool). b && all-final) is ∙ going) e
   where
     all-final : Bool
     all-final = list_all (λ x. x.is_final) k.chain.states
@@ -135,8 +135,8 @@ signable f g k s channel h own hc v several su is (opens from until which e) = o
     few : (until ≡ length (persons k.chain.fixed)) ⊎ (until ≡ 2 * length (persons k.chain.fixed)) → until ≤ 2 * people k.chain.fixed
     few (inl u) = let n : length (persons k.chain.fixed) ≡ people k.chain.fixed = as-many k in omega arith
     few (inr u) = let n : length (persons k.chain.fixed) ≡ people k.chain.fixed = as-many k in omega arith
-signable f g k s channel h own hc v several su is (closes closing going e) =
-    after-top g k s su closing (is_held k) refl (sym (ap gathered.are_final is) ∙ going) (gathered.top_of h) (sym (ap gathered.top_of is)) own channel h e
+signable f g k s channel h own hc v several su is (closes closing held-on going e) =
+    after-top g k s su closing held-on (is_held k) refl (sym (ap gathered.are_final is) ∙ going) (gathered.top_of h) (sym (ap gathered.top_of is)) own channel h e
 
 -- what the facts say of a root that is kept
 pub direct-found : (m : Mind) (channel : List ℕ) (g : Goal) (k : Kept) → gathered.goal_in (facts_of m) channel ≡ Some g → kept_of channel m.kept ≡ Some k

@@ -140,7 +140,7 @@ module _ (s : Signing) (h : List Entry) (journal : List Told) (fair : IsFair s h
           few : (until ≡ roots.people r.direct) ⊎ (until ≡ 2 * roots.people r.direct) → until ≤ 2 * people f
           few (inl u) = let n : length r.direct.channel.people ≡ people f = many in omega arith
           few (inr u) = let n : length r.direct.channel.people ≡ people f = many in omega arith
-      by-row (closes closing ended e) = finals_are_fair s.key (orders_of real s.key journal) past (lines_of s.key front) f p.goal.opening r.direct.channel sit state e
+      by-row (closes closing held-on ended e) = finals_are_fair s.key (orders_of real s.key journal) past (lines_of s.key front) f p.goal.opening r.direct.channel sit state e
 
 pub roots_want_fairly : RootsWantFairly
 roots_want_fairly s h journal name fair past front at f state own valid going live asked wanted =

@@ -107,6 +107,8 @@ none-waits key orders (y ∷ front) fits e = by y.deed y.command refl e
         of (Some (commands.OpenVirtual v)) e = no-payment (parts_of real key (commands.OpenVirtual v))
         of (Some (commands.Pay channel asset amount)) e = absurd (none-eq (commands.Pay channel asset amount) (sym e))
         of (Some (commands.Close channel)) e = refl
+        of (Some (commands.Release how channel)) e = refl
+        of (Some (commands.Resend channel)) e = refl
         of (Some commands.Exit) e = refl
 
 -- where one waits, it was
@@ -133,6 +135,8 @@ waits key orders (y ∷ front) command fits e = by y.deed y.command refl refl e
     by (deeds.Commanded step None) (Some (commands.OpenOn o)) at is e = absurd (none-eq command e)
     by (deeds.Commanded step None) (Some (commands.OpenVirtual v)) at is e = absurd (none-eq command e)
     by (deeds.Commanded step None) (Some (commands.Close channel)) at is e = absurd (none-eq command e)
+    by (deeds.Commanded step None) (Some (commands.Release how channel)) at is e = absurd (none-eq command e)
+    by (deeds.Commanded step None) (Some (commands.Resend channel)) at is e = absurd (none-eq command e)
     by (deeds.Commanded step None) (Some commands.Exit) at is e = absurd (none-eq command e)
     by (deeds.Commanded step None) (Some (commands.Pay channel asset amount)) at is e = record {
       channel = channel;

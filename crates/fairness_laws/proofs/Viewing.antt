@@ -10,7 +10,6 @@ use Rattle.call_history.specs.declared.held_chain.Known.{Known}
 use Rattle.call_history.specs.declared.view.ChannelView.{ChannelView}
 use Rattle.call_history.specs.declared.view.WorldView.{WorldView}
 use Rattle.asset_holder.specs.Receipts.{assets_of}
-use Rattle.funding_plans.specs.Parts.{channels}
 use Rattle.funding_plans.specs.declared.plan.Plan.{Plan}
 use Rattle.history_view.specs.Views.{view_of}
 use Rattle.history_view.specs.Standing.{KnowsChannel, StandsFor}

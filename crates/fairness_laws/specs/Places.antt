@@ -38,12 +38,12 @@ pub record RootPlace (s : Signing) (h : List Entry) (journal : List Told) (f : F
   pub goal : goal_in (facts_of (mind_at real s.key past front)) (real.named f) ≡ Some g
   pub keeps : kept_of (real.named f) (mind_at real s.key past front).kept ≡ Some k
 
--- where Close was commanded of the root, its set-up is over
+-- where Close was commanded of the root, and the participant didn't let go of it, its set-up is over
 abbrev pub RootsCloseAfterSetUp : Type 0
 RootsCloseAfterSetUp =
     (s : Signing) (h : List Entry) (journal : List Told) → Legal real h → Plays stages real s h journal
     → NoCollision real h (lines_of s.key journal) → (f : FixedParts) (g : Goal) (k : Kept)
-    → RootPlace s h journal f g k → g.closing ≡ true → 2 * people k.chain.fixed ≤ next_of k
+    → RootPlace s h journal f g k → g.closing ≡ true → g.over ≡ false → 2 * people k.chain.fixed ≤ next_of k
 
 -- what the stage of a root wants is signed
 abbrev pub RootsSignAtPlaces : Type 0

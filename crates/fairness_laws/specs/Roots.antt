@@ -30,12 +30,13 @@ pub record HasRepeated (opening : List AssetOutcome) (states : List StateParts) 
   pub repeated : is_repeated opening state ≡ true
 
 -- What is kept of a channel sets up as was commanded: it is the first round so far or a supported chain; while the set-up of
--- twice as many turns as people lasts, one of its states repeats the opening outcome; and Close wasn't commanded before.
+-- twice as many turns as people lasts, one of its states repeats the opening outcome; and Close wasn't commanded before,
+-- where the participant didn't let go of it.
 pub record SetsUp (g : Goal) (k : Kept) : Type 0 where
   pub good : IsGoodKept real k
   pub repeats : (s : StateParts) → newest k.chain.states ≡ Some s → s.turn + 1 < 2 * people k.chain.fixed
       → HasRepeated g.opening k.chain.states
-  pub closes : g.closing ≡ true → 2 * people k.chain.fixed ≤ next_of k
+  pub closes : g.closing ≡ true → g.over ≡ false → 2 * people k.chain.fixed ≤ next_of k
 
 -- Of a channel that is kept once and about which its own part is asked, the guard lets all through that is wanted.
 abbrev pub RootsSignWhatTheyWant : Type 0

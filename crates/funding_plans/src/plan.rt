@@ -44,13 +44,14 @@ pub struct Plan {
 }
 
 /// What was commanded of a part: its place in the plan, the outcome with which its channel opens, the amounts of its two
-/// people, and whether it is to close.
+/// people, whether it is to close, and whether the participant let go of it.
 #[derive(Drop)]
 pub struct Goal {
     pub part: u8,
     pub opening: Outcome,
     pub amounts: (u64, u64),
     pub closing: bool,
+    pub over: bool,
 }
 
 impl Virtual {

@@ -1,6 +1,6 @@
 -- What a channel that holds its own funds calls is few: an outcome has at most four assets.
 use Rattle.std.proofs.Common.{◌≡◌, suc, ◌≤◌, Bool, true, false, List, [], ◌∷◌, length, Option, Some, None, Result, Ok, Err, IfOk, ap, arith}
-use Rattle.std.specs.Prelude.{if◌then◌else◌}
+use Rattle.std.specs.Prelude.{◌&&◌, if◌then◌else◌}
 use Rattle.std.specs.List.{filter_map, cons_option, AllByRecursion}
 use Rattle.channel_values.specs.declared.chain.Chain.{Chain}
 use Rattle.channel_values.specs.declared.value.AssetOutcome.{AssetOutcome}
@@ -8,8 +8,9 @@ use Rattle.channel_values.specs.Outcomes.{IsOutcome}
 use Rattle.call_history.specs.declared.standing.Standing.{Standing}
 use Rattle.call_history.specs.declared.standing.Standing.TheVariants.{Open, Challenged, Final}
 use Rattle.call_history.specs.declared.call.Call.{Call}
+use Rattle.call_history.specs.Mode.{is_final}
 use Rattle.funding_plans.specs.Rows.{Row, called_in}
-use Rattle.ledger_channel.specs.Roots.{Direct, is_open, deposit_in, deposits, left_of, transfer_in, transfers_of, conclude, concluding, root_rows}
+use Rattle.ledger_channel.specs.Roots.{Direct, is_open, deposit_in, deposits, left_of, transfer_in, transfers_of, transfers, conclude, concluding, root_rows}
 
 pub outcome_is_few : (os : List AssetOutcome) → IsOutcome os → length os ≤ 4
 outcome_is_few os valid = valid.0
@@ -49,13 +50,16 @@ few_concluding d Open h = few_conclude d.chain
 few_concluding d Challenged h = none
 few_concluding d Final h = few_transfers d d.settled d.rest h
 
+few_taken : (d : Direct) → length (left_of d.rest) ≤ 4 → length (if d.over && is_final d.standing then transfers d else []) ≤ 4
+few_taken d h = pick (d.over && is_final d.standing) (transfers d) [] (few_transfers d d.settled d.rest h) none
+
 few_called : (rows : List Row) → AllByRecursion (λ r. length r.calls ≤ 4) rows → length (called_in rows) ≤ 4
 few_called [] h = none
 few_called (r ∷ rows) h = pick r.leaves (called_in rows) r.calls (few_called rows h.1) h.0
 
 pub few_of_root : (d : Direct) → length d.channel.opening ≤ 4 → length (left_of d.rest) ≤ 4 → length (called_in (root_rows d)) ≤ 4
 few_of_root d opening left =
-    few_called (root_rows d) (none, (few_deposits d opening, (none, (none, (none, (few_concluding d d.standing left, record {}))))))
+    few_called (root_rows d) (none, (few_deposits d opening, (none, (none, (none, (few_concluding d d.standing left, (few_taken d left, record {})))))))
 
 pub few_in : {A E : Type 0} (items : A → List Call) (calls : List Call) (r : Result A E) → length calls ≤ 4 → IfOk r (λ v. items v ≡ calls)
     → IfOk r (λ v. length (items v) ≤ 4)

@@ -20,12 +20,13 @@ use Rattle.funding_plans.specs.Shapes.{items_in}
 use Rattle.funding_plans.specs.Seats.{Seat, holds, is_set_up, repeats, final_state, is_spelled, takes_payment, takes_vote}
 use Rattle.funding_plans.specs.Rows.{Row, ◌⊢◌, signing, calling, waiting}
 
--- the channel, its participant's name, whether Close was commanded and it is a payment channel, how it stands in the view,
+-- the channel, its participant's name, whether Close was commanded, the participant let go of it and it is a payment channel, how it stands in the view,
 -- what it holds by asset, what it settled on and what is left of that, and the held chain
 pub record Direct : Type 0 where
   pub channel : Seat
   pub who : List ℕ
   pub closing : Bool
+  pub over : Bool
   pub pays : Bool
   pub standing : Standing
   pub held : List (ℕ × ℕ)
@@ -132,12 +133,32 @@ root_rows d =
     -- 3 running
     ∷ waiting d.closing
     -- 4 closing
-    ∷ signing d.channel.all_final ((d.channel ⊢ final_state d.channel) ∷ [])
+    ∷ signing (d.over || d.channel.all_final) ((d.channel ⊢ final_state d.channel) ∷ [])
     -- 5 concluding
-    ∷ calling (is_final d.standing && not (is_any_due d)) (concluding d d.standing)
+    ∷ calling (d.over || (is_final d.standing && not (is_any_due d))) (concluding d d.standing)
     -- 6 closed
-    ∷ []
+    ∷ calling false (if d.over && is_final d.standing then transfers d else []) ∷ []
 
--- what is taken from others: there is no target
+-- what is taken from others: there is no target, and nothing once it is let go of
 abbrev pub root_takes : Direct → StateParts → Bool
-root_takes d s = if d.pays then takes_payment d.channel s else takes_vote (is_spelled None) d.channel s
+root_takes d s = if d.over then false else (if d.pays then takes_payment d.channel s else takes_vote (is_spelled None) d.channel s)
+
+-- ---- letting go of it
+
+-- it is final
+abbrev pub root_settles : Direct → Bool
+root_settles d = is_final d.standing && not d.over
+
+-- the participant's item of an asset has or had its turn
+abbrev pub has_turn : Direct → AssetOutcome → Bool
+has_turn d o =
+    not (amt (items_in o.asset d.channel.opening) (Person d.who) == 0)
+    && nat_le (ahead_of (items_in o.asset d.channel.opening) (Person d.who)) (held_of o.asset d.held)
+
+-- it called no deposit: it isn't set up, or no item of the participant had its turn
+abbrev pub has_put_nothing : Direct → Bool
+has_put_nothing d = not (is_set_up d.channel) || not (list_any (has_turn d) d.channel.opening)
+
+-- it opens, and isn't final
+abbrev pub root_abandons : Direct → Bool
+root_abandons d = not d.closing && (not (is_final d.standing) && (not (holds (2 * people d - 1) d.channel) && has_put_nothing d))

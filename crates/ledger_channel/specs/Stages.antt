@@ -19,7 +19,7 @@ use Rattle.funding_plans.specs.Seats.{Seat}
 use Rattle.funding_plans.specs.Rows.{stage_in, wanted_in, called_in}
 use Rattle.funding_plans.specs.Gathered.{chain_in, view_in, goal_in, seat_in, child_for}
 use Rattle.funding_plans.specs.declared.child.Child.{Child}
-use Rattle.ledger_channel.specs.Roots.{Direct, root_rows, root_takes}
+use Rattle.ledger_channel.specs.Roots.{Direct, root_rows, root_takes, root_settles, root_abandons}
 use Rattle.ledger_channel.specs.OnLedgers.{Funded, on_ledger_rows, on_ledger_takes}
 
 -- ---- a channel that holds its own funds
@@ -53,6 +53,7 @@ direct_with f c g h v = record {
   channel = c;
   who = f.me;
   closing = g.closing;
+  over = g.over;
   pays = pays_in h;
   standing = standing_in f.view.now v;
   held = held_in v;
@@ -137,3 +138,20 @@ abbrev pub takes_of : FactsOf → Part → List ℕ → StateParts → Bool
 takes_of f (Root name) channel s = taken_of_root channel s (direct_in f name)
 takes_of f (OnLedger ledger name) channel s = taken_on_ledger channel s (funded_in f ledger name)
 takes_of f _ channel s = false
+
+abbrev pub settles_of_root : Option Direct → Bool
+settles_of_root None = false
+settles_of_root (Some d) = root_settles d
+
+abbrev pub abandons_of_root : Option Direct → Bool
+abandons_of_root None = false
+abandons_of_root (Some d) = root_abandons d
+
+-- whether the participant may let go of it: of a channel that holds its own funds that is final, or that opens
+abbrev pub settles_of : FactsOf → Part → Bool
+settles_of f (Root name) = settles_of_root (direct_in f name)
+settles_of f _ = false
+
+abbrev pub abandons_of : FactsOf → Part → Bool
+abandons_of f (Root name) = abandons_of_root (direct_in f name)
+abandons_of f _ = false

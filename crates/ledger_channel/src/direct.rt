@@ -1,10 +1,12 @@
 //! The stages of a channel that holds its own funds.
 
-ghost use Rattle.std.specs.Prelude.{◌≡◌, ◌≤◌, ◌<◌, ◌-◌, ◌*◌, ◌^◌, ◌&&◌, not, IfOk, None, length};
+ghost use Rattle.std.specs.Prelude.{◌≡◌, ◌≤◌, ◌<◌, ◌-◌, ◌*◌, ◌^◌, ◌&&◌, ◌||◌, not, IfOk, None, length, [], ◌==◌, nat_le, if◌then◌else◌};
 ghost use Rattle.std.specs.List.{filter_map, list_any};
 ghost use Rattle.std.specs.Str.{bytes_eq};
 ghost use Rattle.call_history.specs.Mode.{is_final};
+ghost use Rattle.channel_values.specs.Amounts.{amt};
 ghost use Rattle.channel_values.specs.Outcomes.{total};
+ghost use Rattle.channel_values.specs.declared.value.Dest.TheVariants.{Person};
 ghost use Rattle.funding_plans.specs.Rows as rows;
 ghost use Rattle.funding_plans.specs.Seats as seats;
 ghost use Rattle.ledger_channel.specs.Roots as roots;
@@ -23,6 +25,7 @@ pub(crate) struct DirectView<'a> {
     pub(crate) opening: &'a Outcome,
     pub(crate) who: Name,
     pub(crate) closing: bool,
+    pub(crate) over: bool,
     pub(crate) pays: bool,
     pub(crate) standing: Standing,
     pub(crate) held: &'a [(u32, u64)],
@@ -38,7 +41,7 @@ impl<'a> Model for DirectView<'a> {
 
     ghost Value = { Direct };
 
-    ghost view = { λ d. record { channel = d.channel; who = d.who; closing = d.closing; pays = d.pays; standing = d.standing; held = d.held.now; settled = option_copied d.settled; rest = option_copied d.rest; chain = option_copied d.chain } };
+    ghost view = { λ d. record { channel = d.channel; who = d.who; closing = d.closing; over = d.over; pays = d.pays; standing = d.standing; held = d.held.now; settled = option_copied d.settled; rest = option_copied d.rest; chain = option_copied d.chain } };
 
     ghost invariant = { λ d. d.channel.opening ≡ d.opening.now };
 }
@@ -248,10 +251,29 @@ impl<'a> DirectView<'a> {
         self.channel.has_finals()
     }
 
-    fn is_paid_out(&self) -> bool
-        ensures { result ≡ is_final self.now.standing && not (roots.is_any_due self.now) }
+    /// Nothing more is signed in it.
+    fn is_done(&self) -> bool
+        ensures { result ≡ self.now.over || self.now.channel.all_final }
     {
-        self.standing == Standing::Final && !self.is_any_due()
+        self.over || self.has_finals()
+    }
+
+    fn is_paid_out(&self) -> bool
+        ensures { result ≡ self.now.over || (is_final self.now.standing && not (roots.is_any_due self.now)) }
+    {
+        self.over || (self.standing == Standing::Final && !self.is_any_due())
+    }
+
+    /// What is due once it is final, where the participant let go of it.
+    fn rest_taken(&self, alloc: Global) -> Result<Vec<Call>, NoMemory>
+        ensures { IfOk result (λ v. v.items
+            ≡ (if self.now.over && is_final self.now.standing then roots.transfers self.now else [])) }
+    {
+        if self.over && self.standing == Standing::Final {
+            self.transfers(alloc)
+        } else {
+            Ok(Vec::new(alloc))
+        }
     }
 
     /// The stage, by the table of its rows.
@@ -266,7 +288,7 @@ impl<'a> DirectView<'a> {
             2
         } else if !self.closing {
             3
-        } else if !self.has_finals() {
+        } else if !self.is_done() {
             4
         } else if !self.is_paid_out() {
             5
@@ -337,6 +359,7 @@ impl<'a> DirectView<'a> {
         match stage {
             1 => self.deposits(alloc),
             5 => self.concluding(alloc),
+            6 => self.rest_taken(alloc),
             _ => Ok(Vec::new(alloc)),
         }
     }
@@ -379,7 +402,9 @@ impl<'a> DirectView<'a> {
     pub(crate) fn takes(&self, state: &State) -> bool
         ensures { result ≡ roots.root_takes self.now state.now }
     {
-        if self.pays {
+        if self.over {
+            false
+        } else if self.pays {
             self.channel.takes_payment(state)
         } else {
             self.takes_vote(state)
@@ -390,5 +415,54 @@ impl<'a> DirectView<'a> {
         ensures { result ≡ bytes_eq self.now.channel.name name.now && roots.root_takes self.now state.now }
     {
         self.is_here(name) && self.takes(state)
+    }
+}
+
+// ---- letting go of it
+
+impl<'a> DirectView<'a> {
+    /// It is final.
+    pub(crate) fn settles(&self) -> bool
+        ensures { result ≡ roots.root_settles self.now }
+    {
+        self.standing == Standing::Final && !self.over
+    }
+
+    fn has_turn_with(&self, asset: u32, items: &[Item]) -> bool
+        requires { total items.now < 2 ^ 64 }
+        ensures { result ≡ not (amt items.now (Person self.now.who) == 0)
+            && nat_le (roots.ahead_of items.now (Person self.now.who)) (roots.held_of asset self.now.held) }
+    {
+        let to = Dest::Person(self.who);
+        amt(items, &to) != 0 && ahead_of(items, &to) <= held_of(self.held, asset)
+    }
+
+    /// The participant's item of an asset has or had its turn.
+    fn has_turn(&self, o: &AssetOutcome) -> bool
+        ensures { result ≡ roots.has_turn self.now o.now }
+    {
+        self.has_turn_with(o.asset, items_in(self.opening, o.asset))
+    }
+
+    fn has_any_turn(&self) -> bool
+        ensures { result ≡ list_any (roots.has_turn self.now) self.now.channel.opening }
+    {
+        self.opening.assets().iter().any(|o| self.has_turn(o))
+    }
+
+    fn has_put_nothing(&self) -> bool
+        ensures { result ≡ roots.has_put_nothing self.now }
+    {
+        !self.is_set_up() || !self.has_any_turn()
+    }
+
+    /// It opens, isn't final, and the participant put nothing in.
+    pub(crate) fn abandons(&self) -> bool
+        ensures { result ≡ roots.root_abandons self.now }
+    {
+        !self.closing
+            && self.standing != Standing::Final
+            && !self.is_posted()
+            && self.has_put_nothing()
     }
 }

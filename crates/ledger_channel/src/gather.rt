@@ -80,6 +80,7 @@ fn direct_with<'a>(facts: &Facts<'a>, name: &Name, goal: &'a Goal) -> Option<Dir
         opening: &goal.opening,
         who: facts.me,
         closing: goal.closing,
+        over: goal.over,
         pays: pays_in(held),
         standing: standing_in(facts.view.now, view),
         held: held_in(view),

@@ -16,6 +16,15 @@ pub enum Route {
     Onward,
 }
 
+/// How a participant lets go of a channel that holds its own funds.
+#[derive(Clone, Copy, Debug, PartialEq, Eq)]
+pub enum Release {
+    /// It is final, and what is due in it is taken.
+    Settle,
+    /// It isn't set up yet, and the participant put nothing in.
+    Abandon,
+}
+
 /// How a channel of the ledger's two people is funded by what they have in the ledger.
 #[derive(Drop)]
 pub struct LedgerFunding {
@@ -96,6 +105,15 @@ pub enum Command {
     Close {
         channel: Name,
     },
+    /// Lets go of what a channel belongs to.
+    Release {
+        how: Release,
+        channel: Name,
+    },
+    /// Sends the newest state that the node signed in a channel once more.
+    Resend {
+        channel: Name,
+    },
     /// Leaves every channel.
     Exit,
 }
@@ -126,6 +144,11 @@ pub fn copy_command(command: &Command) -> Result<Command, NoMemory>
             amount: *amount,
         }),
         Command::Close { channel } => Ok(Command::Close { channel: *channel }),
+        Command::Release { how, channel } => Ok(Command::Release {
+            how: *how,
+            channel: *channel,
+        }),
+        Command::Resend { channel } => Ok(Command::Resend { channel: *channel }),
         Command::Exit => Ok(Command::Exit),
     }
 }

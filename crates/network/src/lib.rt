@@ -18,7 +18,7 @@ mod watcher_laws;
 mod world;
 mod world_laws;
 
-pub use command::{Command, LedgerFunding, Route, VirtualFunding, copy_command};
+pub use command::{Command, LedgerFunding, Release, Route, VirtualFunding, copy_command};
 pub use docket::Docket;
 pub use happening::Happening;
 pub use lookout::Lookout;

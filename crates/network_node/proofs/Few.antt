@@ -27,7 +27,7 @@ use Rattle.funding_plans.specs.declared.plan.Part.TheVariants.{End, Middle}
 use Rattle.funding_plans.specs.declared.plan.Virtual.{Virtual}
 use Rattle.network.specs.Ways.{looked}
 use Rattle.network.specs.declared.command.Command.{Command}
-use Rattle.network.specs.declared.command.Command.TheVariants.{Open, OpenOn, OpenVirtual, Pay, Close, Exit}
+use Rattle.network.specs.declared.command.Command.TheVariants.{Open, OpenOn, OpenVirtual, Pay, Close, Release, Resend, Exit}
 use Rattle.network.specs.declared.lookout.Lookout.{Lookout}
 use Rattle.network.specs.declared.outs.NodeFault.{NodeFault}
 use Rattle.network.specs.declared.outs.NodeFault.TheVariants.{Refused, NoMemory}
@@ -44,9 +44,7 @@ use Rattle.stage_tables.specs.Stages.{stages}
 use Rattle.support_rules.specs.Real.{real}
 use Rattle.history_view.specs.Views.{view_of}
 use Rattle.node_guarantees.specs.Ways.{key_of}
-use Rattle.network_node.specs.Counts.{IsCounted}
 use Rattle.network_node.specs.Few.{KeepsFew, IsSmall, IsNode}
-use Rattle.network_node.proofs.Counted.{lost_counted, new_counted, commanded_counted}
 
 -- ---- what is known
 
@@ -107,6 +105,8 @@ as-opened key (OpenVirtual funding) = go (takes_part key funding.channel)
     go false = refl
 as-opened key (Pay channel asset amount) = refl
 as-opened key (Close channel) = refl
+as-opened key (Release how channel) = refl
+as-opened key (Resend channel) = refl
 as-opened key Exit = refl
 
 few-opened : (m : Mind) (command : Command) → open_refusal stages real m command ≡ None → KeepsFew m → KeepsFew (with_opened real command m)
@@ -127,6 +127,8 @@ few-commanded limit used m (OpenOn o) e few = few-opened m (OpenOn o) e few
 few-commanded limit used m (OpenVirtual v) e few = few-opened m (OpenVirtual v) e few
 few-commanded limit used m (Pay channel asset amount) e few = few
 few-commanded limit used m (Close channel) e few = few-same m (commanded real (Close channel) m) refl refl few
+few-commanded limit used m (Release how channel) e few = few-same m (commanded real (Release how channel) m) refl refl few
+few-commanded limit used m (Resend channel) e few = few
 few-commanded limit used m Exit e few = few-same m (commanded real Exit m) refl refl few
 
 -- ---- nodes
@@ -186,6 +188,8 @@ small-told s step command n small = go (command_refusal stages real s.limit n.us
     paid (OpenVirtual v) m fine = fine
     paid (Pay channel asset amount) m fine = small-signed s channel (signs_in stages real (Some (Pay channel asset amount)) m.mind channel) m fine
     paid (Close channel) m fine = fine
+    paid (Release how channel) m fine = fine
+    paid (Resend channel) m fine = fine
     paid Exit m fine = fine
 
     go : (refusal : Option NodeRefusal) → command_refusal stages real s.limit n.used n.mind command ≡ refusal
@@ -255,24 +259,22 @@ new_small signer = λ kept. record { kept = omega arith; planned = omega arith }
 
 -- ---- the node with its key
 
-pub is_node : (key : List ℕ) (old new : NodeOf) → IsNode key old → new.signer ≡ old.signer → IsSmall new → IsCounted new → IsNode key new
-is_node key old new was signer small counted = record { own = was.own ∙ ap key_of (sym signer); small = small; counted = counted }
+pub is_node : (key : List ℕ) (old new : NodeOf) → IsNode key old → new.signer ≡ old.signer → IsSmall new → IsNode key new
+is_node key old new was signer small = record { own = was.own ∙ ap key_of (sym signer); small = small }
 
 -- a command that failed, or was refused
 pub failed_node : (key : List ℕ) (s : Signing) (step : ℕ) (command : Command) (old new : NodeOf) (fault : NodeFault) → CommandAnswers stages real s step command old new (Err fault)
     → IsNode key old → new.signer ≡ old.signer → IsNode key new
 failed_node key s step command old new (Refused refusal) answer was signer =
-    is_node key old new was signer (commanded_small s step command old new answer.2 was.small) (commanded_counted s step command old new answer.2 was.counted)
-failed_node key s step command old new NoMemory answer was signer = is_node key old new was signer (lost_small new answer) (lost_counted new answer)
+    is_node key old new was signer (commanded_small s step command old new answer.2 was.small)
+failed_node key s step command old new NoMemory answer was signer = is_node key old new was signer (lost_small new answer)
 
 pub lost_node : (key : List ℕ) (old new : NodeOf) → IsNode key old → new ≡ record old { is_lost = true } → IsNode key new
 lost_node key old new was is =
     is_node key old new was (ap (λ (n : NodeOf). n.signer) is) (lost_small new (ap (λ (n : NodeOf). n.is_lost) is))
-    (lost_counted new (ap (λ (n : NodeOf). n.is_lost) is))
 
 pub made_node : (key : List ℕ) (signer : SignerOf) (n : NodeOf) → n ≡ new_node signer → key ≡ key_of signer → IsNode key n
 made_node key signer n is own = record {
   own = own ∙ ap key_of (sym (ap (λ (k : NodeOf). k.signer) is));
   small = subst IsSmall (sym is) (new_small signer);
-  counted = subst IsCounted (sym is) (new_counted signer);
 }

@@ -12,7 +12,7 @@ use Rattle.channel_store.specs.Keeping.{held_chain}
 use Rattle.network.specs.Ways.{followed, looked}
 use Rattle.network.specs.Histories.{RefusesAs, ComeNext, HasLooked}
 use Rattle.network.specs.declared.command.Command.{Command}
-use Rattle.network.specs.declared.command.Command.TheVariants.{Open, OpenOn, OpenVirtual, Pay, Close, Exit}
+use Rattle.network.specs.declared.command.Command.TheVariants.{Open, OpenOn, OpenVirtual, Pay, Close, Release, Resend, Exit}
 use Rattle.network.specs.declared.lookout.Lookout.{Lookout}
 use Rattle.network.specs.declared.outs.NodeFault.{NodeFault}
 use Rattle.network.specs.declared.outs.NodeFault.TheVariants.{Refused, NoMemory}
@@ -85,6 +85,8 @@ exit-gains step (OpenOn o) n e = absurd cc
 exit-gains step (OpenVirtual v) n e = absurd cc
 exit-gains step (Pay channel asset amount) n e = absurd cc
 exit-gains step (Close channel) n e = absurd cc
+exit-gains step (Release how channel) n e = absurd cc
+exit-gains step (Resend channel) n e = absurd cc
 exit-gains step Exit n e = refl
 
 -- an exit is never refused
@@ -94,6 +96,8 @@ no-exit s (OpenOn o) n refusal e = refl
 no-exit s (OpenVirtual v) n refusal e = refl
 no-exit s (Pay channel asset amount) n refusal e = refl
 no-exit s (Close channel) n refusal e = refl
+no-exit s (Release how channel) n refusal e = refl
+no-exit s (Resend channel) n refusal e = refl
 no-exit s Exit n refusal e = absurd cc
 
 -- what is noted, where there is something to note

@@ -2,7 +2,6 @@ pub mod Followed
 pub mod Kept
 pub mod Gaining
 pub mod Own
-pub mod Counted
 pub mod Few
 pub mod Racing
 pub mod Writing

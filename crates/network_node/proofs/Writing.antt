@@ -20,7 +20,7 @@ use Rattle.call_history.specs.declared.event.NodeRefusal.{NodeRefusal}
 use Rattle.channel_values.specs.Rules.{Rules}
 use Rattle.channel_safety.specs.Journals.{In}
 use Rattle.network.specs.declared.command.Command.{Command}
-use Rattle.network.specs.declared.command.Command.TheVariants.{Open, OpenOn, OpenVirtual, Pay, Close, Exit}
+use Rattle.network.specs.declared.command.Command.TheVariants.{Open, OpenOn, OpenVirtual, Pay, Close, Release, Resend, Exit}
 use Rattle.channel_node.proofs.Bridging.{lines-append}
 use Rattle.channel_node.proofs.Places.{told-event, told-command}
 use Rattle.channel_node.specs.Giving.{in_order, after_signing, after_challenging, tick_calls, after_tick}
@@ -126,6 +126,8 @@ commanded-view r (OpenOn o) m = refl
 commanded-view r (OpenVirtual v) m = refl
 commanded-view r (Pay channel asset amount) m = refl
 commanded-view r (Close channel) m = refl
+commanded-view r (Release how channel) m = refl
+commanded-view r (Resend channel) m = refl
 commanded-view r Exit m = refl
 
 commanded-if-view : (r : Rules) (command : Command) (refusal : Option NodeRefusal) (m : Mind) → (commanded_if r (Some command) refusal m).view.count ≡ m.view.count
@@ -220,6 +222,8 @@ module _ (t : Tables) (r : Rules) where
   paid-adds s None (OpenVirtual v) n = adds-none n
   paid-adds s None (Pay channel asset amount) n = signed-adds s channel (signs_in t r (Some (Pay channel asset amount)) n.mind channel) n
   paid-adds s None (Close channel) n = adds-none n
+  paid-adds s None (Release how channel) n = adds-none n
+  paid-adds s None (Resend channel) n = adds-none n
   paid-adds s None Exit n = adds-none n
 
   told-adds : (s : Signing) (step : ℕ) (command : Command) (n : NodeOf) → Adds [] n (told_to t r s step command n)

@@ -4,7 +4,6 @@ use Rattle.funding_plans.specs.Parts.{channels}
 use Rattle.channel_node.specs.Minds.{Mind}
 use Rattle.channel_node.specs.Nodes.{NodeOf}
 use Rattle.node_guarantees.specs.Ways.{key_of}
-use Rattle.network_node.specs.Counts.{IsCounted}
 
 -- no more than its plan has, which are at most 64
 pub record KeepsFew (m : Mind) : Type 0 where
@@ -15,8 +14,7 @@ pub record KeepsFew (m : Mind) : Type 0 where
 abbrev pub IsSmall : NodeOf → Type 0
 IsSmall n = n.is_lost ≡ false → KeepsFew n.mind
 
--- the key is that of its signer, it keeps few channels, and its journal has all that it signed
+-- the key is that of its signer, and it keeps few channels
 pub record IsNode (key : List ℕ) (n : NodeOf) : Type 0 where
   pub own : key ≡ key_of n.signer
   pub small : IsSmall n
-  pub counted : IsCounted n

@@ -15,7 +15,7 @@ use Rattle.channel_safety.proofs.Tests.{none-eq, some-eq, clash}
 use Rattle.channel_safety.proofs.Members.{In-append_right}
 use Rattle.channel_safety.specs.Journals.{In, Line, is_followed, is_watched}
 use Rattle.network.specs.declared.command.Command.{Command}
-use Rattle.network.specs.declared.command.Command.TheVariants.{Open, OpenOn, OpenVirtual, Pay, Close, Exit}
+use Rattle.network.specs.declared.command.Command.TheVariants.{Open, OpenOn, OpenVirtual, Pay, Close, Release, Resend, Exit}
 use Rattle.node_guarantees.specs.Keeping.{LeaversArePaid}
 use Rattle.channel_node.proofs.Bridging.{In-lines, plays-at, plays-rises}
 use Rattle.channel_node.proofs.Exits.{played_journals_leave_for_good}
@@ -64,6 +64,8 @@ exit-deed (deeds.Commanded step None) (Some (OpenOn o)) e = absurd cc
 exit-deed (deeds.Commanded step None) (Some (OpenVirtual v)) e = absurd cc
 exit-deed (deeds.Commanded step None) (Some (Pay channel asset amount)) e = absurd cc
 exit-deed (deeds.Commanded step None) (Some (Close channel)) e = absurd cc
+exit-deed (deeds.Commanded step None) (Some (Release how channel)) e = absurd cc
+exit-deed (deeds.Commanded step None) (Some (Resend channel)) e = absurd cc
 exit-deed (deeds.Commanded step None) None e = absurd cc
 exit-deed (deeds.Commanded step (Some refusal)) command e = absurd cc
 exit-deed (deeds.Handled bytes refusal) command e = absurd cc

@@ -8,7 +8,6 @@ pub mod Got
 pub mod Ruled
 pub mod Notes
 pub mod Holds
-pub mod Counts
 pub mod Few
 pub mod RaceFairnessLaws
 pub mod JournalLaws

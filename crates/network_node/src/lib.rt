@@ -7,7 +7,6 @@ mod node;
 mod race_fairness_laws;
 mod seeing;
 mod sharing;
-mod signatures;
 mod told;
 
 pub use journal_laws::nodes_write_journals;

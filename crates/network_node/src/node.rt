@@ -11,14 +11,12 @@ ghost use Rattle.fairness_laws.specs.Owning.{StandsOwning};
 ghost use Rattle.channel_node.specs.Exiting.{leaves};
 ghost use Rattle.node_guarantees.specs.Gains.{shares_known};
 ghost use Rattle.node_guarantees.specs.Ways.{ways};
-ghost use Rattle.network_node.specs.Counts.{times_signed};
 ghost use Rattle.network_node.specs.Notes.{note_if};
 ghost use Rattle.network_node.specs.Shares.{is_lost};
 ghost use Rattle.std.specs.Option.{option_map};
 
 use crate::mind::Mind;
 use crate::sharing::shares_known;
-use crate::signatures::times_signed;
 use call_history::{Call, Entry, Event, HeldChain, Known, NodeRefusal, WorldView};
 use channel_node::Knowing;
 use channel_values::{Key, Listed, NoMemory};
@@ -149,12 +147,11 @@ impl Node {
         self.node.mind().refusal_of(bytes)
     }
 
-    /// How many signatures its journal has. Unless memory failed it, so many indices of its key are used.
-    pub fn used(&self) -> usize
-        ensures journal { result ≡ times_signed self.now.node.journal }
-        ensures used { self.now.node.is_lost ≡ false → result ≡ self.now.node.used }
+    /// How many indices of its key are used.
+    pub fn used(&self) -> u32
+        ensures { result ≡ self.now.node.used }
     {
-        times_signed(self.node.journal())
+        self.node.used()
     }
 
     /// How many indices its key has.

@@ -42,7 +42,11 @@ fn openings_are_valid(command: &Command)
             fixed_is_valid(&funding.joint);
             fixed_is_valid(&funding.channel);
         }
-        Command::Pay { .. } | Command::Close { .. } | Command::Exit => {}
+        Command::Pay { .. }
+        | Command::Close { .. }
+        | Command::Release { .. }
+        | Command::Resend { .. }
+        | Command::Exit => {}
     }
 }
 

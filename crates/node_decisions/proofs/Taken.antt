@@ -6,7 +6,7 @@ use Rattle.call_history.specs.declared.event.NodeRefusal.{NodeRefusal}
 use Rattle.call_history.specs.declared.event.NodeRefusal.TheVariants.{NotAStep, UnknownChannel, TooMany}
 use Rattle.funding_plans.specs.Parts.{channels}
 use Rattle.network.specs.declared.command.Command.{Command}
-use Rattle.network.specs.declared.command.Command.TheVariants.{Open, OpenOn, OpenVirtual, Pay, Close, Exit}
+use Rattle.network.specs.declared.command.Command.TheVariants.{Open, OpenOn, OpenVirtual, Pay, Close, Release, Resend, Exit}
 use Rattle.channel_node.specs.Minds.{Mind, facts_of}
 use Rattle.channel_node.specs.Openings.{opened_by, ledgers_for}
 use Rattle.channel_node.specs.Refusing.{has_left, not_open, unfinished, are_new, can_open, are_planned, open_refusal, command_refusal}
@@ -66,4 +66,6 @@ accepted_fits limit used m (OpenVirtual v) e = (
 )
 accepted_fits limit used m (Pay channel asset amount) e = tt
 accepted_fits limit used m (Close channel) e = tt
+accepted_fits limit used m (Release how channel) e = tt
+accepted_fits limit used m (Resend channel) e = tt
 accepted_fits limit used m Exit e = tt

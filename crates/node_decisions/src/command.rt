@@ -6,9 +6,10 @@ ghost use Rattle.node_knowledge.specs.Taking.{CanTake};
 ghost use Rattle.stage_tables.specs.Stages.{stages};
 ghost use Rattle.support_rules.specs.Real.{real};
 
-use crate::closing::close_part;
+use crate::closing::{close_part, release_part};
 use crate::opening::open_refusal;
 use crate::payments::pay_refusal;
+use crate::sending::resend_refusal;
 use call_history::NodeRefusal;
 use channel_values::NoMemory;
 use network::Command;
@@ -32,6 +33,8 @@ fn refusal_of(
             amount,
         } => pay_refusal(known, limit, used, channel, *asset, *amount),
         Command::Close { channel } => Ok(close_part(known, channel)),
+        Command::Release { how, channel } => Ok(release_part(known, *how, channel)),
+        Command::Resend { channel } => Ok(resend_refusal(known, channel)),
         Command::Exit => Ok(None),
     }
 }

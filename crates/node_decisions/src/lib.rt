@@ -9,6 +9,7 @@ mod moving;
 mod opening;
 mod payments;
 mod planned;
+mod sending;
 mod signing;
 mod unfinished;
 

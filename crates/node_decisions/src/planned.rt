@@ -5,10 +5,10 @@ ghost use Rattle.std.specs.List.{list_all};
 ghost use Rattle.call_history.specs.Flows.{is_among};
 ghost use Rattle.funding_plans.specs.Parts.{channels_of, channels};
 ghost use Rattle.channel_node.specs.Openings.{are_apart};
-ghost use Rattle.channel_node.specs.Refusing.{is_planned, are_new, are_planned};
+ghost use Rattle.channel_node.specs.Refusing.{is_planned, are_new, goal_about, is_over, is_there, are_planned};
 
 use channel_values::Name;
-use funding_plans::Part;
+use funding_plans::{Part, goal_in};
 use node_knowledge::Known;
 use stage_tables::is_among;
 
@@ -53,13 +53,30 @@ fn is_planned(known: &Known, name: &Name) -> bool
     known.store().kept(name).is_some() || has_channel(known.parts(), name)
 }
 
-/// Whether each of these channels is in the plan.
+/// Whether the node let go of the part that is about the channel.
+fn is_let_go(known: &Known, name: &Name) -> bool
+    ensures { result ≡ is_over (goal_about known.now name.now) }
+{
+    match goal_in(&known.facts(), name) {
+        None => false,
+        Some(goal) => goal.over,
+    }
+}
+
+/// Whether the channel is in the plan, and the node didn't let go of it.
+fn is_there(known: &Known, name: &Name) -> bool
+    ensures { result ≡ is_there known.now name.now }
+{
+    has_channel(known.parts(), name) && !is_let_go(known, name)
+}
+
+/// Whether each of these channels is in the plan, and the node let go of none.
 pub(crate) fn are_planned(known: &Known, names: &[Name]) -> bool
     ensures { result ≡ are_planned known.now names.now }
 {
     match names {
         [] => true,
-        [name, others @ ..] => has_channel(known.parts(), name) && are_planned(known, others),
+        [name, others @ ..] => is_there(known, name) && are_planned(known, others),
     }
 }
 

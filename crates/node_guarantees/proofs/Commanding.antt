@@ -1,6 +1,6 @@
 -- A node's events stand with the commands of their steps.
 use Rattle.std.proofs.Common.{◌≡◌, ℕ, Bool, true, false, cond, List, [], ◌∷◌, ◌++◌, map, reverse, refl, sym, ◌∙◌, ap}
-use Rattle.std.specs.Prelude.{Option, Some, None, nat_lt, fold}
+use Rattle.std.specs.Prelude.{Option, Some, None, nat_lt}
 use Rattle.std.proofs.lemmas.List.{reverse-append}
 use Rattle.channel_values.specs.Parts.{StateParts}
 use Rattle.channel_values.specs.Messages.{message_of_state, message_of_challenge}
@@ -12,7 +12,7 @@ use Rattle.call_history.specs.declared.event.Event.{Event}
 use Rattle.call_history.specs.declared.event.NodeRefusal.{NodeRefusal}
 use Rattle.channel_values.specs.Rules.{Rules}
 use Rattle.network.specs.declared.command.Command.{Command}
-use Rattle.network.specs.declared.command.Command.TheVariants.{Open, OpenOn, OpenVirtual, Pay, Close, Exit}
+use Rattle.network.specs.declared.command.Command.TheVariants.{Open, OpenOn, OpenVirtual, Pay, Close, Release, Resend, Exit}
 use Rattle.channel_node.proofs.Places.{told-event, told-command}
 use Rattle.channel_node.specs.Giving.{in_order, after_signing, after_challenging, tick_calls, after_tick}
 use Rattle.channel_node.specs.Leaving.{OwnChallenge, challenge_in}
@@ -23,9 +23,9 @@ use Rattle.channel_node.specs.Refusing.{message_refusal, command_refusal, signs_
 use Rattle.channel_node.specs.Tables.{Tables}
 use Rattle.stage_tables.specs.Stages.{stages}
 use Rattle.support_rules.specs.Real.{real}
-use Rattle.node_guarantees.specs.Commanded.{IsToldBy, NodesFollowCommands}
+use Rattle.node_guarantees.specs.Commanded.{NodesFollowCommands}
 use Rattle.channel_node.specs.Exiting.{leaves}
-use Rattle.node_guarantees.specs.Ways.{Numbered, unless_lost, noting_exit, noting_if}
+use Rattle.node_guarantees.specs.Ways.{Numbered, unless_lost, noting_if}
 
 module _ (commands : ℕ → Option Command) where
   abbrev Follows : NodeOf → Type 0
@@ -95,6 +95,8 @@ module _ (commands : ℕ → Option Command) where
     pays None (OpenVirtual v) n f = f
     pays None (Pay channel asset amount) n f = signs channel (signs_in t r (Some (Pay channel asset amount)) n.mind channel) n f
     pays None (Close channel) n f = f
+    pays None (Release how channel) n f = f
+    pays None (Resend channel) n f = f
     pays None Exit n f = f
 
     tells : (step : ℕ) (command : Command) (n : NodeOf) → commands step ≡ Some command → Follows n → Follows (told_to t r s step command n)

@@ -19,7 +19,7 @@ use Rattle.channel_safety.specs.Valid.{IsValidOp, IsValidEntry}
 use Rattle.network.specs.Ways.{followed, looked}
 use Rattle.network.specs.Histories.{ComeNext, HasLooked}
 use Rattle.network.specs.declared.command.Command.{Command}
-use Rattle.network.specs.declared.command.Command.TheVariants.{Open, OpenOn, OpenVirtual, Pay, Close, Exit}
+use Rattle.network.specs.declared.command.Command.TheVariants.{Open, OpenOn, OpenVirtual, Pay, Close, Release, Resend, Exit}
 use Rattle.network.specs.declared.lookout.Lookout.{Lookout}
 use Rattle.channel_node.proofs.Keys.{made_nodes_are_honest}
 use Rattle.channel_node.specs.Keys.{FitsSigner}
@@ -168,6 +168,8 @@ commanded-placed h step (OpenVirtual v) p legal is =
     command-placed h step (OpenVirtual v) p refl legal is
 commanded-placed h step (Pay channel asset amount) p legal is = command-placed h step (Pay channel asset amount) p refl legal is
 commanded-placed h step (Close channel) p legal is = command-placed h step (Close channel) p refl legal is
+commanded-placed h step (Release how channel) p legal is = command-placed h step (Release how channel) p refl legal is
+commanded-placed h step (Resend channel) p legal is = command-placed h step (Resend channel) p refl legal is
 commanded-placed h step Exit p legal is = exit-placed h step p legal is
 
 -- ---- a tick, entries and looks

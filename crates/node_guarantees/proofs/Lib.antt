@@ -17,6 +17,7 @@ pub mod Kept
 pub mod Answering
 pub mod Commanding
 pub mod Once
+pub mod Signed
 pub mod Sending
 pub mod Sent
 pub mod Worlds

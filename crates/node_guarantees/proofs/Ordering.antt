@@ -10,7 +10,7 @@ use Rattle.funding_plans.specs.declared.plan.Part.{Part}
 use Rattle.funding_plans.specs.declared.plan.Part.TheVariants.{End, Middle}
 use Rattle.share_laws.specs.Places.{Order, part_of, opened_part, plan}
 use Rattle.network.specs.declared.command.Command.{Command}
-use Rattle.network.specs.declared.command.Command.TheVariants.{Open, OpenOn, OpenVirtual, Pay, Close, Exit}
+use Rattle.network.specs.declared.command.Command.TheVariants.{Open, OpenOn, OpenVirtual, Pay, Close, Release, Resend, Exit}
 use Rattle.channel_node.specs.Openings.{takes_part, virtual, parts_of}
 use Rattle.channel_node.specs.Places.{Told, line_of, lines_of}
 use Rattle.node_guarantees.specs.Orders.{opening_of, order_of, orders_of}
@@ -35,6 +35,8 @@ order-opens r key (OpenVirtual v) = go (takes_part key v.channel)
     go false = refl
 order-opens r key (Pay channel asset amount) = refl
 order-opens r key (Close channel) = refl
+order-opens r key (Release how channel) = refl
+order-opens r key (Resend channel) = refl
 order-opens r key Exit = refl
 
 pub lines-length : (key : List ℕ) (front : List Told) → length (lines_of key front) ≡ length front

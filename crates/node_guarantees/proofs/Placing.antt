@@ -19,7 +19,7 @@ use Rattle.channel_safety.proofs.Tests.{none-eq, and-left, and-right, not-false,
 use Rattle.funding_plans.specs.Parts.{channels}
 use Rattle.channel_safety.specs.Journals.{In, is_watched}
 use Rattle.network.specs.declared.command.Command.{Command}
-use Rattle.network.specs.declared.command.Command.TheVariants.{Open, OpenOn, OpenVirtual, Pay, Close, Exit}
+use Rattle.network.specs.declared.command.Command.TheVariants.{Open, OpenOn, OpenVirtual, Pay, Close, Release, Resend, Exit}
 use Rattle.channel_node.specs.Openings.{opened_by, ledgers_for, adds, are_apart, parts_of}
 use Rattle.channel_node.specs.Openings as openings
 use Rattle.channel_node.specs.Minds.{Mind, facts_of, with_opened, commanded_if, did}
@@ -103,6 +103,10 @@ module _ (t : Tables) (r : Rules) (s : Signing) where
       quiet r s.key (record { seen = seen; deed = deeds.Commanded step None; command = Some (Pay channel asset amount) }) front refl refl m.key m.parts m.kept (λ c. refl) was
   follows seen step used (Close channel) front m taken was =
       quiet r s.key (record { seen = seen; deed = deeds.Commanded step None; command = Some (Close channel) }) front refl refl m.key m.parts m.kept (λ c. refl) was
+  follows seen step used (Release how channel) front m taken was =
+      quiet r s.key (record { seen = seen; deed = deeds.Commanded step None; command = Some (Release how channel) }) front refl refl m.key m.parts m.kept (λ c. refl) was
+  follows seen step used (Resend channel) front m taken was =
+      quiet r s.key (record { seen = seen; deed = deeds.Commanded step None; command = Some (Resend channel) }) front refl refl m.key m.parts m.kept (λ c. refl) was
   follows seen step used Exit front m taken was =
       quiet r s.key (record { seen = seen; deed = deeds.Commanded step None; command = Some Exit }) front refl refl m.key m.parts m.kept (λ c. refl) was
 

@@ -1,8 +1,8 @@
 -- What a node sends its journal has signed, and what its journal signed stays there.
 use Rattle.std.proofs.Common.{◌≡◌, ℕ, Bool, true, false, cond, List, [], ◌∷◌, ◌++◌, map, reverse, refl, sym, ◌∙◌, ap, subst, inl}
 use Rattle.std.specs.Prelude.{Option, Some, None, nat_lt}
-use Rattle.std.specs.List.{AllByRecursion}
 use Rattle.channel_values.specs.Parts.{StateParts}
+use Rattle.channel_values.specs.declared.chain.Signed.{Signed}
 use Rattle.channel_values.specs.Messages.{message_of_state, message_of_challenge}
 use Rattle.call_history.specs.Reading.{message_of}
 use Rattle.call_history.specs.Spelling.{message}
@@ -17,14 +17,15 @@ use Rattle.channel_store.specs.Storing.{kept_of}
 use Rattle.channel_store.specs.declared.kept.Kept.{Kept}
 use Rattle.network.specs.Members.{accepted}
 use Rattle.network.specs.declared.command.Command.{Command}
-use Rattle.network.specs.declared.command.Command.TheVariants.{Open, OpenOn, OpenVirtual, Pay, Close, Exit}
+use Rattle.network.specs.declared.command.Command.TheVariants.{Open, OpenOn, OpenVirtual, Pay, Close, Release, Resend, Exit}
 use Rattle.channel_node.proofs.Places.{told-event, told-command}
 use Rattle.channel_node.specs.Exiting.{leaves}
-use Rattle.channel_node.specs.Giving.{in_order, others, sends_to, sent_if, sent, after_signing, after_challenging, tick_calls, after_tick, command_gives}
+use Rattle.channel_node.proofs.Resending.{resent-asked}
+use Rattle.channel_node.specs.Giving.{in_order, others, last_signed, sends_again, sends_to, sent_if, sent, after_signing, after_challenging, tick_calls, after_tick, command_gives}
 use Rattle.channel_node.specs.Leaving.{OwnChallenge, challenge_in}
 use Rattle.channel_node.specs.Nodes.{NodeOf, told_of, handled, signed, signed_if, ticked, challenged, challenged_if, challenged_all, gave_one, gave, asked, paid_if, told_to, saw_one, saw_all, watched}
-use Rattle.channel_node.specs.Places.{Told, tell, told, is_commanded}
-use Rattle.channel_node.specs.Playing.{Signing, SignerOf, signing_of}
+use Rattle.channel_node.specs.Places.{Told, told, is_commanded}
+use Rattle.channel_node.specs.Playing.{Signing, signing_of}
 use Rattle.channel_node.specs.Refusing.{message_refusal, command_refusal, signs_in}
 use Rattle.stage_tables.specs.Stages.{stages}
 use Rattle.support_rules.specs.Real.{real}
@@ -32,6 +33,7 @@ use Rattle.node_guarantees.specs.Commanded as commanded
 use Rattle.node_guarantees.specs.Once.{Signature, signed_in, signed_by}
 use Rattle.node_guarantees.specs.Sends.{IsSigned, AreSigned, SendWhatTheySigned, HasSigned, SignaturesStay}
 use Rattle.node_guarantees.specs.Ways.{Numbered, key_of, unless_lost, noting_if, ways}
+use Rattle.node_guarantees.proofs.Signed.{IsThere, last-made}
 use Rattle.node_guarantees.proofs.Staying.{tick-stays, told-signer, saw-signer}
 
 -- ---- what is signed stays
@@ -108,6 +110,8 @@ module _ (made : Signature) where
     pays None (OpenVirtual v) n i = i
     pays None (Pay channel asset amount) n i = signs channel (signs_in stages real (Some (Pay channel asset amount)) n.mind channel) n i
     pays None (Close channel) n i = i
+    pays None (Release how channel) n i = i
+    pays None (Resend channel) n i = i
     pays None Exit n i = i
 
     tells : (step : ℕ) (command : Command) (n : NodeOf) → Has n → Has (told_to stages real s step command n)
@@ -189,6 +193,19 @@ module _ (s : Signing) where
       sends channel state (asked real s step (Pay channel asset amount) None n)
       (kept_of channel (signed real s channel state (asked real s 0 (Pay channel asset amount) None n)).mind.kept)
 
+  -- the messages of a state that its journal signed
+  again : (channel : List ℕ) (n later : NodeOf) → ((made : Signature) → In made (made_by n) → In made (made_by later)) → (o : Option Signed)
+      → IsThere (made_by n) channel o
+      → AreSigned (made_by later) (sends_again n.mind channel o)
+  again channel n later within None there = tt
+  again channel n later within (Some x) there = to (kept_of channel n.mind.kept)
+    where
+      to : (kept : Option Kept) → AreSigned (made_by later) (sends_to channel x.state x.signature kept)
+      to None = tt
+      to (Some k) =
+          each-signed (made_by later) (message (channel, record { state = x.state; signature = x.signature }))
+          (record { channel = channel; state = record { state = x.state; signature = x.signature }; spells = refl; there = within _ there }) (others k)
+
   answer-sends : (step : ℕ) (command : Command) (n : NodeOf) (refusal : Option NodeRefusal)
       → AreSigned (made_by (paid_if stages real s refusal command (asked real s step command refusal n))) (accepted (command_gives stages real s 0 command n refusal)).sends
   answer-sends step command n (Some refusal) = tt
@@ -198,6 +215,11 @@ module _ (s : Signing) where
   answer-sends step (Pay channel asset amount) n None =
       payment-sends step channel asset amount n (signs_in stages real (Some (Pay channel asset amount)) (asked real s step (Pay channel asset amount) None n).mind channel)
   answer-sends step (Close channel) n None = tt
+  answer-sends step (Release how channel) n None = tt
+  answer-sends step (Resend channel) n None =
+      subst (AreSigned (made_by (asked real s step (Resend channel) None n))) (sym (resent-asked real s 0 channel n))
+      (again channel n (asked real s step (Resend channel) None n) (λ made i. command-more made n (record { seen = n.mind.view.count; deed = deeds.Commanded step None }) (Resend channel) refl i)
+      (last_signed channel n.journal) (last-made channel n))
   answer-sends step Exit n None = tt
 
 -- ---- nodes

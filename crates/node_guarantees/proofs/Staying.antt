@@ -16,7 +16,7 @@ use Rattle.channel_values.specs.Rules.{Rules}
 use Rattle.channel_safety.proofs.Tests.{cond-false}
 use Rattle.channel_safety.specs.Journals.{is_followed}
 use Rattle.network.specs.declared.command.Command.{Command}
-use Rattle.network.specs.declared.command.Command.TheVariants.{Open, OpenOn, OpenVirtual, Pay, Close, Exit}
+use Rattle.network.specs.declared.command.Command.TheVariants.{Open, OpenOn, OpenVirtual, Pay, Close, Release, Resend, Exit}
 use Rattle.channel_node.specs.Giving.{in_order, after_signing, after_challenging, tick_calls, after_tick}
 use Rattle.channel_node.specs.Leaving.{OwnChallenge, challenge_in}
 use Rattle.channel_node.specs.Minds.{Mind, noted_message, commanded, commanded_if, did}
@@ -76,6 +76,8 @@ commanded-view r (OpenOn o) m = refl
 commanded-view r (OpenVirtual v) m = refl
 commanded-view r (Pay channel asset amount) m = refl
 commanded-view r (Close channel) m = refl
+commanded-view r (Release how channel) m = refl
+commanded-view r (Resend channel) m = refl
 commanded-view r Exit m = refl
 
 commanded-if-view : (r : Rules) (command : Command) (refusal : Option NodeRefusal) (m : Mind) → (commanded_if r (Some command) refusal m).view ≡ m.view
@@ -178,6 +180,8 @@ module _ (t : Tables) (r : Rules) where
   paid-stays s None (OpenVirtual v) n = same-stays n
   paid-stays s None (Pay channel asset amount) n = signed-stays s channel (signs_in t r (Some (Pay channel asset amount)) n.mind channel) n
   paid-stays s None (Close channel) n = same-stays n
+  paid-stays s None (Release how channel) n = same-stays n
+  paid-stays s None (Resend channel) n = same-stays n
   paid-stays s None Exit n = same-stays n
 
   pub told-stays : (s : Signing) (step : ℕ) (command : Command) (n : NodeOf) → leaves command ≡ false → Stays n (told_to t r s step command n)
@@ -193,6 +197,8 @@ module _ (t : Tables) (r : Rules) where
   told-signer s step (OpenVirtual v) n = (told-stays s step (OpenVirtual v) n refl).signer
   told-signer s step (Pay channel asset amount) n = (told-stays s step (Pay channel asset amount) n refl).signer
   told-signer s step (Close channel) n = (told-stays s step (Close channel) n refl).signer
+  told-signer s step (Release how channel) n = (told-stays s step (Release how channel) n refl).signer
+  told-signer s step (Resend channel) n = (told-stays s step (Resend channel) n refl).signer
   told-signer s step Exit n = refl
 
   pub saw-signer : (entries : List Entry) (n : NodeOf) → (saw_all r entries n).signer ≡ n.signer

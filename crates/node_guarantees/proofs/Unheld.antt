@@ -33,7 +33,7 @@ use Rattle.call_history.specs.declared.view.WorldView.{WorldView}
 use Rattle.channel_safety.proofs.Tests.{clash, eqb-true}
 use Rattle.history_view.specs.Views.{is_of, is_in, unknown, view_of, views_with, held_amount, held_with, channel_turned, views_turned, channel_gave, channel_got, views_got, views_moved, channel_paid, views_paid}
 use Rattle.network.specs.declared.command.Command.{Command}
-use Rattle.network.specs.declared.command.Command.TheVariants.{Open, OpenOn, OpenVirtual, Pay, Close, Exit}
+use Rattle.network.specs.declared.command.Command.TheVariants.{Open, OpenOn, OpenVirtual, Pay, Close, Release, Resend, Exit}
 use Rattle.channel_node.specs.Minds.{Mind, saw, noted_message, did, facts_of}
 use Rattle.channel_node.specs.Places.{Told, slot, mind_at}
 use Rattle.plan_share.specs.Seen.{held_seen, counting_seen}
@@ -156,6 +156,8 @@ did-view r (deeds.Commanded step None) (Some (OpenOn o)) m = refl
 did-view r (deeds.Commanded step None) (Some (OpenVirtual v)) m = refl
 did-view r (deeds.Commanded step None) (Some (Pay channel asset amount)) m = refl
 did-view r (deeds.Commanded step None) (Some (Close channel)) m = refl
+did-view r (deeds.Commanded step None) (Some (Release how channel)) m = refl
+did-view r (deeds.Commanded step None) (Some (Resend channel)) m = refl
 did-view r (deeds.Commanded step None) (Some Exit) m = refl
 did-view r (deeds.Commanded step None) None m = refl
 did-view r (deeds.Commanded step (Some refusal)) None m = refl

@@ -18,13 +18,14 @@ pub fn place_with(channel: &Name, parts: &[Part]) -> usize
     parts.len()
 }
 
-/// The part at a place is to close.
-pub(crate) fn close(goals: &mut [Goal], place: usize)
-    ensures { goals.new ≡ map (λ goal. close_if (goal.part == place) goal) goals.old }
+/// The part at a place is to close; with `lets` the participant lets go of it.
+pub(crate) fn close(goals: &mut [Goal], place: usize, lets: bool)
+    ensures { goals.new ≡ map (λ goal. close_if lets (goal.part == place) goal) goals.old }
 {
     for goal in goals.iter_mut() {
         if goal.part as usize == place {
             goal.closing = true;
+            goal.over = lets | goal.over;
         }
     }
 }

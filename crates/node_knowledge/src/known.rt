@@ -34,7 +34,7 @@ use channel_values::{
 };
 use funding_plans::{Facts, Goal, Part, Plan};
 use history_view::{follow, unseen, view_of};
-use network::{Command, LedgerFunding, VirtualFunding};
+use network::{Command, LedgerFunding, Release, VirtualFunding};
 use std::alloc::Global;
 use std::marker::Model;
 
@@ -259,6 +259,7 @@ impl Known {
             opening,
             amounts: *amounts,
             closing: false,
+            over: false,
         })?;
         Ok(())
     }
@@ -306,7 +307,14 @@ impl Known {
         ensures { self.new ≡ commanded real (commands.Close channel.now) self.old }
     {
         let place = place_with(channel, self.plan.parts.as_slice());
-        close(&mut self.goals, place);
+        close(&mut self.goals, place, false);
+    }
+
+    fn release(&mut self, how: Release, channel: &Name)
+        ensures { self.new ≡ commanded real (commands.Release how channel.now) self.old }
+    {
+        let place = place_with(channel, self.plan.parts.as_slice());
+        close(&mut self.goals, place, true);
     }
 
     /// Takes up a command that isn't refused.
@@ -323,7 +331,12 @@ impl Known {
                 self.close(channel);
                 Ok(())
             }
+            Command::Release { how, channel } => {
+                self.release(*how, channel);
+                Ok(())
+            }
             Command::Pay { .. } => Ok(()),
+            Command::Resend { .. } => Ok(()),
             Command::Exit => {
                 self.left = true;
                 Ok(())

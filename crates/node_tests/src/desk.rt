@@ -2,13 +2,15 @@
 //! the tests.
 
 use crate::messages::{
-    Brought, People, amounts, channel_of, fixed_of, key_of, message_of, open, state_of,
+    Brought, People, amounts, channel_of, fixed_of, key_of, message_of, open, outcome_of, state_of,
 };
 use call_bytes::read_message;
-use call_history::{Call, ChallengeCall, DepositCall, Entry, NodeRefusal, Op, Reply, Standing};
+use call_history::{
+    Call, ChallengeCall, DepositCall, Entry, NodeRefusal, Op, Reply, Standing, TransferCall,
+};
 use channel_values::{Chain, Key, Listed, Name, State, person_name};
 use lms_signatures::Signer;
-use network::{Command, NodeFault, Outs, Party};
+use network::{Command, NodeFault, Outs, Party, Release};
 use network_node::Node;
 use std::alloc::Global;
 use std::test::Fail;
@@ -20,11 +22,20 @@ pub(crate) enum Step {
     Open(u64),
     /// It is told to pay, or with 0 to pass its turn.
     Pay(u64),
+    /// It is told to let go of the channel.
+    Release(Release),
+    /// It is told to send its newest state of the channel once more.
+    Resend,
+    Exit,
     Tick,
     /// It sees a deposit: what was expected, the amount, and what the channel holds then.
     Deposit(u64, u64, u64),
     /// It sees the second's challenge with the states of turns 3 and 4, which is open until 2.
     Challenge,
+    /// It sees the time.
+    Time(u64),
+    /// It sees that its item of the state of turn 4 was paid: the amount.
+    Paid(u64),
     /// A state of the channel comes: its turn, what both have, and the number of the person that signed it.
     Comes(u64, (u64, u64), u8),
     /// A state of an unknown channel comes.
@@ -40,6 +51,8 @@ pub(crate) enum Said {
     Sends(u64, u64, u64),
     /// The node deposits: what it expects, and the amount.
     Deposits(u64, u64),
+    /// The node calls for the item of an index.
+    Transfers(u8),
     /// The channel isn't open.
     NotOpen(Standing),
     No(NodeRefusal),
@@ -103,6 +116,7 @@ impl Desk {
             ([], []) => Said::Quiet,
             ([send], []) => self.sent(&send.0, send.1.as_slice()),
             ([], [Call::Deposit(deposit)]) => Said::Deposits(deposit.expected, deposit.amount),
+            ([], [Call::Transfer(transfer)]) => Said::Transfers(transfer.index),
             _ => Said::Other,
         }
     }
@@ -143,14 +157,24 @@ impl Desk {
         Ok(self.told(&outs))
     }
 
+    fn releases(&self, node: &mut Node, how: Release) -> Said {
+        let channel = self.channel;
+        self.commanded(node, Command::Release { how, channel })
+    }
+
+    fn resends(&self, node: &mut Node) -> Said {
+        let channel = self.channel;
+        self.commanded(node, Command::Resend { channel })
+    }
+
     /// The node follows one more entry.
-    fn sees(&self, node: &mut Node, call: Call, reply: Reply) -> Result<Said, Fail> {
+    fn sees(&self, node: &mut Node, op: Op, reply: Reply) -> Result<Said, Fail> {
         let seen = node.seen();
         if seen >= 99 {
+            drop(op);
             return Ok(Said::Other);
         }
         let number = seen + 1;
-        let op = Op::Call(call);
         let entry = Entry {
             number,
             by: 0,
@@ -182,7 +206,17 @@ impl Desk {
 
     fn challenged(&self, node: &mut Node) -> Result<Said, Fail> {
         let call = self.challenge()?;
-        self.sees(node, call, Reply::Until(2))
+        self.sees(node, Op::Call(call), Reply::Until(2))
+    }
+
+    fn paid(&self, node: &mut Node, amount: u64) -> Result<Said, Fail> {
+        let call = Call::Transfer(TransferCall {
+            channel: self.channel,
+            outcome: outcome_of(self.alloc, &self.people, (3, 5))?,
+            asset: 0,
+            index: 0,
+        });
+        self.sees(node, Op::Call(call), Reply::Paid(amount))
     }
 
     fn deposited(
@@ -198,7 +232,7 @@ impl Desk {
             expected,
             amount,
         });
-        self.sees(node, call, Reply::Held(held))
+        self.sees(node, Op::Call(call), Reply::Held(held))
     }
 
     fn comes(&self, node: &mut Node, channel: &Name, row: &Brought) -> Result<Said, Fail> {
@@ -218,11 +252,16 @@ impl Desk {
         match step {
             Step::Open(nonce) => self.opens(node, *nonce),
             Step::Pay(amount) => Ok(self.pays(node, *amount)),
+            Step::Release(how) => Ok(self.releases(node, *how)),
+            Step::Resend => Ok(self.resends(node)),
+            Step::Exit => Ok(self.commanded(node, Command::Exit)),
             Step::Tick => self.ticks(node),
             Step::Deposit(expected, amount, held) => {
                 self.deposited(node, *expected, *amount, *held)
             }
             Step::Challenge => self.challenged(node),
+            Step::Time(time) => self.sees(node, Op::Time(*time), Reply::Now(*time)),
+            Step::Paid(amount) => self.paid(node, *amount),
             Step::Comes(turn, amounts, number) => {
                 let row = Brought {
                     turn: *turn,

@@ -3,7 +3,7 @@
 use crate::desk::{Desk, Said, Step, node_of};
 use crate::messages::Brought;
 use call_history::{NodeRefusal, Standing};
-use network::{NodeFault, Party};
+use network::{NodeFault, Party, Release};
 use network_node::Node;
 use std::alloc::Global;
 use std::test::Fail;
@@ -58,6 +58,68 @@ const CHALLENGED: [(Step, Said); 6] = [
         Step::Comes(3, (2, 6), 3),
         Said::NotOpen(Standing::Challenged),
     ),
+];
+
+const SETTLE: Step = Step::Release(Release::Settle);
+
+const ABANDON: Step = Step::Release(Release::Abandon);
+
+/// The first lets go of a channel while the second is silent, and opens another.
+const ABANDONED: [(Step, Said); 14] = [
+    (SETTLE, Said::No(NodeRefusal::UnknownChannel)),
+    (ABANDON, Said::No(NodeRefusal::UnknownChannel)),
+    (Step::Resend, Said::No(NodeRefusal::UnknownChannel)),
+    (Step::Open(1), Said::Quiet),
+    (SETTLE, Said::No(NodeRefusal::NotWanted(0))),
+    (Step::Resend, Said::No(NodeRefusal::NotWanted(0))),
+    (Step::Tick, Said::Sends(0, 5, 3)),
+    (Step::Resend, Said::Sends(0, 5, 3)),
+    (Step::Open(2), Said::No(NodeRefusal::NotWanted(0))),
+    (ABANDON, Said::Quiet),
+    (ABANDON, Said::No(NodeRefusal::NotWanted(6))),
+    (
+        Step::Comes(1, (5, 3), 2),
+        Said::No(NodeRefusal::NotWanted(6)),
+    ),
+    (Step::Tick, Said::Quiet),
+    (Step::Open(2), Said::Quiet),
+];
+
+/// Once it holds the first round the first may deposit, so it can't let go any more.
+const TOO_LATE: [(Step, Said); 5] = [
+    (Step::Open(1), Said::Quiet),
+    (Step::Tick, Said::Sends(0, 5, 3)),
+    (Step::Comes(1, (5, 3), 2), Said::Quiet),
+    (ABANDON, Said::No(NodeRefusal::NotWanted(1))),
+    (Step::Tick, Said::Deposits(0, 5)),
+];
+
+/// The second challenges with the newest state and stays away. The first lets go once the channel is final, and calls for
+/// its item until it is paid.
+const SETTLED: [(Step, Said); 14] = [
+    (ABANDON, Said::No(NodeRefusal::NotWanted(3))),
+    (Step::Pay(2), Said::Sends(4, 3, 5)),
+    (Step::Challenge, Said::Quiet),
+    (SETTLE, Said::No(NodeRefusal::NotWanted(3))),
+    (Step::Time(2), Said::Quiet),
+    (Step::Pay(0), Said::NotOpen(Standing::Final)),
+    (SETTLE, Said::Quiet),
+    (SETTLE, Said::No(NodeRefusal::NotWanted(6))),
+    (Step::Tick, Said::Transfers(0)),
+    (Step::Tick, Said::Transfers(0)),
+    (Step::Paid(3), Said::Quiet),
+    (Step::Tick, Said::Quiet),
+    (Step::Resend, Said::Sends(4, 3, 5)),
+    (Step::Open(2), Said::Quiet),
+];
+
+/// After an exit the first lets go of nothing, and still sends again.
+const LEFT: [(Step, Said); 5] = [
+    (Step::Pay(2), Said::Sends(4, 3, 5)),
+    (Step::Exit, Said::Quiet),
+    (SETTLE, Said::No(NodeRefusal::NotWanted(99))),
+    (ABANDON, Said::No(NodeRefusal::NotWanted(99))),
+    (Step::Resend, Said::Sends(4, 3, 5)),
 ];
 
 /// The place of the first row with another answer, and that answer, if there is one.
@@ -118,6 +180,20 @@ fn a_challenged_channel_takes_nothing(rt: HostRuntime) -> Result<(), Fail> {
     Ok(())
 }
 
+#[test]
+fn a_silent_opening_is_let_go(rt: HostRuntime) -> Result<(), Fail> {
+    assert_eq!(rt; wrong_in(rt.alloc(), &[], &ABANDONED)?, None);
+    assert_eq!(rt; wrong_in(rt.alloc(), &[], &TOO_LATE)?, None);
+    Ok(())
+}
+
+#[test]
+fn a_final_channel_is_let_go(rt: HostRuntime) -> Result<(), Fail> {
+    assert_eq!(rt; wrong_in(rt.alloc(), &OPENING, &SETTLED)?, None);
+    assert_eq!(rt; wrong_in(rt.alloc(), &OPENING, &LEFT)?, None);
+    Ok(())
+}
+
 /// A new node: what it says of no bytes, whether it does nothing, how many entries it saw, and how many lines it has in its
 /// journal then.
 fn new_node(alloc: Global, number: u8) -> Result<(Option<NodeFault>, bool, u32, usize), Fail> {
@@ -158,7 +234,7 @@ fn waiting(alloc: Global) -> Result<(Node, Vec<u8>), Fail> {
 }
 
 /// Of a node that waits: how often its key has signed and can sign, and why it would refuse no bytes, and that message.
-fn asked(alloc: Global) -> Result<(usize, u32, [Option<NodeRefusal>; 2]), Fail> {
+fn asked(alloc: Global) -> Result<(u32, u32, [Option<NodeRefusal>; 2]), Fail> {
     let (node, message) = waiting(alloc)?;
     let nothing = node.refusal_of(&[])?;
     let whole = node.refusal_of(&message)?;

@@ -103,7 +103,7 @@ impl Wallet {
         self.enter(ledger, &calls)
     }
 
-    /// Enters the calls of a node, and keeps its messages for whoever carries them.
+    /// Enters the calls of a node, and keeps its messages for anyone who carries them.
     fn pass_on(&mut self, ledger: &mut Ledger, outs: &Outs) -> Result<(), Fail> {
         self.enter(ledger, outs.calls.as_slice())?;
         for letter in outs.sends.as_slice() {

@@ -183,6 +183,7 @@ fn goals_of(alloc: Global, rows: &[(u8, bool)]) -> Result<Vec<Goal>, ByteFault> 
             opening,
             amounts: (5, 3),
             closing: *closing,
+            over: false,
         })?;
     }
     Ok(goals)

@@ -52,7 +52,7 @@ facts outcome app closing =
         chain = record { fixed = fixed_with ((1 ∷ []) ∷ (2 ∷ []) ∷ []) 0 app 10; states = state_with 3 false outcome [] ∷ []; marks = [] };
       } ∷ [];
       known = [];
-      goals = record { part = 0; opening = outcome; amounts = (0, 0); closing = closing } ∷ [];
+      goals = record { part = 0; opening = outcome; amounts = (0, 0); closing = closing; over = false } ∷ [];
     }
 
 -- ---- the examples

@@ -161,6 +161,8 @@ pub fn fits(facts: &Facts, command: &Command) -> bool
         Command::OpenVirtual(funding) => fits_route(facts, funding),
         Command::Pay { .. } => false,
         Command::Close { .. } => false,
+        Command::Release { .. } => false,
+        Command::Resend { .. } => false,
         Command::Exit => false,
     }
 }

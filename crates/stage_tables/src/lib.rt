@@ -7,6 +7,7 @@ mod exiting;
 mod fitting;
 pub mod laws;
 mod ledgers;
+mod releasing;
 mod routes;
 mod stake;
 
@@ -14,3 +15,4 @@ pub use asked::{accepts, asked_in, is_unfinished, stage, wanted};
 pub use calling::calls;
 pub use exiting::{exit_calls_given, exits, is_owed};
 pub use fitting::{fits, is_among};
+pub use releasing::releases;

@@ -110,7 +110,7 @@ module _ (s : Signing) (h : List Entry) (journal : List Told) (fair : IsFair s h
       by (posts running settled same e) = repeats-so 2 4 (let n : people o.fixed ≡ 2 = two in omega arith) same e
       by (finals closing unended same e) =
           final-state-comes s h journal fair past front at f own k kept state o.fixed g.opening p.channel o.seat same
-          (closing-over s h journal fair past front at (OnLedger ledger name) there g found (sym o.closing ∙ closing) o.fixed g.opening p.channel o.seat 3 (let n : people o.fixed ≡ 2 = two in omega arith)
+          (closing-over s h journal fair past front at (OnLedger ledger name) there g found (sym o.closing ∙ closing) refl o.fixed g.opening p.channel o.seat 3 (let n : people o.fixed ≡ 2 = two in omega arith)
           (child-far ledger name o.fixed o.named)) unended e
       by (ups stays one unsettled same e) =
           moved-comes s h journal fair past front at f own k kept state o.on.fixed p.ledger.opening p.ledger o.on.seat same o.on.app ledger-late (children.target_up p) e

@@ -1,5 +1,5 @@
 -- What the end of a virtual channel wants comes next and follows.
-use Rattle.std.proofs.Common.{◌≡◌, ℕ, ◌*◌, ◌≤◌, true, false, List, sym, ◌∙◌, arith}
+use Rattle.std.proofs.Common.{◌≡◌, ℕ, ◌*◌, ◌≤◌, true, false, List, refl, sym, ◌∙◌, arith}
 use Rattle.std.specs.Prelude.{Some, None}
 use Rattle.std.specs.Str.{bytes_eq}
 use Rattle.channel_values.specs.Parts.{FixedParts, StateParts}
@@ -142,7 +142,7 @@ module _ (s : Signing) (h : List Entry) (journal : List Told) (fair : IsFair s h
           (opened s h journal fair past front at v g found e there keeps ledgers stands live).opens from until (let n : people e.fixed ≡ 2 = two in omega arith) is
       by (finals closing unended same is) =
           final-state-comes s h journal fair past front at f own k kept state e.fixed g.opening p.channel e.seat same
-          (closing-over s h journal fair past front at (parts.End v) there g found (sym e.closing ∙ closing) e.fixed g.opening p.channel e.seat 3 (let n : people e.fixed ≡ 2 = two in omega arith)
+          (closing-over s h journal fair past front at (parts.End v) there g found (sym e.closing ∙ closing) refl e.fixed g.opening p.channel e.seat 3 (let n : people e.fixed ≡ 2 = two in omega arith)
           (end-channel-far v e.fixed e.named)) unended is
       by (ups stays set unsettled same is) =
           moved-comes s h journal fair past front at f own k kept state e.on.fixed p.ledger.opening p.ledger e.on.seat same e.on.app ledger-late (ends.target_up p) is
@@ -155,7 +155,7 @@ module _ (s : Signing) (h : List Entry) (journal : List Told) (fair : IsFair s h
           (λ top o at-top aim valid. (join-fits s h journal fair past front at v g found e there keeps ledgers stands live c state row stays set five unsettled top o at-top aim valid).0)
       by (parts_back closing ended unsettled same is) =
           moved-comes s h journal fair past front at f own k kept state e.joint.fixed (apart t g.amounts) p.joint e.joint.seat same e.joint.app
-          (closing-over s h journal fair past front at (parts.End v) there g found (sym e.closing ∙ closing) e.joint.fixed (apart t g.amounts) p.joint e.joint.seat 5 (let n : people e.joint.fixed ≡ 3 = six in omega arith)
+          (closing-over s h journal fair past front at (parts.End v) there g found (sym e.closing ∙ closing) refl e.joint.fixed (apart t g.amounts) p.joint e.joint.seat 5 (let n : people e.joint.fixed ≡ 3 = six in omega arith)
           (end-joint-far v e.joint.fixed e.joint.named)) (ends.target_back p) is
           (λ top o at-top aim valid. (part-fits s h journal fair past front at v g found e there keeps ledgers stands live c state row closing ended unsettled top o at-top aim valid).0)
       by (downs closing ended settled not-down same is) =

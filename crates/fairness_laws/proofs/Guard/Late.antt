@@ -50,7 +50,7 @@ use Rattle.support_rules.specs.Real.{real}
 use Rattle.virtual_channel.specs.Ends.{End}
 use Rattle.virtual_channel.specs.Middles.{Middle}
 use Rattle.virtual_channel.specs.Stages.{end_in, stage_of_end, middle_in, stage_of_middle}
-use Rattle.fairness_laws.proofs.Closing.{RunsAt, RunsTo, fixed-is, goal-found, late}
+use Rattle.fairness_laws.proofs.Closing.{RunsAt, RunsTo, fixed-is, goal-found, late, lets_go}
 use Rattle.fairness_laws.proofs.Finding.{names}
 use Rattle.fairness_laws.proofs.Planned.{is-planned, own-among, one-part}
 
@@ -110,16 +110,16 @@ module _ (s : Signing) (h : List Entry) (journal : List Told) (fair : IsFair s h
   lines = lines_of s.key front
 
   -- where Close was commanded of a part, its channel is held as it was where the part ran
-  pub closing-reaches : (p : Part) → In p m.parts → (g : Goal) → goal_in (facts_of m) (own_channel p) ≡ Some g → g.closing ≡ true → (f : FixedParts) → In f (channels lines) → (turn : ℕ) → RunsTo p f turn
+  pub closing-reaches : (p : Part) → In p m.parts → (g : Goal) → goal_in (facts_of m) (own_channel p) ≡ Some g → g.closing ≡ true → lets_go p g ≡ false → (f : FixedParts) → In f (channels lines) → (turn : ℕ) → RunsTo p f turn
       → Reaches real f turn (held real f past lines)
-  closing-reaches p i g is closing f there turn runs =
+  closing-reaches p i g is closing held-on f there turn runs =
       let apart = (is-planned stages real s h front plays at.front_is.later past at.front_is.entries at.front_is.before).apart in
       let found = goal-found m.parts m.goals (own_channel p) g is in
       let q-is : found.q ≡ p =
       one-part (own_channel p) m.parts found.q p apart (In-get m.parts g.part found.q found.at) i
       (subst (λ (n : List ℕ). is_among n (channels_of found.q) ≡ true) (same_bytes (own_channel found.q) (own_channel p) found.about) (own-among found.q)) (own-among p) in
       late s h journal fair.nodes.legal f several (fixed-is s h journal fair.nodes.distinct f (occurs s h journal fair.nodes past front at.front_is f there)) p turn runs at.front_is.newer front
-      at.front_is.events plays at.front_is.later past at.front_is.entries at.front_is.before g found.there closing (found.at ∙ ap (λ (q : Part). Some q) q-is)
+      at.front_is.events plays at.front_is.later past at.front_is.entries at.front_is.before g found.there closing held-on (found.at ∙ ap (λ (q : Part). Some q) q-is)
     where
       plays : Plays stages real s h front
       plays = plays-there s h journal fair.nodes past front at.front_is
@@ -157,9 +157,9 @@ module _ (s : Signing) (h : List Entry) (journal : List Told) (fair : IsFair s h
             (next-is ∙ ap next_after (top-of t (is_held seat.kept) (sym (ap (λ (y : Seat). y.top) seat.is) ∙ is))) (le-true turn t.turn e)
 
   -- so it is where Close was commanded of its part
-  pub closing-over : (p : Part) → In p m.parts → (g : Goal) → goal_in (facts_of m) (own_channel p) ≡ Some g → g.closing ≡ true
+  pub closing-over : (p : Part) → In p m.parts → (g : Goal) → goal_in (facts_of m) (own_channel p) ≡ Some g → g.closing ≡ true → lets_go p g ≡ false
       → (x : FixedParts) (opening : List AssetOutcome) (c : Seat) → SeatIs s.key past lines x opening c → (turn : ℕ) → 2 * people x ≤ turn + 1 → RunsTo p x turn → 2 * people x ≤ c.next
-  closing-over p i g is closing x opening c seat turn far runs = reaches-over x opening c seat turn far (closing-reaches p i g is closing x seat.own.there turn runs)
+  closing-over p i g is closing held-on x opening c seat turn far runs = reaches-over x opening c seat turn far (closing-reaches p i g is closing held-on x seat.own.there turn runs)
 
   -- and of a ledger
   pub ledger-over : (p : Part) → In p m.parts → (l : List ℕ) → is_among l (ledgers_of p) ≡ true → (first second : List ℕ) (c : Seat) (is : LedgerIs s.key past lines first second l c) → 2 * people is.fixed ≤ c.next

@@ -157,7 +157,7 @@ module _ (s : Signing) (h : List Entry) (journal : List Told) (fair : IsFair s h
           passed-comes s h journal fair past front at f own k kept state e.joint.fixed (apart t g.amounts) p.joint e.joint.seat same e.joint.app (together t) is
       back closing unsettled same (Some ab) now is =
           moved-comes s h journal fair past front at f own k kept state e.joint.fixed (apart t g.amounts) p.joint e.joint.seat same e.joint.app
-          (closing-over s h journal fair past front at (parts.Middle v) there g found (sym e.closing ∙ closing) e.joint.fixed (apart t g.amounts) p.joint e.joint.seat 5
+          (closing-over s h journal fair past front at (parts.Middle v) there g found (sym e.closing ∙ closing) refl e.joint.fixed (apart t g.amounts) p.joint e.joint.seat 5
           (let n : people e.joint.fixed ≡ 3 = six in omega arith) (middle-joint-far v e.joint.fixed e.joint.named)) (Some (apart t ab)) is
           (λ top o at-top aim valid. (part-fits s h journal fair past front at v g found e there keeps ledgers stands live c state row closing unsettled ab now top o at-top aim valid).0)
 

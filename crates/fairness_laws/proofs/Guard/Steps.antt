@@ -155,7 +155,7 @@ module _ (k : Kept) (opening : List AssetOutcome) where
       by (s ∷ rest) e = open-last s rest (ap (λ (x : StateParts). x.is_final) (some-eq (last_of s rest) t e) ∙ on)
 
   abbrev goal : Bool → Goal
-  goal closing = record { part = 0; opening = opening; amounts = (0, 0); closing = closing }
+  goal closing = record { part = 0; opening = opening; amounts = (0, 0); closing = closing; over = false }
 
   -- a repeated state of the set-up
   pub repeat-comes : IsGoodKept real k → IsRepeatedIfAny f opening (Some (marked_of k.chain)) → (from until : ℕ) → until ≤ 2 * people f → (s : StateParts) → repeats from until c ≡ Some s → Comes k s
@@ -187,7 +187,7 @@ module _ (k : Kept) (opening : List AssetOutcome) where
       sets = record {
         good = good;
         repeats = λ t is up. record { state = t; there = there k.chain.states t is; repeated = carried t is (less t.turn (2 * people f) up) };
-        closes = λ closing. absurd cc;
+        closes = λ closing held-on. absurd cc;
       }
 
   -- a final state, after the set-up
@@ -200,7 +200,7 @@ module _ (k : Kept) (opening : List AssetOutcome) where
         next = sym (ap (λ (x : StateParts). x.turn) w.is);
         mine = own-turn (and-right (has_no_data t && nat_lt (next_of k) (2 ^ 48)) (is_turn c) w.holds);
         after = subst (λ (x : StateParts). follows real k x ≡ true) w.is
-            (final-follows (goal true) k t sets refl top.newest_is going (and-left (has_no_data t) (nat_lt (next_of k) (2 ^ 48)) (and-left (has_no_data t && nat_lt (next_of k) (2 ^ 48)) (is_turn c) w.holds)));
+            (final-follows (goal true) k t sets refl refl top.newest_is going (and-left (has_no_data t) (nat_lt (next_of k) (2 ^ 48)) (and-left (has_no_data t && nat_lt (next_of k) (2 ^ 48)) (is_turn c) w.holds)));
       }
         where
           top : Top t
@@ -213,7 +213,7 @@ module _ (k : Kept) (opening : List AssetOutcome) where
           over n next turn a b l = absurd (omega arith)
 
           sets : SetsUp (goal true) k
-          sets = record { good = good; repeats = λ u is up. absurd (over (2 * people f) (next_of k) u.turn late (ap next_after is) up); closes = λ closing. late }
+          sets = record { good = good; repeats = λ u is up. absurd (over (2 * people f) (next_of k) u.turn late (ap next_after is) up); closes = λ closing held-on. late }
 
   -- a pass
   pub pass-comes : f.app ≡ 0 → (on : List AssetOutcome) (s : StateParts) → pass_on on c ≡ Some s → Comes k s

@@ -28,6 +28,7 @@ use Rattle.fairness_laws.specs.PlanLaws.{PartAt}
 use Rattle.fairness_laws.specs.PlanParts.{EndIs}
 use Rattle.fairness_laws.specs.PlanSettings.{IsFair}
 use Rattle.fairness_laws.proofs.Plan.Asked.{one-of-parts, part-at}
+use Rattle.fairness_laws.proofs.Accepted.{kept-end}
 use Rattle.fairness_laws.proofs.Joint.Core.{Late, Settled, Core, core-signs, core-closes, core-new}
 use Rattle.fairness_laws.proofs.Joint.Ends.{EndCore, core-carries, settled-carries, end-carries}
 use Rattle.fairness_laws.proofs.Joint.EndSteps.{joint-no-ledger, joint-not-channel, wants-channel, borne-late, wants-in, settled-quiet, signing-joint, signing-channel, runs-here}
@@ -101,7 +102,7 @@ module _ (s : Signing) (h : List Entry) (journal : List Told) (fair : IsFair s h
     module _ (i : In (kinds.End v) m.parts) (g k : Goal) (a : EndIs s.key past L (facts_of m) v g) (b : EndIs s.key past M (facts_of new) v k) (was : EndCore v a.end L (pending front)) where
       goals : GoalNext s h journal fair past x front at then len (kinds.End v) (end-at m v a.end a.is).g (end-at new v b.end b.is).g
       goals =
-          goal-next s h journal fair past x front at then len (kinds.End v) i (end-at m v a.end a.is).g (end-at new v b.end b.is).g (end-at m v a.end a.is).goal (end-at new v b.end b.is).goal
+          goal-next s h journal fair past x front at then len (kinds.End v) i (kept-end (facts_of m) v) (end-at m v a.end a.is).g (end-at new v b.end b.is).g (end-at m v a.end a.is).goal (end-at new v b.end b.is).goal
 
       -- an accepted payment
       pays : (asset amount : ℕ) → pending (x ∷ front) ≡ Some (commands.Pay v.channel asset amount) → Settled a.end.terms (last-of v.joint L)

@@ -28,7 +28,7 @@ use Rattle.channel_node.specs.Minds.{Mind, facts_of, did, place_with, close_if}
 use Rattle.channel_node.specs.Openings.{opened_by, parts_of, goals_of, are_apart}
 use Rattle.channel_node.specs.Places.{Told, lines_of, mind_at}
 use Rattle.channel_node.specs.Playing.{Signing, Plays, pending, payment_in, signings, Allowed}
-use Rattle.channel_node.specs.Refusing.{open_refusal, is_planned}
+use Rattle.channel_node.specs.Refusing.{open_refusal, is_planned, part_with}
 use Rattle.stage_tables.specs.Stages.{stages}
 use Rattle.funding_plans.specs.declared.plan.Virtual.{Virtual}
 use Rattle.funding_plans.specs.declared.terms.Terms.{Terms}
@@ -39,7 +39,7 @@ use Rattle.fairness_laws.specs.PaymentLaws.{At}
 use Rattle.fairness_laws.specs.PlanSettings.{IsFair}
 use Rattle.fairness_laws.proofs.Plan.Goals.{goal-stays, goal-opens, goal-closes}
 use Rattle.fairness_laws.proofs.Seat.Past.{honest, unkept-unsigned}
-use Rattle.fairness_laws.proofs.Accepted.{Closed, closed, paid-by, Paid, paid-so}
+use Rattle.fairness_laws.proofs.Accepted.{Closed, closed, LetGo, let-go, IsKept, paid-by, Paid, paid-so}
 use Rattle.share_laws.specs.Places.{channels, last_made}
 use Rattle.funding_plans.specs.Gathered.{goal_in}
 use Rattle.channel_store.proofs.Places.{found_at_place}
@@ -102,37 +102,45 @@ module _ (s : Signing) (h : List Entry) (journal : List Told) (fair : IsFair s h
     pub amounts : b.amounts ≡ a.amounts
     pub closing : (b.closing ≡ a.closing) ⊎ ((b.closing ≡ true) × ((stages.stage (facts_of m) p == running p) ≡ true))
 
-  pub goal-next : (p : Part) → In p m.parts → (a b : Goal) → goal_in (facts_of m) (own_channel p) ≡ Some a → goal_in (facts_of new) (own_channel p) ≡ Some b → GoalNext p a b
-  goal-next p i a b ea eb = go change
+  pub goal-next : (p : Part) → In p m.parts → IsKept (facts_of m) p → (a b : Goal) → goal_in (facts_of m) (own_channel p) ≡ Some a → goal_in (facts_of new) (own_channel p) ≡ Some b → GoalNext p a b
+  goal-next p i kept a b ea eb = go change
     where
       same : b ≡ a → GoalNext p a b
       same e = record { opening = ap (λ (g : Goal). g.opening) e; amounts = ap (λ (g : Goal). g.amounts) e; closing = inl (ap (λ (g : Goal). g.closing) e) }
 
-      closes-it : (channel : List ℕ) → Closed m channel → (t : Bool) → (a.part == place_with channel m.parts) ≡ t → b ≡ close_if t a → GoalNext p a b
+      -- the part that has the channel, where it is the goal's
+      here : (channel : List ℕ) (q : Part) → part_with channel m.parts ≡ Some q → (a.part == place_with channel m.parts) ≡ true → q ≡ p
+      here channel q found e =
+          let f = goal-found m.parts m.goals (own_channel p) a ea in
+          let at-place : slice_get m.parts a.part ≡ Some q =
+          ap (slice_get m.parts) (eqb-true a.part (place_with channel m.parts) e) ∙ (found_at_place (λ (part : Part). is_among channel (channels_of part)) m.parts ∙ found) in
+          let same-part : f.q ≡ q = some-eq f.q q (sym f.at ∙ at-place) in
+          sym same-part
+          ∙ one-of-parts s h journal fair past front at (own_channel p) f.q p (In-get m.parts a.part f.q f.at) i
+          (subst (λ (z : List ℕ). is_among z (channels_of f.q) ≡ true) (same_bytes (own_channel f.q) (own_channel p) f.about) (own-among f.q)) (own-among p)
+
+      lets-it : (channel : List ℕ) → LetGo m channel → (t : Bool) → (a.part == place_with channel m.parts) ≡ t → b ≡ close_if true t a → GoalNext p a b
+      lets-it channel c false e is = same is
+      lets-it channel c true e is = absurd (kept c.how (subst (λ (q : Part). stages.releases (facts_of m) c.how q ≡ true) (here channel c.part c.found e) c.may))
+
+      closes-it : (channel : List ℕ) → Closed m channel → (t : Bool) → (a.part == place_with channel m.parts) ≡ t → b ≡ close_if false t a → GoalNext p a b
       closes-it channel c false e is = same is
       closes-it channel c true e is = record {
         opening = ap (λ (g : Goal). g.opening) is;
         amounts = ap (λ (g : Goal). g.amounts) is;
-        closing = inr (ap (λ (g : Goal). g.closing) is, subst (λ (q : Part). (stages.stage (facts_of m) q == running q) ≡ true) it-is c.runs);
+        closing = inr (ap (λ (g : Goal). g.closing) is, subst (λ (q : Part). (stages.stage (facts_of m) q == running q) ≡ true) (here channel c.part c.found e) c.runs);
       }
-        where
-          it-is : c.part ≡ p
-          it-is =
-              let f = goal-found m.parts m.goals (own_channel p) a ea in
-              let at-place : slice_get m.parts a.part ≡ Some c.part =
-              ap (slice_get m.parts) (eqb-true a.part (place_with channel m.parts) e) ∙ (found_at_place (λ (part : Part). is_among channel (channels_of part)) m.parts ∙ c.found) in
-              let same-part : f.q ≡ c.part = some-eq f.q c.part (sym f.at ∙ at-place) in
-              sym same-part
-              ∙ one-of-parts s h journal fair past front at (own_channel p) f.q p (In-get m.parts a.part f.q f.at) i
-              (subst (λ (z : List ℕ). is_among z (channels_of f.q) ≡ true) (same_bytes (own_channel f.q) (own_channel p) f.about) (own-among f.q)) (own-among p)
 
       go : Change stages real x.deed x.command m new → GoalNext p a b
       go (stays parts goals) = same (some-eq b a (sym eb ∙ (goal-stays m new (own_channel p) parts goals ∙ ea)))
       go (opens command followed of taken parts goals) =
           same (some-eq b a (sym eb ∙ goal-opens m new (own_channel p) (parts_of real m.key command) (goals_of (length m.parts) command) parts goals a ea))
-      go (closes channel taken parts goals) =
+      go (closes true channel taken parts goals) =
+          lets-it channel (let-go m channel taken.0 taken.1) (a.part == place_with channel m.parts) refl
+          (some-eq b (close_if true (a.part == place_with channel m.parts) a) (sym eb ∙ goal-closes true m new (own_channel p) (place_with channel m.parts) parts goals a ea))
+      go (closes false channel taken parts goals) =
           closes-it channel (closed m channel taken) (a.part == place_with channel m.parts) refl
-          (some-eq b (close_if (a.part == place_with channel m.parts) a) (sym eb ∙ goal-closes m new (own_channel p) (place_with channel m.parts) parts goals a ea))
+          (some-eq b (close_if false (a.part == place_with channel m.parts) a) (sym eb ∙ goal-closes false m new (own_channel p) (place_with channel m.parts) parts goals a ea))
 
   -- ---- an accepted payment
 
@@ -250,7 +258,7 @@ module _ (s : Signing) (h : List Entry) (journal : List Told) (fair : IsFair s h
     where
       go : Change stages real x.deed x.command m new → In p m.parts ⊎ NewPart p
       go (stays parts goals) = inl (subst (In p) parts i)
-      go (closes channel taken parts goals) = inl (subst (In p) parts i)
+      go (closes lets channel taken parts goals) = inl (subst (In p) parts i)
       go (opens command followed of taken parts goals) = by (In-append_cases p m.parts (parts_of real m.key command) (subst (In p) parts i))
         where
           by : In p m.parts ⊎ In p (parts_of real m.key command) → In p m.parts ⊎ NewPart p

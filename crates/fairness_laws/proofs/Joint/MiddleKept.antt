@@ -26,6 +26,7 @@ use Rattle.fairness_laws.specs.PlanLaws.{PartAt}
 use Rattle.fairness_laws.specs.PlanParts.{MiddleIs}
 use Rattle.fairness_laws.specs.PlanSettings.{IsFair}
 use Rattle.fairness_laws.proofs.Plan.Asked.{part-at}
+use Rattle.fairness_laws.proofs.Accepted.{kept-middle}
 use Rattle.fairness_laws.proofs.Joint.Core.{Core, core-signs, core-closes, core-new}
 use Rattle.fairness_laws.proofs.Joint.Middles.{MiddleCore, core-carries, middle-carries}
 use Rattle.fairness_laws.proofs.Joint.MiddleSteps.{wants-in, signing-joint, runs-here}
@@ -97,7 +98,7 @@ module _ (s : Signing) (h : List Entry) (journal : List Told) (fair : IsFair s h
     module _ (i : In (kinds.Middle v) m.parts) (g k : Goal) (a : MiddleIs s.key past L (facts_of m) v g) (b : MiddleIs s.key past M (facts_of new) v k) (was : MiddleCore v a.middle L (pending front)) where
       goals : GoalNext s h journal fair past x front at then len (kinds.Middle v) (middle-at m v a.middle a.is).g (middle-at new v b.middle b.is).g
       goals =
-          goal-next s h journal fair past x front at then len (kinds.Middle v) i (middle-at m v a.middle a.is).g (middle-at new v b.middle b.is).g
+          goal-next s h journal fair past x front at then len (kinds.Middle v) i (kept-middle (facts_of m) v) (middle-at m v a.middle a.is).g (middle-at new v b.middle b.is).g
           (middle-at m v a.middle a.is).goal (middle-at new v b.middle b.is).goal
 
       -- no payment is in the joint channel

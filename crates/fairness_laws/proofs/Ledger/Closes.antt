@@ -1,7 +1,7 @@
 -- Where the part whose channel a ledger is closes each part on it closes and is over there: what each event and entry makes of that.
 use Rattle.std.proofs.Common.{◌≡◌, ℕ, Bool, true, false, cond, ◌&&◌, ◌||◌, not, ◌⊎◌, inl, inr, List, [], ◌∷◌, ◌++◌, length, refl, sym, ◌∙◌, ap, subst}
 use Rattle.std.specs.Str.{bytes_eq}
-use Rattle.std.specs.Prelude.{◌==◌, Option, Some, None, map}
+use Rattle.std.specs.Prelude.{◌==◌, nat_lt, Option, Some, None, map}
 use Rattle.std.specs.List.{list_any, slice_get}
 use Rattle.channel_values.specs.Parts.{StateParts}
 use Rattle.channel_safety.proofs.Lists.{In-append_cases}
@@ -31,7 +31,7 @@ use Rattle.channel_node.specs.Minds.{Mind, facts_of, place_with, close_if}
 use Rattle.channel_node.specs.Openings.{takes_part, virtual, parts_of, goals_of}
 use Rattle.channel_node.specs.Places.{Told, mind_at}
 use Rattle.channel_node.specs.Playing.{Signing, Plays, pending, signings, Allowed}
-use Rattle.channel_node.specs.Refusing.{open_refusal, close_part, part_with}
+use Rattle.channel_node.specs.Refusing.{open_refusal, standing_part, part_with}
 use Rattle.stage_tables.specs.Fitting.{stake, runs_at_end, is_running_end, lends_virtual, either_lends}
 use Rattle.stage_tables.specs.Ledgers.{is_root_of, is_running_root, is_between, affords_in, lends}
 use Rattle.stage_tables.specs.declared.stake.Stake.{Stake}
@@ -45,15 +45,15 @@ use Rattle.virtual_channel.specs.Ends.{End, end_rows}
 use Rattle.virtual_channel.specs.Middles.{Middle, middle_rows}
 use Rattle.virtual_channel.specs.Stages.{stage_of_end, stage_of_middle}
 use Rattle.fairness_laws.proofs.Closing.{FoundGoal, goal-found}
-use Rattle.fairness_laws.proofs.Planned.{Change, stays, opens, closes, event-changes}
+use Rattle.fairness_laws.proofs.Planned.{Change, stays, opens, closes, event-changes, IsShut as Shut}
 use Rattle.fairness_laws.specs.JointKeeping.{EndsKeep, MiddlesKeep}
 use Rattle.fairness_laws.specs.LedgerLending.{Lent, lent}
 use Rattle.fairness_laws.specs.LedgerPlaces.{own_at, parts_at, lends_at, KeepAt, StepAt}
 use Rattle.fairness_laws.specs.PaymentLaws.{At, ActsNext}
 use Rattle.fairness_laws.specs.PlanLaws.{PartAt, PartsAreKnown, PlansAreWhole}
 use Rattle.fairness_laws.specs.PlanSettings.{IsFair}
-use Rattle.fairness_laws.proofs.Ledger.Closing.{none-pending}
-use Rattle.fairness_laws.proofs.Accepted.{Closed, closed}
+use Rattle.fairness_laws.proofs.Ledger.Closing.{not-pending}
+use Rattle.fairness_laws.proofs.Accepted.{closed, let-go}
 use Rattle.fairness_laws.proofs.Plan.Goals.{goal-stays, goal-opens, goal-closes}
 use Rattle.fairness_laws.proofs.EventPlaces.{at-before, at-after}
 use Rattle.fairness_laws.proofs.Ledger.Lent.{by-kind, lent-again}
@@ -66,6 +66,7 @@ use Rattle.fairness_laws.proofs.Plan.ByRoute.{true-left}
 use Rattle.fairness_laws.proofs.Plan.Names.{Passing, any-in, in-among}
 use Rattle.fairness_laws.specs.PlanBearers.{bears}
 use Rattle.fairness_laws.proofs.Plan.Places.{grown-there}
+use Rattle.stage_tables.specs.Asked.{is_closing, is_unfinished_at, is_unfinished}
 
 -- where the part whose channel a ledger is closes each part on it closes and isn't pending on any ledger
 abbrev pub ShutIn : Mind → (own : List ℕ → Option StateParts) → Type 0
@@ -119,6 +120,21 @@ module _ (s : Signing) (h : List Entry) (journal : List Told) (fair : IsFair s h
     same-plan parts goals was r l p j g n on isj found closing =
         let i : In p m.parts = subst (In p) parts n in
         carries l p j i n isj (λ k isk. was r l p k g i on isk (sym (goal-stays m new r parts goals) ∙ found) closing)
+
+  -- ---- what is closed isn't unfinished
+
+  closed-over : (f : FactsOf) (p : Part) → (stages.stage f p == closed-stage p) ≡ true → is_unfinished f p ≡ false
+  closed-over f p e = go (is_closing (goal_in f (own_channel p)))
+    where
+      late : (p : Part) → nat_lt (closed-stage p) (running p) ≡ false
+      late (kinds.Root c) = refl
+      late (kinds.OnLedger l c) = refl
+      late (kinds.End v) = refl
+      late (kinds.Middle v) = refl
+
+      go : (b : Bool) → is_unfinished_at p b (stages.stage f p) ≡ false
+      go true = ap not e
+      go false = subst (λ (n : ℕ). nat_lt n (running p) ≡ false) (sym (eqb-true (stages.stage f p) (closed-stage p) e)) (late p)
 
   -- ---- on whose channel parts stand
 
@@ -239,6 +255,8 @@ module _ (s : Signing) (h : List Entry) (journal : List Told) (fair : IsFair s h
       lenders : (command : Command) → x.command ≡ Some command → None ≡ open_refusal stages real M command → (p : Part) (l : List ℕ) → In p (parts_of real s.key command) → In l (ledgers_of p) → Lender G l
       lenders (commands.Pay channel asset amount) is taken p l i on = absurd i
       lenders (commands.Close channel) is taken p l i on = absurd i
+      lenders (commands.Release how channel) is taken p l i on = absurd i
+      lenders (commands.Resend channel) is taken p l i on = absurd i
       lenders commands.Exit is taken p l i on = absurd i
       lenders (commands.Open fixed outcome) is taken p l (inr n) on = absurd n
       lenders (commands.Open fixed outcome) is taken p l (inl e) on = absurd (subst (λ (q : Part). In l (ledgers_of q)) e on)
@@ -323,9 +341,19 @@ module _ (s : Signing) (h : List Entry) (journal : List Told) (fair : IsFair s h
             let d = lenders c.0 c.1 command is taken p r (subst (λ (key : List ℕ). In p (parts_of real key command)) mine i) on in
             absurd (clash g.closing closing (ap (λ (z : Goal). z.closing) (as-before (lender-runs past front here r d).bearer) ∙ lender-open past front here r d))
 
-    module _ (channel : List ℕ) (taken : None ≡ close_part stages M (part_with channel M.parts)) where
-      abbrev c : Closed M channel
-      c = closed M channel taken
+    -- what is closed, or what the node lets go of
+    record Shuts (channel : List ℕ) : Type 0 where
+      part : Part
+      found : part_with channel M.parts ≡ Some part
+      standing : (p : Part) → In p M.parts → standing_part stages G (own_channel part) p ≡ None
+
+    shuts : (lets : Bool) (channel : List ℕ) → Shut lets stages M (part_with channel M.parts) → Shuts channel
+    shuts false channel taken = let c = closed M channel taken in record { part = c.part; found = c.found; standing = c.standing }
+    shuts true channel taken = let c = let-go M channel taken.0 taken.1 in record { part = c.part; found = c.found; standing = c.standing }
+
+    module _ (lets : Bool) (channel : List ℕ) (taken : Shut lets stages M (part_with channel M.parts)) where
+      abbrev c : Shuts channel
+      c = shuts lets channel taken
 
       -- the part that it closes is this channel's own
       closes-own : (l : List ℕ) (g : Goal) → goal_in G l ≡ Some g → (g.part == place_with channel M.parts) ≡ true → own_channel c.part ≡ l
@@ -342,16 +370,25 @@ module _ (s : Signing) (h : List Entry) (journal : List Told) (fair : IsFair s h
       -- each part on it is closed, and none is pending
       closes-shut : (p : Part) (l : List ℕ) (k : Lent) → In p M.parts → In (own_channel c.part) (ledgers_of p) → lends_at s past front l p ≡ Some k → IsShut k (own_at s.key journal front l)
       closes-shut p l k i on isk = record {
-        closing =
-            closed-closes past front here p i l k isk
-            (unless (is_among (own_channel c.part) (ledgers_of p)) (stages.stage G p == closed-stage p)
-            (holds_not (is_among (own_channel c.part) (ledgers_of p) && not (stages.stage G p == closed-stage p)) (NotWanted (stages.stage G p)) (c.standing p i))
-            (in-among (own_channel c.part) (ledgers_of p) on));
-        idle = λ last e pending. none-pending s h journal fair known ends middles past x front next c.idle p i
+        closing = closing;
+        idle = λ last e pending. not-pending s h journal fair known ends middles past x front next p i over
             (record { ledger = l; lent = k; is = isk; last = last; signed = e; pending = pending });
       }
+        where
+          at-end : (stages.stage G p == closed-stage p) ≡ true
+          at-end =
+              unless (is_among (own_channel c.part) (ledgers_of p)) (stages.stage G p == closed-stage p)
+              (holds_not (is_among (own_channel c.part) (ledgers_of p) && not (stages.stage G p == closed-stage p)) (NotWanted (stages.stage G p)) (c.standing p i))
+              (in-among (own_channel c.part) (ledgers_of p) on)
 
-      closed-shut : N.parts ≡ M.parts → N.goals ≡ map (λ goal. close_if (goal.part == place_with channel M.parts) goal) M.goals → ShutAt s journal past front → ShutAt s journal past (x ∷ front)
+          closing : k.closing ≡ true
+          closing = closed-closes past front here p i l k isk at-end
+
+          -- what closes and is closed isn't unfinished
+          over : is_unfinished G p ≡ false
+          over = closed-over G p at-end
+
+      closed-shut : N.parts ≡ M.parts → N.goals ≡ map (λ goal. close_if lets (goal.part == place_with channel M.parts) goal) M.goals → ShutAt s journal past front → ShutAt s journal past (x ∷ front)
       closed-shut parts goals was r l p j g n on isj found closing = carries past front here past (x ∷ front) there keeps step l p j i n isj shut
         where
           i : In p M.parts
@@ -369,15 +406,15 @@ module _ (s : Signing) (h : List Entry) (journal : List Told) (fair : IsFair s h
               there-is : goal_in G r ≡ Some a.goal
               there-is = bearer-goal past front here r b
 
-              now : g ≡ close_if (a.goal.part == place_with channel M.parts) a.goal
-              now = some-eq g (close_if (a.goal.part == place_with channel M.parts) a.goal) (sym found ∙ goal-closes M N r (place_with channel M.parts) parts goals a.goal there-is)
+              now : g ≡ close_if lets (a.goal.part == place_with channel M.parts) a.goal
+              now = some-eq g (close_if lets (a.goal.part == place_with channel M.parts) a.goal) (sym found ∙ goal-closes lets M N r (place_with channel M.parts) parts goals a.goal there-is)
 
               go : (t : Bool) → (a.goal.part == place_with channel M.parts) ≡ t → IsShut k (own_at s.key journal front l)
               go true e =
                   let same : own_channel c.part ≡ r = closes-own r a.goal there-is e in
                   closes-shut p l k i (subst (λ (z : List ℕ). In z (ledgers_of p)) (sym same) on) isk
               go false e =
-                  was r l p k a.goal i on isk there-is (ap (λ (z : Goal). z.closing) (sym (now ∙ ap (λ (t : Bool). close_if t a.goal) e)) ∙ closing)
+                  was r l p k a.goal i on isk there-is (ap (λ (z : Goal). z.closing) (sym (now ∙ ap (λ (t : Bool). close_if lets t a.goal) e)) ∙ closing)
 
     pub event-shut : ShutAt s journal past front → ShutAt s journal past (x ∷ front)
     event-shut was = go change
@@ -394,4 +431,4 @@ module _ (s : Signing) (h : List Entry) (journal : List Told) (fair : IsFair s h
         go : Change stages real x.deed x.command M N → ShutAt s journal past (x ∷ front)
         go (stays parts goals) = same-plan past front here past (x ∷ front) there keeps step parts goals was
         go (opens command followed is taken parts goals) = opened-shut command followed is taken parts goals was
-        go (closes channel taken parts goals) = closed-shut channel taken parts goals was
+        go (closes lets channel taken parts goals) = closed-shut lets channel taken parts goals was

@@ -24,7 +24,7 @@ use Rattle.channel_node.proofs.Allowing.{holds_not}
 use Rattle.channel_node.specs.Minds.{Mind, facts_of, place_with, close_if}
 use Rattle.channel_node.specs.Places.{Told, line_of, lines_of, mind_at}
 use Rattle.channel_node.specs.Playing.{Signing}
-use Rattle.channel_node.specs.Refusing.{unfinished, unfinished_part, part_with, close_part}
+use Rattle.channel_node.specs.Refusing.{unfinished, unfinished_part, part_with, close_part, release_part}
 use Rattle.stage_tables.specs.Stages.{stages}
 use Rattle.funding_plans.specs.Outcomes.{names}
 use Rattle.funding_plans.specs.declared.child.Child.{Child}
@@ -45,7 +45,7 @@ use Rattle.fairness_laws.proofs.Truths.{both-ways, untrue}
 use Rattle.fairness_laws.proofs.Seat.Past.{two-people, own-is, past-before}
 use Rattle.fairness_laws.specs.LedgerKeeping.{IsPending, PendingOn, Closing, other, this}
 use Rattle.fairness_laws.specs.LedgerLending.{Lent, of_funded, of_end}
-use Rattle.fairness_laws.specs.LedgerPlaces.{is_ledger, own_at, lends_at, closes, StepAt}
+use Rattle.fairness_laws.specs.LedgerPlaces.{is_ledger, own_at, lends_at, closes, drifts, StepAt}
 use Rattle.fairness_laws.specs.PaymentLaws.{At, ActsNext}
 use Rattle.fairness_laws.specs.PlanLaws.{PartAt, PartsAreKnown}
 use Rattle.fairness_laws.specs.PlanParts.{LedgerIs, OnLedgerIs, EndIs, MiddleIs}
@@ -53,17 +53,19 @@ use Rattle.fairness_laws.specs.PlanSeats.{SeatIs}
 use Rattle.fairness_laws.specs.PlanSettings.{IsFair}
 use Rattle.fairness_laws.proofs.Ledger.Drifting.{child-same, up-stays, up-before, done-same, falls-same}
 use Rattle.fairness_laws.proofs.Plan.Goals.{about, goal-closes}
-use Rattle.fairness_laws.proofs.Closing.{find-in}
-use Rattle.fairness_laws.proofs.Accepted.{Closed, closed}
+use Rattle.fairness_laws.proofs.Closing.{find-in, goal-found}
+use Rattle.fairness_laws.proofs.Accepted.{Closed, closed, LetGo, let-go, IsKept, kept-on-ledger, kept-end, kept-middle}
 use Rattle.fairness_laws.proofs.Plan.Asked.{one-of-parts}
 use Rattle.fairness_laws.proofs.Live.{each-none}
 use Rattle.fairness_laws.proofs.EventPlaces.{at-before, at-after}
 use Rattle.fairness_laws.proofs.Seat.Held.{held-past}
 use Rattle.fairness_laws.proofs.Ledger.Lent.{LendsAt, by-kind, lends-is, lent-again, of-a, of-b}
-use Rattle.fairness_laws.proofs.Ledger.Quiet.{grows-by, made-same, own-quiet}
+use Rattle.fairness_laws.proofs.Ledger.Quiet.{grows-by, made-same, own-quiet, quiet-drift}
 use Rattle.fairness_laws.proofs.Ledger.Ready.{falls-closes, part-at, end-keeps, middle-keeps}
 use Rattle.fairness_laws.proofs.Stages.{end-opening, end-closing, end-runs, middle-opening, middle-closing, middle-runs}
 use Rattle.fairness_laws.proofs.Ledger.Wanting.{funded_unfinished, funded_runs}
+use Rattle.channel_safety.proofs.Lists.{In-get}
+use Rattle.network.specs.declared.command.Release.{Release}
 
 -- ---- tests
 
@@ -196,6 +198,10 @@ module _ (s : Signing) (h : List Entry) (journal : List Told) (fair : IsFair s h
           (middle-closing y.middle (down-second (is_down y.middle.child_a y.middle.ledger_a) (is_down y.middle.child_b y.middle.ledger_b)
           (names-yet v.ledger_b y.middle.child_b.first y.middle.child_b.second y.middle.child_b y.middle.ledger_b y.on_b last e late.1)))
 
+  -- where a part isn't unfinished nothing is pending on it
+  pub not-pending : (q : Part) → In q m.parts → is_unfinished (facts_of m) q ≡ false → PendingOn (lends_at s past front) (own_at s.key journal front) q → ⊥
+  not-pending q i e w = clash (is_unfinished (facts_of m) q) (pending-unfinished q i w.ledger w.lent w.is w.last w.signed w.pending) e
+
   -- where nothing is unfinished nothing is pending
   pub none-pending : unfinished stages (facts_of m) ≡ None → (q : Part) → In q m.parts → PendingOn (lends_at s past front) (own_at s.key journal front) q → ⊥
   none-pending e q i w =
@@ -230,7 +236,7 @@ module _ (s : Signing) (h : List Entry) (journal : List Told) (fair : IsFair s h
   -- ---- an accepted Close
 
   module _ (channel : List ℕ) (taken : None ≡ close_part stages m (part_with channel m.parts)) (parts : new.parts ≡ m.parts)
-      (goals : new.goals ≡ map (λ goal. close_if (goal.part == place_with channel m.parts) goal) m.goals) (unsigned : (c : List ℕ) → made_in c x.deed ≡ None) where
+      (goals : new.goals ≡ map (λ goal. close_if false (goal.part == place_with channel m.parts) goal) m.goals) (unsigned : (c : List ℕ) → made_in c x.deed ≡ None) where
     of : Closed m channel
     of = closed m channel taken
 
@@ -247,14 +253,14 @@ module _ (s : Signing) (h : List Entry) (journal : List Told) (fair : IsFair s h
       abbrev test : Bool
       test = a.goal.part == place_with channel m.parts
 
-      goal-is : b.goal ≡ close_if test a.goal
-      goal-is = some-eq b.goal (close_if test a.goal) (sym b.found ∙ goal-closes m new (own_channel p) (place_with channel m.parts) parts goals a.goal a.found)
+      goal-is : b.goal ≡ close_if false test a.goal
+      goal-is = some-eq b.goal (close_if false test a.goal) (sym b.found ∙ goal-closes false m new (own_channel p) (place_with channel m.parts) parts goals a.goal a.found)
 
-      same-opening : (t : Bool) (g : Goal) → (close_if t g).opening ≡ g.opening
+      same-opening : (t : Bool) (g : Goal) → (close_if false t g).opening ≡ g.opening
       same-opening true g = refl
       same-opening false g = refl
 
-      same-amounts : (t : Bool) (g : Goal) → (close_if t g).amounts ≡ g.amounts
+      same-amounts : (t : Bool) (g : Goal) → (close_if false t g).amounts ≡ g.amounts
       same-amounts true g = refl
       same-amounts false g = refl
 
@@ -301,9 +307,9 @@ module _ (s : Signing) (h : List Entry) (journal : List Told) (fair : IsFair s h
       closing-of : (t : Bool) → test ≡ t → Closing of.part p k j
       closing-of true e =
           let r = ran e in
-          this (it-is e) (b.closing ∙ (ap (λ (g : Goal). g.closing) goal-is ∙ ap (λ (t : Bool). (close_if t a.goal).closing) e)) r.0 r.1 (untrue k.falls k.closing (falls-closes s h journal fair known ends middles past front at p i l k isk) r.0)
+          this (it-is e) (b.closing ∙ (ap (λ (g : Goal). g.closing) goal-is ∙ ap (λ (t : Bool). (close_if false t a.goal).closing) e)) r.0 r.1 (untrue k.falls k.closing (falls-closes s h journal fair known ends middles past front at p i l k isk) r.0)
       closing-of false e =
-          let same : j.closing ≡ k.closing = b.closing ∙ (ap (λ (g : Goal). g.closing) goal-is ∙ (ap (λ (t : Bool). (close_if t a.goal).closing) e ∙ sym a.closing)) in
+          let same : j.closing ≡ k.closing = b.closing ∙ (ap (λ (g : Goal). g.closing) goal-is ∙ (ap (λ (t : Bool). (close_if false t a.goal).closing) e ∙ sym a.closing)) in
           other same (falls-same s h journal fair known ends middles past front at past (x ∷ front) then made-stays p i (new-there p i) l k j isk isj same)
 
       done-stays : j.done ≡ k.done
@@ -327,3 +333,39 @@ module _ (s : Signing) (h : List Entry) (journal : List Told) (fair : IsFair s h
     pub close-step : StepAt s journal past past front (x ∷ front)
     close-step =
         closes of.part parts (record { idle = none-pending of.idle; before = before; after = after }) (own-quiet s h journal fair known ends middles past x front next unsigned)
+
+  -- ---- an accepted Release: of a root, which sets nothing aside
+
+  module _ (channel : List ℕ) (how : Release) (taken : None ≡ release_part stages m how (part_with channel m.parts)) (parts : new.parts ≡ m.parts)
+      (goals : new.goals ≡ map (λ goal. close_if true (goal.part == place_with channel m.parts) goal) m.goals) (unsigned : (c : List ℕ) → made_in c x.deed ≡ None) where
+    gone : LetGo m channel
+    gone = let-go m channel how taken
+
+    -- what sets something aside is no root
+    no-root : (l : List ℕ) (p : Part) (k : Lent) → lends_at s past front l p ≡ Some k → IsKept (facts_of m) p
+    no-root l (kinds.Root c) k is = absurd (none-eq k is)
+    no-root l (kinds.OnLedger n c) k is = kept-on-ledger (facts_of m) n c
+    no-root l (kinds.End v) k is = kept-end (facts_of m) v
+    no-root l (kinds.Middle v) k is = kept-middle (facts_of m) v
+
+    goal-kept : (l : List ℕ) (p : Part) (k : Lent) → In p m.parts → lends_at s past front l p ≡ Some k
+        → (g : Goal) → goal_in (facts_of m) (own_channel p) ≡ Some g → goal_in (facts_of new) (own_channel p) ≡ Some g
+    goal-kept l p k i is g found =
+        goal-closes true m new (own_channel p) (place_with channel m.parts) parts goals g found ∙ go (g.part == place_with channel m.parts) refl
+      where
+        go : (t : Bool) → (g.part == place_with channel m.parts) ≡ t → Some (close_if true t g) ≡ Some g
+        go false e = refl
+        go true e =
+            let f = goal-found m.parts m.goals (own_channel p) g found in
+            let q = some-eq f.q gone.part (sym f.at ∙ (ap (slice_get m.parts) (eqb-true g.part (place_with channel m.parts) e)
+            ∙ (found_at_place (λ (part : Part). is_among channel (channels_of part)) m.parts ∙ gone.found))) in
+            let same : f.q ≡ p =
+            one-of-parts s h journal fair past front at (own_channel p) f.q p (In-get m.parts g.part f.q f.at) i
+            (subst (λ (z : List ℕ). is_among z (channels_of f.q) ≡ true) (same_bytes (own_channel f.q) (own_channel p) f.about) (own-among f.q)) (own-among p) in
+            absurd (no-root l p k is gone.how (subst (λ (z : Part). stages.releases (facts_of m) gone.how z ≡ true) (sym q ∙ same) gone.may))
+
+    pub release-step : StepAt s journal past past front (x ∷ front)
+    release-step =
+        drifts parts
+        (quiet-drift s h journal fair known ends middles past x front next unsigned (λ p i. subst (In p) (sym parts) i) goal-kept (own_at s.key journal front))
+        (own-quiet s h journal fair known ends middles past x front next unsigned)

@@ -247,7 +247,8 @@ module _ (s : Signing) (h : List Entry) (journal : List Told) (fair : IsFair s h
   -- ---- drift
 
   module _ (own : List ℕ → Option StateParts) (same : (p : Part) → In p (parts_at s past front) → In p (parts_at s after longer))
-      (goals : (c : List ℕ) (g : Goal) → goal_in (facts_of (mind_at real s.key past front)) c ≡ Some g → goal_in (facts_of (mind_at real s.key after longer)) c ≡ Some g)
+      (goals : (l : List ℕ) (p : Part) (k : Lent) → In p (parts_at s past front) → lends_at s past front l p ≡ Some k
+      → (g : Goal) → goal_in (facts_of (mind_at real s.key past front)) (own_channel p) ≡ Some g → goal_in (facts_of (mind_at real s.key after longer)) (own_channel p) ≡ Some g)
       (grows : (f : FixedParts) → In f (channels L) → Past f L → Past f M)
       (rises : (l : List ℕ) (p : Part) (k : Lent) (a : LendsAt s past front l p k) → In p (parts_at s past front) → lends_at s past front l p ≡ Some k → k.is_up ≡ false → Past a.fixed M
       → (last : StateParts) → own l ≡ Some last → HasGoneUp k last)
@@ -260,7 +261,7 @@ module _ (s : Signing) (h : List Entry) (journal : List Told) (fair : IsFair s h
       b = lends-is s after longer p (part-at s h journal fair known ends middles after longer then p (same p i)) l j isj
 
       goal-same : b.goal ≡ a.goal
-      goal-same = some-eq b.goal a.goal (sym b.found ∙ goals (own_channel p) a.goal a.found)
+      goal-same = some-eq b.goal a.goal (sym b.found ∙ goals l p k i isk a.goal a.found)
 
       child : j.child ≡ k.child
       child = child-same l p k j a b (ap (λ (x : Goal). x.opening) goal-same) (ap (λ (x : Goal). x.amounts) goal-same)

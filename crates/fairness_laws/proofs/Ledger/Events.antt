@@ -27,7 +27,7 @@ use Rattle.fairness_laws.specs.LedgerEvents.{SetUpsStart}
 use Rattle.fairness_laws.specs.LedgerLaws.{GivesBack}
 use Rattle.fairness_laws.specs.LedgerPlaces.{is_ledger, own_at, KeepAt, StepAt}
 use Rattle.fairness_laws.proofs.Ledger.Opening.{open-step, on-step, virtual-step}
-use Rattle.fairness_laws.proofs.Ledger.Closing.{close-step}
+use Rattle.fairness_laws.proofs.Ledger.Closing.{close-step, release-step}
 use Rattle.fairness_laws.proofs.Ledger.Payments.{payments_run}
 use Rattle.fairness_laws.proofs.Ledger.Quiet.{happens, quiet-step, own-quiet}
 use Rattle.fairness_laws.proofs.Ledger.Signing.{FirstBy, signing-step, signing-first}
@@ -60,10 +60,15 @@ module _ (s : Signing) (h : List Entry) (journal : List Told) (fair : IsFair s h
         → Allowed stages real s past m (signings front) (pending front) (deeds.Commanded step None) o → StepAt s journal past past front (x ∷ front)
     commanded step None e f a = quiet (deeds.Commanded step None) None e f (λ c. refl) refl refl
     commanded step (Some (commands.Pay c asset amount)) e f a = quiet (deeds.Commanded step None) (Some (commands.Pay c asset amount)) e f (λ c. refl) refl refl
+    commanded step (Some (commands.Resend c)) e f a = quiet (deeds.Commanded step None) (Some (commands.Resend c)) e f (λ c. refl) refl refl
     commanded step (Some commands.Exit) e f a = quiet (deeds.Commanded step None) (Some commands.Exit) e f (λ c. refl) refl refl
     commanded step (Some (commands.Close c)) e f a =
         close-step s h journal fair known ends middles past x front next c a.1
         (ap (λ (z : Mind). z.parts) (happened (deeds.Commanded step None) (Some (commands.Close c)) e f)) (ap (λ (z : Mind). z.goals) (happened (deeds.Commanded step None) (Some (commands.Close c)) e f))
+        (λ c. ap (made_in c) e)
+    commanded step (Some (commands.Release how c)) e f a =
+        release-step s h journal fair known ends middles past x front next c how a.1
+        (ap (λ (z : Mind). z.parts) (happened (deeds.Commanded step None) (Some (commands.Release how c)) e f)) (ap (λ (z : Mind). z.goals) (happened (deeds.Commanded step None) (Some (commands.Release how c)) e f))
         (λ c. ap (made_in c) e)
     commanded step (Some (commands.Open fixed outcome)) e f a = open-step s h journal fair known ends middles past x front next keeps step e fixed outcome f a.1
     commanded step (Some (commands.OpenOn o)) e f a = on-step s h journal fair known ends middles past x front next keeps step e o.ledger o.fixed o.asset o.amounts f a.1

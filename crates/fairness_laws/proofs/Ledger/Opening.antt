@@ -257,7 +257,7 @@ module _ (s : Signing) (h : List Entry) (journal : List Told) (fair : IsFair s h
           where
             drifts-now : Drifts m.parts (lends_at s past front) (lends_at s past (x ∷ front)) (own_at s.key journal front)
             drifts-now =
-                quiet-drift s h journal fair known ends middles past x front next unsigned stays (λ c g found. goal-opens m new c (p ∷ []) (goal ∷ []) parts goals g found)
+                quiet-drift s h journal fair known ends middles past x front next unsigned stays (λ l q k i is g found. goal-opens m new (own_channel q) (p ∷ []) (goal ∷ []) parts goals g found)
                 (own_at s.key journal front)
 
             still-idle : (q : Part) → In q m.parts → PendingOn (lends_at s past (x ∷ front)) (own_at s.key journal front) q → ⊥

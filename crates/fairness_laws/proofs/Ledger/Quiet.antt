@@ -28,6 +28,8 @@ use Rattle.fairness_laws.proofs.Plan.Goals.{goal-stays}
 use Rattle.fairness_laws.proofs.EventPlaces.{at-before, at-after}
 use Rattle.fairness_laws.proofs.Ledger.Lent.{gate-of}
 use Rattle.fairness_laws.proofs.Seat.Past.{Past, honest, past-grows, past-before}
+use Rattle.funding_plans.specs.Parts.{own_channel}
+use Rattle.fairness_laws.specs.LedgerLending.{Lent}
 
 module _ (s : Signing) (h : List Entry) (journal : List Told) (fair : IsFair s h journal) (known : PartsAreKnown) (ends : EndsKeep) (middles : MiddlesKeep) where
   -- ---- entries
@@ -43,7 +45,7 @@ module _ (s : Signing) (h : List Entry) (journal : List Told) (fair : IsFair s h
     entry-step = drifts parts-seen
         (drifts-so s h journal fair known ends middles past front at (e ∷ past) front then (own_at s.key journal front)
         (λ p i. subst (In p) (sym parts-seen) i)
-        (λ c g found. goal-stays (mind_at real s.key past front) (mind_at real s.key (e ∷ past) front) c parts-seen (ap (λ (m : Mind). m.goals) sees) ∙ found)
+        (λ l p k i is g found. goal-stays (mind_at real s.key past front) (mind_at real s.key (e ∷ past) front) (own_channel p) parts-seen (ap (λ (m : Mind). m.goals) sees) ∙ found)
         (λ f i p. p)
         (λ l p k a i is early q last signed. absurd (clash k.is_up (is-up s h journal fair past front at.front_is l p k a q) early))
         (λ l p k i is r. refl))
@@ -75,7 +77,8 @@ module _ (s : Signing) (h : List Entry) (journal : List Told) (fair : IsFair s h
 
     -- what is set aside drifts, where nothing is signed
     module _ (unsigned : (c : List ℕ) → made_in c x.deed ≡ None) (same : (p : Part) → In p m.parts → In p new.parts)
-        (goals : (c : List ℕ) (g : Goal) → goal_in (facts_of m) c ≡ Some g → goal_in (facts_of new) c ≡ Some g) where
+        (goals : (l : List ℕ) (p : Part) (k : Lent) → In p m.parts → lends_at s past front l p ≡ Some k
+        → (g : Goal) → goal_in (facts_of m) (own_channel p) ≡ Some g → goal_in (facts_of new) (own_channel p) ≡ Some g) where
       pub quiet-drift : (own : List ℕ → Option StateParts) → Drifts m.parts (lends_at s past front) (lends_at s past (x ∷ front)) own
       quiet-drift own =
           drifts-so s h journal fair known ends middles past front (at-before s h journal fair past x front next) past (x ∷ front) (at-after s h journal fair past x front next) own same goals
@@ -91,5 +94,5 @@ module _ (s : Signing) (h : List Entry) (journal : List Told) (fair : IsFair s h
     pub quiet-step : ((c : List ℕ) → made_in c x.deed ≡ None) → new.parts ≡ m.parts → new.goals ≡ m.goals → StepAt s journal past past front (x ∷ front)
     quiet-step unsigned parts goals =
         drifts parts
-        (quiet-drift unsigned (λ p i. subst (In p) (sym parts) i) (λ c g found. goal-stays m new c parts goals ∙ found) (own_at s.key journal front))
+        (quiet-drift unsigned (λ p i. subst (In p) (sym parts) i) (λ l p k i is g found. goal-stays m new (own_channel p) parts goals ∙ found) (own_at s.key journal front))
         (own-quiet unsigned)

@@ -24,7 +24,7 @@ use Rattle.call_history.specs.declared.event.Deed.{Deed}
 use Rattle.call_history.specs.declared.event.Deed.TheVariants as deeds
 use Rattle.channel_values.specs.Amounts.{has}
 use Rattle.channel_values.specs.Rules.{people}
-use Rattle.funding_plans.specs.Parts.{channels_of, joined_of, ledgers_of, own_ledger, own_guarantor}
+use Rattle.funding_plans.specs.Parts.{channels_of, joined_of, ledgers_of, own_ledger, own_guarantor, own_channel}
 use Rattle.funding_plans.specs.Shapes.{items_of, items_in}
 use Rattle.funding_plans.specs.declared.plan.Goal.{Goal}
 use Rattle.funding_plans.specs.declared.plan.Part.{Part}
@@ -310,7 +310,7 @@ module _ (s : Signing) (h : List Entry) (journal : List Told) (fair : IsFair s h
       → Drifts m.parts (lends_at s past front) (lends_at s past (x ∷ front)) own
   drift-with own owned =
       drifts-so s h journal fair known ends middles past front standing past (x ∷ front) (at-after s h journal fair past x front next) own
-      (λ p i. subst (In p) (sym parts-stay) i) (λ c g found. goal-stays m new c parts-stay goals-stay ∙ found)
+      (λ p i. subst (In p) (sym parts-stay) i) (λ l p k i is g found. goal-stays m new (own_channel p) parts-stay goals-stay ∙ found)
       (grows-by s h journal fair known ends middles past x front next) rises stays
     where
       rises : (l : List ℕ) (p : Part) (k : Lent) (a : LendsAt s past front l p k) → In p m.parts → lends_at s past front l p ≡ Some k → k.is_up ≡ false → Past a.fixed (lines_of s.key (x ∷ front))
@@ -487,7 +487,7 @@ module _ (s : Signing) (h : List Entry) (journal : List Told) (fair : IsFair s h
               where
                 low : (a n : ℕ) → a ≡ 2 * n → a ≤ 2 * n
                 low a n p = omega arith
-        go (picking.closes closing going f) = finishes-so (kinds.Root r) i bearing at.goal found root.fixed c root.seat (root.named ∙ same) bare f
+        go (picking.closes closing held-on going f) = finishes-so (kinds.Root r) i bearing at.goal found root.fixed c root.seat (root.named ∙ same) bare f
 
     -- an end of a virtual ledger
     by-end : (v : Virtual) → In (kinds.End v) m.parts → bears channel (kinds.End v) ≡ true → wanted_of (facts_of m) channel (Some (kinds.End v)) ≡ Some state → Signing-step

@@ -196,16 +196,16 @@ module _ (key : List ℕ) (fs hs : List FixedParts) (parts more : List Part) (ch
   )
 
 module _ (key : List ℕ) (fs : List FixedParts) (parts : List Part) where
-  closed-pair : (n : ℕ) (p : Part) (g : Goal) (b : Bool) → Pair key fs parts n p g → Pair key fs parts n p (close_if b g)
-  closed-pair n p g true o = record { place = o.place; known = o.known }
-  closed-pair n p g false o = o
+  closed-pair : (lets : Bool) (n : ℕ) (p : Part) (g : Goal) (b : Bool) → Pair key fs parts n p g → Pair key fs parts n p (close_if lets b g)
+  closed-pair lets n p g true o = record { place = o.place; known = o.known }
+  closed-pair lets n p g false o = o
 
   -- where one closes
-  pub closes-paired : (k n : ℕ) (ps : List Part) (gs : List Goal) → Paired key fs parts n ps gs → Paired key fs parts n ps (map (λ goal. close_if (goal.part == k) goal) gs)
-  closes-paired k n [] [] paired = tt
-  closes-paired k n [] (g ∷ gs) paired = absurd paired
-  closes-paired k n (p ∷ ps) [] paired = absurd paired
-  closes-paired k n (p ∷ ps) (g ∷ gs) paired = (closed-pair n p g (g.part == k) paired.0, closes-paired k (suc n) ps gs paired.1)
+  pub closes-paired : (lets : Bool) (k n : ℕ) (ps : List Part) (gs : List Goal) → Paired key fs parts n ps gs → Paired key fs parts n ps (map (λ goal. close_if lets (goal.part == k) goal) gs)
+  closes-paired lets k n [] [] paired = tt
+  closes-paired lets k n [] (g ∷ gs) paired = absurd paired
+  closes-paired lets k n (p ∷ ps) [] paired = absurd paired
+  closes-paired lets k n (p ∷ ps) (g ∷ gs) paired = (closed-pair lets n p g (g.part == k) paired.0, closes-paired lets k (suc n) ps gs paired.1)
 
   -- with one more
   pub opens-paired : (n : ℕ) (ps : List Part) (gs : List Goal) (p : Part) (g : Goal) → Paired key fs parts n ps gs → g.part ≡ n + length ps → Of key fs parts p g.opening g.amounts

@@ -1,5 +1,5 @@
 -- What is known of a node's plan at each place of its journal: the parts with their goals, and that ledgers were opened before.
-use Rattle.std.proofs.Common.{◌≡◌, ℕ, ◌+◌, true, List, [], ◌∷◌, ◌++◌, inl, inr, length, refl, sym, ◌∙◌, subst, arith}
+use Rattle.std.proofs.Common.{◌≡◌, ℕ, ◌+◌, Bool, true, false, List, [], ◌∷◌, ◌++◌, inl, inr, length, refl, sym, ◌∙◌, subst, arith}
 use Rattle.std.specs.Prelude.{◌==◌, Option, Some, None, map, Result, Ok, Err}
 use Rattle.channel_values.specs.Parts.{FixedParts, IsFixed}
 use Rattle.channel_values.specs.declared.fault.ByteFault.{ByteFault}
@@ -101,10 +101,10 @@ with-channels key fs gs parts goals was = record {
   stands = was.stands;
 }
 
-with-closing : (key : List ℕ) (fs gs : List FixedParts) (parts : List Part) (goals : List Goal) (k : ℕ) → Knows key fs parts goals
-    → Knows key (fs ++ gs) parts (map (λ goal. close_if (goal.part == k) goal) goals)
-with-closing key fs gs parts goals k was = with-channels key fs gs parts (map (λ (goal : Goal). close_if (goal.part == k) goal) goals) (record {
-  paired = closes-paired key fs parts k 0 parts goals was.paired;
+with-closing : (lets : Bool) (key : List ℕ) (fs gs : List FixedParts) (parts : List Part) (goals : List Goal) (k : ℕ) → Knows key fs parts goals
+    → Knows key (fs ++ gs) parts (map (λ goal. close_if lets (goal.part == k) goal) goals)
+with-closing lets key fs gs parts goals k was = with-channels key fs gs parts (map (λ (goal : Goal). close_if lets (goal.part == k) goal) goals) (record {
+  paired = closes-paired key fs parts lets k 0 parts goals was.paired;
   stands = was.stands;
 })
 
@@ -149,7 +149,9 @@ module _ (s : Signing) (past : List Entry) (m : Mind) (mine : m.key ≡ s.key) (
       opening (commands.OpenVirtual v)
       (virtual-added s.key m mine fs on-ledger owns v.route v.ledgers v.guarantors v.joint v.channel v.asset v.amounts tells valid (can-open m (commands.OpenVirtual v) e) (length m.parts))
   followed used (commands.Pay channel asset amount) e tells valid = with-channels s.key fs [] m.parts m.goals was
-  followed used (commands.Close channel) e tells valid = with-closing s.key fs [] m.parts m.goals (place_with channel m.parts) was
+  followed used (commands.Close channel) e tells valid = with-closing false s.key fs [] m.parts m.goals (place_with channel m.parts) was
+  followed used (commands.Release how channel) e tells valid = with-closing true s.key fs [] m.parts m.goals (place_with channel m.parts) was
+  followed used (commands.Resend channel) e tells valid = with-channels s.key fs [] m.parts m.goals was
   followed used commands.Exit e tells valid = with-channels s.key fs [] m.parts m.goals was
 
   after : (used seen : ℕ) (waits : Option Command) (deed : Deed) (command : Option Command) → Allowed stages real s past m used waits deed command

@@ -1,5 +1,4 @@
 -- What a message makes of a node stands, whatever it answered, and it is answered why it was refused, if it was.
-use Rattle.network_node.proofs.Counted.{handled_counted}
 use Rattle.network_node.proofs.Few.{is_node, lost_node, handled_small}
 use Rattle.network_node.proofs.Kept.{handle_keeps, handle_loses, handle_refuses, lose_keeps}
 use Rattle.network_node.proofs.node.NodeParty.handle.Goals as goal
@@ -26,4 +25,3 @@ pub invariant_of-self-2 : goal.invariant_of-self-2
 invariant_of-self-2 c =
     is_node c.self.inside.key c.self.inside.node c.handle.new.self c.self.invariant c.handle.ensures.signer
     (handled_small c.in-Ok.bytes c.self.inside.node c.handle.new.self c.handle.result c.handle.ensures.answer c.self.invariant.small)
-    (handled_counted c.in-Ok.bytes c.self.inside.node c.handle.new.self c.handle.result c.handle.ensures.answer c.self.invariant.counted)

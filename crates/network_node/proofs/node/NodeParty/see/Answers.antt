@@ -1,6 +1,5 @@
 -- What entries make of a node stands, also where they were cut off.
 use Rattle.std.proofs.Common.{sym}
-use Rattle.network_node.proofs.Counted.{seen_counted}
 use Rattle.network_node.proofs.Few.{is_node, seen_small}
 use Rattle.network_node.proofs.Kept.{see_keeps}
 use Rattle.network_node.proofs.node.NodeParty.see.Goals as goal
@@ -15,4 +14,3 @@ pub invariant_of-self : goal.invariant_of-self
 invariant_of-self c =
     is_node c.self.inside.key c.self.inside.node c.see_all.new.node c.self.invariant c.see_all.ensures.signer
     (seen_small c.args.entries.now c.self.inside.node c.see_all.new.node c.see_all.result c.see_all.ensures.saw c.see_all.ensures.lost c.self.invariant.small)
-    (seen_counted c.args.entries.now c.self.inside.node c.see_all.new.node c.see_all.result c.see_all.ensures.saw c.see_all.ensures.lost c.self.invariant.counted)

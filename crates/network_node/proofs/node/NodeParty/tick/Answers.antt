@@ -1,5 +1,4 @@
 -- What a tick makes of a node is what its ways say, and stands, also where it was cut off.
-use Rattle.network_node.proofs.Counted.{ticked_counted}
 use Rattle.network_node.proofs.Few.{is_node, ticked_small}
 use Rattle.network_node.proofs.Kept.{stays_lost, tick_keeps, tick_makes}
 use Rattle.channel_node.specs.Playing.{signing_of}
@@ -23,4 +22,3 @@ pub invariant_of-self : goal.invariant_of-self
 invariant_of-self c =
     is_node c.self.inside.key c.self.inside.node c.tick.new.self c.self.invariant c.tick.ensures.signer
     (ticked_small (signing_of c.self.inside.node.signer) c.self.inside.node c.tick.new.self c.tick.result c.tick.ensures.ok c.tick.ensures.err c.self.invariant.small)
-    (ticked_counted (signing_of c.self.inside.node.signer) c.self.inside.node c.tick.new.self c.tick.result c.tick.ensures.ok c.tick.ensures.err c.self.invariant.counted)

@@ -3,7 +3,6 @@ use Rattle.std.proofs.Common.{sym, ◌∙◌, ap}
 use Rattle.std.specs.List.{flat_map}
 use Rattle.channel_store.specs.Keeping.{held_chain}
 use Rattle.channel_node.specs.Minds.{Mind}
-use Rattle.network_node.proofs.Counted.{watched_counted}
 use Rattle.network_node.proofs.Few.{is_node, lost_node, few_looked, watched_small}
 use Rattle.network_node.proofs.Kept.{lose_keeps, watch_keeps}
 use Rattle.network_node.proofs.node.NodeParty.watch.Goals as goal
@@ -30,4 +29,3 @@ pub invariant_of-self-2 : goal.invariant_of-self-2
 invariant_of-self-2 c =
     is_node c.self.inside.key c.self.inside.node c.watch.new.self c.self.invariant c.watch.ensures.signer
     (watched_small c.looked_twice.new.lookout.seen c.args.place c.in-Ok.twice.1 c.self.inside.node c.watch.new.self c.watch.result c.watch.ensures.ok c.watch.ensures.err c.self.invariant.small)
-    (watched_counted c.looked_twice.new.lookout.seen c.args.place c.in-Ok.twice.1 c.self.inside.node c.watch.new.self c.watch.result c.watch.ensures.ok c.watch.ensures.err c.self.invariant.counted)
