@@ -4,6 +4,8 @@ use Rattle.std.specs.Str.{bytes_eq}
 use Rattle.serde_json.specs.Data.{Data}
 use Rattle.network.specs.declared.command.Command.{Command}
 use Rattle.network.specs.declared.command.Command.TheVariants as commands
+use Rattle.network.specs.declared.command.Release.{Release}
+use Rattle.network.specs.declared.command.Release.TheVariants as releases
 use Rattle.network.specs.declared.command.Route.{Route}
 use Rattle.network.specs.declared.command.Route.TheVariants as routes
 use Rattle.node_lines.specs.Channels.{channel_at, channels_at}
@@ -78,6 +80,13 @@ close_of d = do
   channel ← name_at (codes "channel") d
   Ok (commands.Close channel)
 
+-- {"do":"settle","channel":"NAME"}, or the same with `abandon`
+abbrev pub release_of : Release → Data → Result Command Invalid
+release_of how d = do
+  no_more ← keys 2 d
+  channel ← name_at (codes "channel") d
+  Ok (commands.Release how channel)
+
 -- {"do":"exit"}
 abbrev pub exit_of : Data → Result Command Invalid
 exit_of d = do
@@ -92,4 +101,6 @@ command_in word d =
     if bytes_eq word (codes "open_virtual") then open_virtual_of d else (
     if bytes_eq word (codes "pay") then pay_of d else (
     if bytes_eq word (codes "close") then close_of d else (
-    if bytes_eq word (codes "exit") then exit_of d else Err faults.Shape)))))
+    if bytes_eq word (codes "settle") then release_of releases.Settle d else (
+    if bytes_eq word (codes "abandon") then release_of releases.Abandon d else (
+    if bytes_eq word (codes "exit") then exit_of d else Err faults.Shape)))))))

@@ -3,13 +3,13 @@
 ghost use Rattle.std.specs.Prelude.{◌≡◌};
 ghost use Rattle.serde_json.specs.View.{view};
 ghost use Rattle.node_lines.specs.Faults.{Gives};
-ghost use Rattle.node_lines.specs.Commands.{open_of, open_on_of, route_in, route_at, open_virtual_of, pay_of, close_of, exit_of, command_in};
+ghost use Rattle.node_lines.specs.Commands.{open_of, open_on_of, route_in, route_at, open_virtual_of, pay_of, close_of, release_of, exit_of, command_in};
 
 use crate::channels::{channel_at, channels_at};
 use crate::faults::{Invalid, LineError};
 use crate::outcomes::outcome_at;
 use crate::values::{amounts_at, keys, name_at, names_at, number_at, small_at, text_at};
-use network::{Command, LedgerFunding, Route, VirtualFunding};
+use network::{Command, LedgerFunding, Release, Route, VirtualFunding};
 use serde_json::Value;
 use std::alloc::Global;
 
@@ -100,6 +100,14 @@ fn close_of(value: &Value) -> Result<Command, LineError>
     Ok(Command::Close { channel })
 }
 
+fn release_of(how: Release, value: &Value) -> Result<Command, LineError>
+    ensures { Gives (λ c. c) result (release_of how (view value.now)) }
+{
+    keys(value, 2)?;
+    let channel = name_at(value, "channel")?;
+    Ok(Command::Release { how, channel })
+}
+
 fn exit_of(value: &Value) -> Result<Command, LineError>
     ensures { Gives (λ c. c) result (exit_of (view value.now)) }
 {
@@ -117,6 +125,8 @@ pub(crate) fn command_in(alloc: Global, word: &str, value: &Value) -> Result<Com
         "open_virtual" => open_virtual_of(alloc, value),
         "pay" => pay_of(value),
         "close" => close_of(value),
+        "settle" => release_of(Release::Settle, value),
+        "abandon" => release_of(Release::Abandon, value),
         "exit" => exit_of(value),
         _ => Err(LineError::Invalid(Invalid::Shape)),
     }

@@ -8,11 +8,10 @@ ghost use Rattle.node_lines.specs.Faults.{Gives};
 ghost use Rattle.node_lines.specs.Entries.{call_in, time_in, op_in, op_of, reply_in, reply_of, entry_of, KeepsOp};
 
 use crate::faults::{Invalid, LineError};
-use crate::replies::take_reply;
 use crate::values::{bytes_at, keys, small_at};
-use call_bytes::read_call;
+use call_bytes::{read_call, take_reply};
 use call_history::{Op, Reply};
-use channel_values::{ByteFault, ended, take_u64};
+use channel_values::{ByteFault, ended};
 use serde_json::Value;
 use std::alloc::Global;
 

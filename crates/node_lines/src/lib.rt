@@ -11,11 +11,9 @@ mod errors;
 mod events;
 mod faults;
 mod lists;
-mod numbers;
 mod outcomes;
 mod ready;
 mod refusals;
-mod replies;
 mod values;
 
 pub use answers::{AssetBalance, balance_text, chains_text, plan_text, report_text, share_text};

@@ -1,2 +1,1 @@
-pub mod ReplyFronts
 pub mod Records

@@ -8,7 +8,7 @@ use Rattle.channel_values.proofs.Fronts.{GoesOn, IsSteady, then_on, if_on, byte_
 use Rattle.call_bytes.proofs.Fronts.{call_on}
 use Rattle.run_record.specs.Numbers.{sum_of}
 use Rattle.run_record.specs.Reading.{called_at, time_at, op_at, entry_at, sum_at, pair_at, virtual_at, root_at, on_ledger_at, end_at, middle_at, part_at, known_at, held_chain_at, wide_at, share_at, next_at, few_at, list_at, ending_at, record_at}
-use Rattle.record_reader.proofs.ReplyFronts.{test_on, or_bad_on, reply_on}
+use Rattle.call_bytes.proofs.ReplyFronts.{test_on, or_bad_on, reply_on}
 
 -- ---- lists
 

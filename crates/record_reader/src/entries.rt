@@ -5,8 +5,7 @@ ghost use Rattle.record_reader.specs.Taking.{Takes};
 ghost use Rattle.run_record.specs.Reading as reads;
 
 use crate::numbers::sum_of;
-use crate::replies::{or_bad, take_reply};
-use call_bytes::take_call;
+use call_bytes::{or_bad, take_call, take_reply};
 use call_history::{Entry, Op};
 use channel_values::{ByteFault, Take, place_of, take_byte, take_name, take_u32, take_u64};
 use run_record::Sum;

@@ -6,7 +6,6 @@ mod entries;
 mod numbers;
 mod reading;
 mod record_laws;
-mod replies;
 
 pub use reading::read_record;
 pub use record_laws::fronts_of_records_are_cut;

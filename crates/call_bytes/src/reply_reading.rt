@@ -11,7 +11,7 @@ use channel_values::{
 };
 
 /// What a number stands for, with the bytes after it; its place is the fault where it stands for nothing.
-fn or_bad<T: Copy>(place: usize, found: Option<T>, rest: &[u8]) -> Result<(T, &[u8]), ByteFault>
+pub fn or_bad<T: Copy>(place: usize, found: Option<T>, rest: &[u8]) -> Result<(T, &[u8]), ByteFault>
     ensures { Tells (λ x. (x.0, x.1.now)) result (reads.or_bad place found rest.now) }
 {
     match found {
@@ -20,7 +20,7 @@ fn or_bad<T: Copy>(place: usize, found: Option<T>, rest: &[u8]) -> Result<(T, &[
     }
 }
 
-#[tactic(auto, unfolding(call_bytes::specs::Reading::step_at))]
+#[tactic(auto, unfolding(crate::specs::Reading::step_at))]
 fn take_step(whole: usize, bytes: &[u8]) -> Result<(StepFault, &[u8]), ByteFault>
     ensures { Tells (λ x. (x.0, x.1.now)) result (reads.step_at whole bytes.now) }
 {
@@ -30,7 +30,7 @@ fn take_step(whole: usize, bytes: &[u8]) -> Result<(StepFault, &[u8]), ByteFault
 }
 
 /// A fault of a chain. One that has no place has 0 there.
-#[tactic(auto, unfolding(call_bytes::specs::Reading::support_at))]
+#[tactic(auto, unfolding(crate::specs::Reading::support_at))]
 fn take_support(whole: usize, bytes: &[u8]) -> Result<(SupportFault, &[u8]), ByteFault>
     ensures { Tells (λ x. (x.0, x.1.now)) result (reads.support_at whole bytes.now) }
 {
@@ -48,7 +48,7 @@ fn take_support(whole: usize, bytes: &[u8]) -> Result<(SupportFault, &[u8]), Byt
     or_bad(at_step, support_of(tag, place, step), rest)
 }
 
-#[tactic(auto, unfolding(call_bytes::specs::Reading::unsupported_at))]
+#[tactic(auto, unfolding(crate::specs::Reading::unsupported_at))]
 fn take_unsupported(whole: usize, bytes: &[u8]) -> Result<(Refusal, &[u8]), ByteFault>
     ensures { Tells (λ x. (x.0, x.1.now)) result (reads.unsupported_at whole bytes.now) }
 {
@@ -56,7 +56,7 @@ fn take_unsupported(whole: usize, bytes: &[u8]) -> Result<(Refusal, &[u8]), Byte
     Ok((Refusal::NotSupported(fault), rest))
 }
 
-#[tactic(auto, unfolding(call_bytes::specs::Reading::bad_step_at))]
+#[tactic(auto, unfolding(crate::specs::Reading::bad_step_at))]
 fn take_bad_step(whole: usize, bytes: &[u8]) -> Result<(Refusal, &[u8]), ByteFault>
     ensures { Tells (λ x. (x.0, x.1.now)) result (reads.bad_step_at whole bytes.now) }
 {
@@ -64,7 +64,7 @@ fn take_bad_step(whole: usize, bytes: &[u8]) -> Result<(Refusal, &[u8]), ByteFau
     Ok((Refusal::BadStep(fault), rest))
 }
 
-#[tactic(auto, unfolding(call_bytes::specs::Reading::numbered_at))]
+#[tactic(auto, unfolding(crate::specs::Reading::numbered_at))]
 fn take_numbered(
     whole: usize,
     place: usize,
@@ -77,7 +77,7 @@ fn take_numbered(
     or_bad(place, numbered_of(tag, n), rest)
 }
 
-#[tactic(auto, unfolding(call_bytes::specs::Reading::named_at))]
+#[tactic(auto, unfolding(crate::specs::Reading::named_at))]
 fn take_named(
     whole: usize,
     place: usize,
@@ -112,7 +112,7 @@ fn take_kept(
     }
 }
 
-#[tactic(auto, unfolding(call_bytes::specs::Reading::refusal_at))]
+#[tactic(auto, unfolding(crate::specs::Reading::refusal_at))]
 fn take_refusal(whole: usize, bytes: &[u8]) -> Result<(Refusal, &[u8]), ByteFault>
     ensures { Tells (λ x. (x.0, x.1.now)) result (reads.refusal_at whole bytes.now) }
 {
@@ -121,7 +121,7 @@ fn take_refusal(whole: usize, bytes: &[u8]) -> Result<(Refusal, &[u8]), ByteFaul
     take_kept(whole, place, tag, rest)
 }
 
-#[tactic(auto, unfolding(call_bytes::specs::Reading::refused_at))]
+#[tactic(auto, unfolding(crate::specs::Reading::refused_at))]
 fn take_refused(whole: usize, bytes: &[u8]) -> Result<(Reply, &[u8]), ByteFault>
     ensures { Tells (λ x. (x.0, x.1.now)) result (reads.refused_at whole bytes.now) }
 {
@@ -129,7 +129,7 @@ fn take_refused(whole: usize, bytes: &[u8]) -> Result<(Reply, &[u8]), ByteFault>
     Ok((Reply::No(why), rest))
 }
 
-#[tactic(auto, unfolding(call_bytes::specs::Reading::accepted_at))]
+#[tactic(auto, unfolding(crate::specs::Reading::accepted_at))]
 fn take_accepted(
     whole: usize,
     place: usize,
@@ -153,9 +153,9 @@ fn take_told(whole: usize, place: usize, tag: u8, bytes: &[u8]) -> Result<(Reply
     }
 }
 
-/// A reply, and the bytes after it.
-#[tactic(auto, unfolding(call_bytes::specs::Reading::reply_at))]
-pub(crate) fn take_reply(whole: usize, bytes: &[u8]) -> Result<(Reply, &[u8]), ByteFault>
+/// A reply, and the bytes after it; a fault's place is counted in `whole` bytes, of which `bytes` are the last.
+#[tactic(auto, unfolding(crate::specs::Reading::reply_at))]
+pub fn take_reply(whole: usize, bytes: &[u8]) -> Result<(Reply, &[u8]), ByteFault>
     ensures { Tells (λ x. (x.0, x.1.now)) result (reads.reply_at whole bytes.now) }
 {
     let place = place_of(whole, bytes);
