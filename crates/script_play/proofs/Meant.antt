@@ -147,6 +147,8 @@ meant_grows n (steps.OpenOn k) fit = search (rules, after, tells)
 meant_grows n (steps.OpenVirtual k) fit = search (rules, after, tells)
 meant_grows n (steps.Pay k) fit = search (rules, after, tells)
 meant_grows n (steps.Close who channel) fit = search (rules, after, tells)
+meant_grows n (steps.Release how who channel) fit = search (rules, after, tells)
+meant_grows n (steps.Resend who channel) fit = search (rules, after, tells)
 meant_grows n (steps.Exit who) fit = tells n _ _
 meant_grows n (steps.Rounds count) fit = plays n count
 

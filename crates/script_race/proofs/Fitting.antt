@@ -58,6 +58,8 @@ meant_fits n (steps.OpenOn k) fit may = search (rules, after)
 meant_fits n (steps.OpenVirtual k) fit may = search (rules, after)
 meant_fits n (steps.Pay k) fit may = search (rules, after)
 meant_fits n (steps.Close who channel) fit may = search (rules, after)
+meant_fits n (steps.Release how who channel) fit may = search (rules, after)
+meant_fits n (steps.Resend who channel) fit may = search (rules, after)
 meant_fits n (steps.Exit who) fit may = tt
 meant_fits n (steps.Rounds count) fit may = tt
 

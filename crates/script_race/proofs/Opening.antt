@@ -156,6 +156,8 @@ module _ (n : Names) (last : AllLast n.channels) where
       (last, λ g i. four by.0 by.1 j f g two.0 two.1 (named_lasts k.joint j c) (named_lasts k.channel f d) i)))))
   step_good (steps.Pay k) fits race = bind_good (fixed_by n.channels k.channel) _ (λ f e. (last, λ g i. absurd i))
   step_good (steps.Close who channel) fits race = bind_good (fixed_by n.channels channel) _ (λ f e. (last, λ g i. absurd i))
+  step_good (steps.Release how who channel) fits race = bind_good (fixed_by n.channels channel) _ (λ f e. (last, λ g i. absurd i))
+  step_good (steps.Resend who channel) fits race = bind_good (fixed_by n.channels channel) _ (λ f e. (last, λ g i. absurd i))
   step_good (steps.Exit who) fits race = (last, λ g i. absurd i)
   step_good (steps.Rounds count) fits race = stays
 

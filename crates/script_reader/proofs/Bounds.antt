@@ -62,6 +62,8 @@ step_fits c (steps.OpenVirtual k) e =
     ltb-true k.asset (2 ^ 32) ((both (length k.ledgers == 2 && length k.guarantors == 2) (nat_lt k.asset (2 ^ 32)) e).1)
 step_fits c (steps.Pay k) e = ltb-true k.asset (2 ^ 32) e
 step_fits c (steps.Close who channel) e = tt
+step_fits c (steps.Release how who channel) e = tt
+step_fits c (steps.Resend who channel) e = tt
 step_fits c (steps.Exit who) e = tt
 step_fits c (steps.Rounds count) e = tt
 
@@ -97,6 +99,8 @@ same_race c (steps.OpenOn k) = refl
 same_race c (steps.OpenVirtual k) = refl
 same_race c (steps.Pay k) = refl
 same_race c (steps.Close who channel) = refl
+same_race c (steps.Release how who channel) = refl
+same_race c (steps.Resend who channel) = refl
 same_race c (steps.Exit who) = refl
 same_race c (steps.Rounds count) = refl
 
@@ -129,6 +133,8 @@ more_people c (steps.OpenOn k) = omega arith
 more_people c (steps.OpenVirtual k) = omega arith
 more_people c (steps.Pay k) = omega arith
 more_people c (steps.Close who channel) = omega arith
+more_people c (steps.Release how who channel) = omega arith
+more_people c (steps.Resend who channel) = omega arith
 more_people c (steps.Exit who) = omega arith
 more_people c (steps.Rounds count) = omega arith
 
@@ -155,6 +161,8 @@ room_for_people c (steps.OpenOn k) e l = l
 room_for_people c (steps.OpenVirtual k) e l = l
 room_for_people c (steps.Pay k) e l = l
 room_for_people c (steps.Close who channel) e l = l
+room_for_people c (steps.Release how who channel) e l = l
+room_for_people c (steps.Resend who channel) e l = l
 room_for_people c (steps.Exit who) e l = l
 room_for_people c (steps.Rounds count) e l = l
 
@@ -190,6 +198,8 @@ more_rounds c (steps.OpenOn k) = omega arith
 more_rounds c (steps.OpenVirtual k) = omega arith
 more_rounds c (steps.Pay k) = omega arith
 more_rounds c (steps.Close who channel) = omega arith
+more_rounds c (steps.Release how who channel) = omega arith
+more_rounds c (steps.Resend who channel) = omega arith
 more_rounds c (steps.Exit who) = omega arith
 more_rounds c (steps.Rounds count) = refl
 
@@ -214,6 +224,8 @@ room_for_rounds c (steps.OpenOn k) e l = l
 room_for_rounds c (steps.OpenVirtual k) e l = l
 room_for_rounds c (steps.Pay k) e l = l
 room_for_rounds c (steps.Close who channel) e l = l
+room_for_rounds c (steps.Release how who channel) e l = l
+room_for_rounds c (steps.Resend who channel) e l = l
 room_for_rounds c (steps.Exit who) e l = l
 room_for_rounds c (steps.Rounds count) e l = leb-true (c.rounds + count) 4096 ((both (within count 1 64) (nat_le (c.rounds + count) 4096) e).1)
 

@@ -97,6 +97,8 @@ distinct_none c (steps.OpenOn k) x e = refl
 distinct_none c (steps.OpenVirtual k) x e = refl
 distinct_none c (steps.Pay k) x e = refl
 distinct_none c (steps.Close who channel) x e = refl
+distinct_none c (steps.Release how who channel) x e = refl
+distinct_none c (steps.Resend who channel) x e = refl
 distinct_none c (steps.Exit who) x e = refl
 distinct_none c (steps.Rounds count) x e = refl
 

@@ -6,10 +6,13 @@ use Rattle.serde_json.specs.Data.{Data}
 use Rattle.script_steps.specs.Rules.{◌>>=◌}
 use Rattle.script_reader.specs.Kinds.{keys, number_at, flag_at, name_at, place_at, names_at, numbers_at, seed_at, app_at}
 use Rattle.script_reader.specs.Written.{outcome_at}
+use Rattle.network.specs.declared.command.Release.{Release}
+use Rattle.network.specs.declared.command.Release.TheVariants as releases
 use Rattle.script_steps.specs.declared.step.Rule.{Rule}
 use Rattle.script_steps.specs.declared.step.Rule.TheVariants as rules
 use Rattle.script_steps.specs.declared.step.Step.{Step}
-use Rattle.script_steps.specs.declared.step.Step.TheVariants.{Deposit, Time, Person, Channel, Catch, Send, Drop, Challenge, Respond, Refute, Checkpoint, Conclude, Transfer, Claim, Pay, Close, Exit, Rounds}
+use Rattle.script_steps.specs.declared.step.Step.TheVariants as steps
+use Rattle.script_steps.specs.declared.step.Step.TheVariants.{Deposit, Time, Person, Channel, Catch, Send, Drop, Challenge, Respond, Refute, Checkpoint, Conclude, Transfer, Claim, Pay, Close, Resend, Exit, Rounds}
 use Rattle.script_reader.specs.declared.written.Written.{Written}
 use Rattle.script_reader.specs.declared.written.Written.TheVariants as written
 
@@ -19,8 +22,8 @@ words =
     codes "deposit" ∷ codes "time" ∷ codes "person" ∷ codes "channel" ∷ codes "sign" ∷ codes "catch"
     ∷ codes "send" ∷ codes "drop" ∷ codes "challenge" ∷ codes "respond" ∷ codes "refute"
     ∷ codes "checkpoint" ∷ codes "conclude" ∷ codes "transfer" ∷ codes "claim" ∷ codes "open"
-    ∷ codes "open_on" ∷ codes "open_virtual" ∷ codes "pay" ∷ codes "close" ∷ codes "exit"
-    ∷ codes "rounds" ∷ []
+    ∷ codes "open_on" ∷ codes "open_virtual" ∷ codes "pay" ∷ codes "close" ∷ codes "settle"
+    ∷ codes "abandon" ∷ codes "resend" ∷ codes "exit" ∷ codes "rounds" ∷ []
 
 abbrev pub is_word : List ℕ → Bool
 is_word word = list_any (bytes_eq word) words
@@ -168,6 +171,20 @@ close_of d = do
   channel ← name_at (codes "channel") d
   Ok (Close who channel)
 
+abbrev pub release_of : Release → Data → Result Step Rule
+release_of how d = do
+  no_more ← keys 3 d
+  who ← names_at (codes "who") d
+  channel ← name_at (codes "channel") d
+  Ok (steps.Release how who channel)
+
+abbrev pub resend_of : Data → Result Step Rule
+resend_of d = do
+  no_more ← keys 3 d
+  who ← names_at (codes "who") d
+  channel ← name_at (codes "channel") d
+  Ok (Resend who channel)
+
 abbrev pub exit_of : Data → Result Step Rule
 exit_of d = do
   no_more ← keys 2 d
@@ -229,9 +246,12 @@ plain_by word d =
     if bytes_eq word (codes "claim") then claim_of d else (
     if bytes_eq word (codes "pay") then pay_of d else (
     if bytes_eq word (codes "close") then close_of d else (
+    if bytes_eq word (codes "settle") then release_of releases.Settle d else (
+    if bytes_eq word (codes "abandon") then release_of releases.Abandon d else (
+    if bytes_eq word (codes "resend") then resend_of d else (
     if bytes_eq word (codes "exit") then exit_of d else (
     if bytes_eq word (codes "rounds") then rounds_of d else (
-    Err rules.Shape))))))))))))))))))
+    Err rules.Shape)))))))))))))))))))))
 
 abbrev pub plain_written : List ℕ → Data → Result Written Rule
 plain_written word d = plain_by word d >>= λ s. Ok (written.Plain s)

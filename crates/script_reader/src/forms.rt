@@ -16,6 +16,8 @@ mod open_virtual;
 mod pay;
 mod person;
 mod refute;
+mod release;
+mod resend;
 mod respond;
 mod rounds;
 mod send;
@@ -31,12 +33,13 @@ ghost use Rattle.script_steps.specs.Rules.{Gives};
 ghost use Rattle.script_reader.specs.Forms.{is_word, plain_by, is_indirect, indirect_by, plain_written, written_by};
 
 use crate::written::Written;
+use network::Release;
 use script_steps::{Rule, Step, StepFault};
 use serde_json::Value;
 use std::alloc::Global;
 
 /// The words of all forms.
-const WORDS: [&str; 22] = [
+const WORDS: [&str; 25] = [
     "deposit",
     "time",
     "person",
@@ -57,6 +60,9 @@ const WORDS: [&str; 22] = [
     "open_virtual",
     "pay",
     "close",
+    "settle",
+    "abandon",
+    "resend",
     "exit",
     "rounds",
 ];
@@ -95,6 +101,9 @@ fn plain_by(alloc: Global, word: &str, step: &Value) -> Result<Step, StepFault>
         "claim" => claim::claim_of(alloc, step),
         "pay" => pay::pay_of(alloc, step),
         "close" => close::close_of(alloc, step),
+        "settle" => release::release_of(alloc, Release::Settle, step),
+        "abandon" => release::release_of(alloc, Release::Abandon, step),
+        "resend" => resend::resend_of(alloc, step),
         "exit" => exit::exit_of(alloc, step),
         "rounds" => rounds::rounds_of(step),
         _ => Err(StepFault::Broken(Rule::Shape)),

@@ -20,7 +20,7 @@ use std::alloc::{AllocFailed, Global};
 use std::error::Error;
 use std::fmt;
 
-/// Why a script is refused: want of memory, or the rule that is broken first and its step.
+/// Why a script is refused: out of memory, or the rule that is broken first and its step.
 /// Steps count from 1; step 0 is the whole script.
 #[derive(Clone, Copy, Debug, PartialEq, Eq)]
 pub enum ScriptFault {

@@ -51,6 +51,8 @@ uses_of_nodes (steps.OpenOn k) = open_on_uses k.who k.ledger k.channel
 uses_of_nodes (steps.OpenVirtual k) = open_virtual_uses k.who k.ledgers k.guarantors k.joint k.channel
 uses_of_nodes (steps.Pay k) = one_name kinds.Node k.who ∷ one_name kinds.Channel k.channel ∷ []
 uses_of_nodes (steps.Close who channel) = open_uses who channel
+uses_of_nodes (steps.Release how who channel) = open_uses who channel
+uses_of_nodes (steps.Resend who channel) = open_uses who channel
 uses_of_nodes (steps.Exit who) = (kinds.Node, who) ∷ []
 uses_of_nodes s = []
 

@@ -81,7 +81,9 @@ impl Context {
             }
             Step::Drop { to } => self.knows(Kind::Node, to),
             Step::Open(keys) => self.knows_open(keys.who.as_slice(), &keys.channel),
-            Step::Close { who, channel } => self.knows_open(who.as_slice(), channel),
+            Step::Close { who, channel }
+            | Step::Release { who, channel, .. }
+            | Step::Resend { who, channel } => self.knows_open(who.as_slice(), channel),
             Step::OpenOn(keys) => {
                 self.knows_open_on(keys.who.as_slice(), &keys.ledger, &keys.channel)
             }

@@ -5,7 +5,7 @@ ghost use Rattle.script_steps.specs.Messages.{rule_words};
 ghost use Rattle.script_steps.specs.declared.step.StepFault.TheVariants.{NoMemory as NoMemoryLeft};
 
 use channel_values::{Label, Listed, NoMemory, Outcome};
-use network::Route;
+use network::{Release, Route};
 use std::alloc::{AllocError, AllocFailed};
 use std::error::Error;
 use std::fmt;
@@ -217,6 +217,16 @@ pub enum Step {
     OpenVirtual(OpenVirtualStep),
     Pay(PayStep),
     Close {
+        who: Listed<Label>,
+        channel: Label,
+    },
+    /// `how` is the word of the form, `settle` or `abandon`.
+    Release {
+        how: Release,
+        who: Listed<Label>,
+        channel: Label,
+    },
+    Resend {
         who: Listed<Label>,
         channel: Label,
     },

@@ -10,6 +10,8 @@ mod payouts;
 #[cfg(test)]
 mod races;
 #[cfg(test)]
+mod releases;
+#[cfg(test)]
 mod scripts;
 #[cfg(test)]
 mod sources;

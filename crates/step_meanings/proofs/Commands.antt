@@ -167,6 +167,8 @@ IsQuiet (steps.OpenOn k) = ⊥
 IsQuiet (steps.OpenVirtual k) = ⊥
 IsQuiet (steps.Pay k) = ⊥
 IsQuiet (steps.Close who channel) = ⊥
+IsQuiet (steps.Release how who channel) = ⊥
+IsQuiet (steps.Resend who channel) = ⊥
 IsQuiet (steps.Exit who) = ⊥
 IsQuiet step = Unit {0}
 
@@ -207,6 +209,8 @@ stays n (steps.OpenOn k) is = absurd is
 stays n (steps.OpenVirtual k) is = absurd is
 stays n (steps.Pay k) is = absurd is
 stays n (steps.Close who channel) is = absurd is
+stays n (steps.Release how who channel) is = absurd is
+stays n (steps.Resend who channel) is = absurd is
 stays n (steps.Exit who) is = absurd is
 
 joins-none : (node : Bool) (number : ℕ) (signer : Signing) (watchers : ℕ) → command_in (joins_if node number signer watchers) ≡ None
@@ -257,6 +261,12 @@ module _ (n m : Names) (same : AreAlike n m) where
   meaning_alike (steps.Close who channel) =
       whole-both n m _ _ same
       (after-both (fixed_by n.channels channel) (fixed_by m.channels channel) _ _ (fixed-alike channel) (λ f. tells n m who who (commands.Close (name_of f)) same))
+  meaning_alike (steps.Release how who channel) =
+      whole-both n m _ _ same
+      (after-both (fixed_by n.channels channel) (fixed_by m.channels channel) _ _ (fixed-alike channel) (λ f. tells n m who who (commands.Release how (name_of f)) same))
+  meaning_alike (steps.Resend who channel) =
+      whole-both n m _ _ same
+      (after-both (fixed_by n.channels channel) (fixed_by m.channels channel) _ _ (fixed-alike channel) (λ f. tells n m who who (commands.Resend (name_of f)) same))
   meaning_alike (steps.Exit who) = tells n m who who commands.Exit same
   meaning_alike (steps.Deposit k) = quietly (steps.Deposit k) tt
   meaning_alike (steps.Time to) = quietly (steps.Time to) tt

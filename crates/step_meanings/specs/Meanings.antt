@@ -218,6 +218,12 @@ meant n (steps.Pay k) = do
 meant n (steps.Close who channel) = do
   f ← fixed_by n.channels channel
   Some (telling n who (commands.Close (name_of f)))
+meant n (steps.Release how who channel) = do
+  f ← fixed_by n.channels channel
+  Some (telling n who (commands.Release how (name_of f)))
+meant n (steps.Resend who channel) = do
+  f ← fixed_by n.channels channel
+  Some (telling n who (commands.Resend (name_of f)))
 meant n (steps.Exit who) = Some (telling n who commands.Exit)
 meant n (steps.Rounds count) = Some (doing n (Rounds count))
 

@@ -42,6 +42,10 @@ pub fn meet(known: &mut Names, step: &Step, signer: Option<Signer>) -> Result<Ef
         Step::OpenVirtual(keys) => telling::open_virtual(known, keys),
         Step::Pay(keys) => telling::pay(known, keys),
         Step::Close { who, channel } => telling::close(known, who.as_slice(), channel),
+        Step::Release { how, who, channel } => {
+            telling::release(known, *how, who.as_slice(), channel)
+        }
+        Step::Resend { who, channel } => telling::resend(known, who.as_slice(), channel),
         Step::Exit { who } => telling::exit(known, who.as_slice()),
         Step::Rounds { count } => Ok(Effect::Rounds(*count)),
     }

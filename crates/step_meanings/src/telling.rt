@@ -10,7 +10,7 @@ use crate::effect::Effect;
 use crate::names::Names;
 use call_bytes::write_message;
 use channel_values::{Fixed, Label, Listed, Name, NoMemory};
-use network::{Command, LedgerFunding, VirtualFunding};
+use network::{Command, LedgerFunding, Release, VirtualFunding};
 use script_steps::{CatchStep, OpenOnStep, OpenStep, OpenVirtualStep, PayStep};
 use std::slice;
 
@@ -194,6 +194,29 @@ pub(crate) fn close(known: &Names, who: &[Label], channel: &Label) -> Result<Eff
         return Ok(Effect::Nothing);
     };
     tell(known, who, Command::Close { channel })
+}
+
+pub(crate) fn release(
+    known: &Names,
+    how: Release,
+    who: &[Label],
+    channel: &Label,
+) -> Result<Effect, NoMemory>
+    ensures { IfOk result (λ e. doing known.now e ≡ meaning known.now (steps.Release how who.now channel.now)) }
+{
+    let Some(channel) = known.name_by(channel) else {
+        return Ok(Effect::Nothing);
+    };
+    tell(known, who, Command::Release { how, channel })
+}
+
+pub(crate) fn resend(known: &Names, who: &[Label], channel: &Label) -> Result<Effect, NoMemory>
+    ensures { IfOk result (λ e. doing known.now e ≡ meaning known.now (steps.Resend who.now channel.now)) }
+{
+    let Some(channel) = known.name_by(channel) else {
+        return Ok(Effect::Nothing);
+    };
+    tell(known, who, Command::Resend { channel })
 }
 
 pub(crate) fn exit(known: &Names, who: &[Label]) -> Result<Effect, NoMemory>
