@@ -8,6 +8,8 @@ use Rattle.sha2.proofs.Facts256.{length-sha256}
 use Rattle.sha2.specs.Sha256.{sha256}
 use Rattle.lms_signatures.specs.Made.{made_key}
 use Rattle.lms_signatures.specs.Signing.{IsHeight}
+use Rattle.channel_node.specs.Places.{lines_of}
+use Rattle.network.proofs.Real.{network-safe}
 use Rattle.network.specs.Standing.{AreKept}
 use Rattle.network_node.specs.Holds.{nodes_hold}
 use Rattle.network_node.specs.Ruled.{nodes_play}
@@ -133,6 +135,9 @@ module _ {Other : List Entry → Numbered → Type 0} (kept : AreKept ways Other
             (by-rules key m is);
         challenges = owns m.ledger m.node is.node.stands.1 is.node.able;
         again = resent-signed m.node;
+        safe = λ valid unforged none in_time.
+            network-safe m.ledger (lines_of (ways.key m.node) (told m.node)) valid (ways.key m.node) is.node.legal
+            (nodes_are_kept.honest m.ledger m.node is.node.legal is.valid is.node.stands.0) unforged none in_time;
         keeps = nodes_hold m.ledger m.node is.node.legal is.node.stands.0;
       }
 

@@ -15,7 +15,7 @@ use Rattle.channel_node.specs.Refusing.{command_refusal}
 use Rattle.channel_node.specs.Standing.{Stands}
 use Rattle.channel_node.specs.Tables.{Tables}
 use Rattle.network.specs.declared.command.Command.{Command}
-use Rattle.network.specs.declared.command.Command.TheVariants.{Open, OpenOn, OpenVirtual, Pay, Close, Exit}
+use Rattle.network.specs.declared.command.Command.TheVariants.{Open, OpenOn, OpenVirtual, Pay, Close, Release, Resend, Exit}
 use Rattle.node_guarantees.proofs.Staying.{Stays, handled-stays, tick-stays, told-stays}
 use Rattle.node_guarantees.specs.Ways.{Numbered, seen_of, noting_if, ways}
 use Rattle.support_rules.specs.Real.{real}
@@ -57,6 +57,8 @@ module _ {t : Tables} (h : List Entry) (p : Numbered) (stands : AreFew h → Sta
   told-leaves step (Pay channel asset amount) =
       from-stays p.node _ (told-stays t real (signing_of p.node.signer) step (Pay channel asset amount) p.node refl)
   told-leaves step (Close channel) = from-stays p.node _ (told-stays t real (signing_of p.node.signer) step (Close channel) p.node refl)
+  told-leaves step (Release how channel) = from-stays p.node _ (told-stays t real (signing_of p.node.signer) step (Release how channel) p.node refl)
+  told-leaves step (Resend channel) = from-stays p.node _ (told-stays t real (signing_of p.node.signer) step (Resend channel) p.node refl)
   told-leaves step Exit =
       record {
         signer = refl;

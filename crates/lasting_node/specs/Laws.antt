@@ -1,6 +1,7 @@
 -- What stays true of a node, whatever comes to it, over any number of crashes and restarts of one state file.
 use Rattle.std.specs.Prelude.{◌≡◌, ◌+◌, ℕ, false, List, [], ◌∷◌, ◌++◌, length, flat_map, Some, Result, Ok, Err}
 use Rattle.std.specs.List.{AllByRecursion}
+use Rattle.channel_values.specs.Collisions.{NoneCollide}
 use Rattle.channel_values.specs.Messages.{message_of_challenge}
 use Rattle.channel_values.specs.Parts.{StateParts}
 use Rattle.channel_values.specs.Rules.{newest}
@@ -9,7 +10,11 @@ use Rattle.call_history.specs.declared.call.Call.{Call}
 use Rattle.call_history.specs.declared.call.Call.TheVariants.{Challenge}
 use Rattle.call_history.specs.declared.call.ChallengeCall.{ChallengeCall}
 use Rattle.call_history.specs.declared.entry.Entry.{Entry}
+use Rattle.channel_node.specs.Places.{Told, lines_of}
+use Rattle.channel_safety.specs.Hashed.{hashed}
 use Rattle.channel_safety.specs.Journals.{In}
+use Rattle.channel_safety.specs.Occurring.{AreValid}
+use Rattle.channel_safety.specs.Premises.{Unforged, InTime}
 use Rattle.channel_safety.specs.Valid.{IsValidEntry}
 use Rattle.lms_signatures.specs.Made.{made_key}
 use Rattle.lms_signatures.specs.Signing.{Signing}
@@ -21,7 +26,7 @@ use Rattle.node_guarantees.specs.Challenges.{CallsOwnChallenges}
 use Rattle.node_guarantees.specs.Commanded.{told}
 use Rattle.node_guarantees.specs.Once.{Signature, signed_by, SignsOnce}
 use Rattle.node_guarantees.specs.Placed.{IsPlaced}
-use Rattle.node_guarantees.specs.Promised.{IsHonest}
+use Rattle.node_guarantees.specs.Promised.{IsHonest, StaysSafe}
 use Rattle.node_guarantees.specs.Sends.{IsSigned, AreSigned}
 use Rattle.node_guarantees.specs.Telling.{KeepsIf}
 use Rattle.node_guarantees.specs.Ways.{Numbered, ways}
@@ -62,13 +67,21 @@ pub record IsStanding (key : List ℕ) (m : NodeMachine) : Type 0 where
 abbrev pub made_by : Numbered → List Signature
 made_by p = signed_by real (told p)
 
+-- It is safe where nothing is forged, no hashed strings collide, and its watchers are in time.
+abbrev pub IsSafeIf : List Entry → List ℕ → List Told → Type 0
+IsSafeIf h key events =
+    AreValid h (lines_of key events) → Unforged real key h (lines_of key events)
+    → NoneCollide (hashed h (lines_of key events)) → InTime real h (lines_of key events) → StaysSafe h key events
+
 -- The node's journal is honest and by the rules, and no index of the key signs twice in it. It called no challenge but one
--- that it signed right before, as itself, and what it sends again it has signed. Where its premises hold, its person keeps
--- its share, is paid on its exit, signs fairly and ends well.
+-- that it signed right before, as itself, and what it sends again it has signed. Where its premises hold, no channel of its
+-- person becomes final with an outcome older than its newest supported state, and the person keeps its share, is paid on its
+-- exit, signs fairly and ends well.
 pub record Keeps (m : NodeMachine) : Type 0 where
   pub honest : IsHonest m.ledger (ways.key m.node) (told m.node)
   pub challenges : CallsOwnChallenges (ways.key m.node) (told m.node)
   pub again : AreSigned (made_by m.node) (resent m.node)
+  pub safe : IsSafeIf m.ledger (ways.key m.node) (told m.node)
   pub keeps : KeepsIf m.ledger (ways.key m.node) (told m.node)
 
 -- after the lines of these records

@@ -3,8 +3,7 @@ use Rattle.std.specs.Prelude.{ℕ, ◌+◌, ◌*◌, ◌^◌, Bool, true, nat_le
 use Rattle.channel_node.specs.Openings.{opened_by}
 use Rattle.funding_plans.specs.Parts.{channels}
 use Rattle.network.specs.declared.command.Command.{Command}
-use Rattle.network.specs.declared.command.Command.TheVariants.{Open, OpenOn, OpenVirtual, Pay, Exit}
-use Rattle.network_node.specs.Counts.{times_signed}
+use Rattle.network.specs.declared.command.Command.TheVariants.{Open, OpenOn, OpenVirtual, Pay, Release, Resend, Exit}
 use Rattle.node_guarantees.specs.Ways.{Numbered}
 
 -- the ledgers that a command names
@@ -23,7 +22,9 @@ signs_for command = 2 * length (opened_by command) + 2 * ledger_count command
 abbrev pub needed : Numbered → Command → ℕ
 needed p command = 3 * (length (channels p.node.mind.parts) + length (opened_by command)) + signs_for command
 
--- The key has as many indices left; to exit it needs none.
+-- The key has as many indices left. Commands that sign nothing, and an exit, need none.
 abbrev pub has_reserve : Numbered → Command → Bool
 has_reserve p Exit = true
-has_reserve p command = nat_le (times_signed p.node.journal + needed p command) (2 ^ p.node.signer.h)
+has_reserve p (Release how channel) = true
+has_reserve p (Resend channel) = true
+has_reserve p command = nat_le (p.node.used + needed p command) (2 ^ p.node.signer.h)

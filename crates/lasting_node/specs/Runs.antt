@@ -3,7 +3,6 @@ use Rattle.std.specs.Prelude.{◌≡◌, ℕ, ◌^◌, ◌-◌, List, [], ◌++�
 use Rattle.sha2.specs.Sha256.{sha256}
 use Rattle.channel_values.specs.Digests.{name_of_person}
 use Rattle.lms_signatures.specs.Signing.{Signing}
-use Rattle.network_node.specs.Counts.{times_signed}
 use Rattle.node_guarantees.specs.Ways.{ways}
 use Rattle.lasting_lines.specs.Files.{Op}
 use Rattle.lasting_lines.specs.Lines.{recovered}
@@ -35,7 +34,7 @@ ready_of p =
       key = ways.key p.machine.node;
       name = name_of_person (ways.key p.machine.node);
       seen = ways.seen p.machine.node;
-      used = times_signed p.machine.node.node.journal;
+      used = p.machine.node.node.used;
       limit = 2 ^ p.machine.node.node.signer.h;
       waits = length p.machine.waiting;
     }

@@ -3,7 +3,6 @@
 ghost use Rattle.std.specs.Prelude.{◌≡◌, ◌≤◌, ◌<◌, ◌*◌, ◌+◌, ◌^◌, nat_le, length};
 ghost use Rattle.channel_node.specs.Openings.{opened_by};
 ghost use Rattle.funding_plans.specs.Parts.{channels, channels_of};
-ghost use Rattle.network_node.specs.Counts.{times_signed};
 ghost use Rattle.lasting_node.specs.Reserves.{ledger_count, signs_for, needed, has_reserve};
 
 use funding_plans::Part;
@@ -18,7 +17,11 @@ fn opened_count(command: &Command) -> u128
     match command {
         Command::Open { .. } | Command::OpenOn(_) => 1,
         Command::OpenVirtual(_) => 4,
-        Command::Pay { .. } | Command::Close { .. } | Command::Exit => 0,
+        Command::Pay { .. }
+        | Command::Close { .. }
+        | Command::Release { .. }
+        | Command::Resend { .. }
+        | Command::Exit => 0,
     }
 }
 
@@ -75,7 +78,7 @@ fn needed(node: &Node, command: &Command) -> u128
 
 fn leaves_enough(node: &Node, command: &Command) -> bool
     ensures { result
-        ≡ nat_le (times_signed node.now.node.journal + needed node.now command.now) (2 ^ node.now.node.signer.h) }
+        ≡ nat_le (node.now.node.used + needed node.now command.now) (2 ^ node.now.node.signer.h) }
 {
     node.used() as u128 + needed(node, command) <= node.limit() as u128
 }
@@ -85,7 +88,7 @@ pub(crate) fn has_reserve(node: &Node, command: &Command) -> bool
     ensures { result ≡ has_reserve node.now command.now }
 {
     match command {
-        Command::Exit => true,
+        Command::Exit | Command::Release { .. } | Command::Resend { .. } => true,
         _ => leaves_enough(node, command),
     }
 }

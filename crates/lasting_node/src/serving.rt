@@ -15,7 +15,7 @@ use network::Party;
 use node_lines::{Ready, ready_text};
 use std::alloc::Global;
 
-// A number in 32 bits; there are never more indices or calls.
+// A number in 32 bits; there are never more calls.
 fn counted(number: usize) -> Result<u32, Fault>
     ensures { IfOk result (λ n. n ≡ number) }
 {
@@ -30,7 +30,6 @@ fn ready_of(played: &Played<NodeMachine>) -> Result<Ready, Fault>
 {
     let node = &played.machine.node;
     let key = node.key();
-    let used = counted(node.used())?;
     let waits = counted(played.machine.waiting.as_slice().len())?;
     Ok(Ready {
         count: played.count,
@@ -38,7 +37,7 @@ fn ready_of(played: &Played<NodeMachine>) -> Result<Ready, Fault>
         key: *key,
         name: person_name(key),
         seen: node.seen(),
-        used,
+        used: node.used(),
         limit: node.limit(),
         waits,
     })

@@ -2,7 +2,7 @@
 
 use call_history::{Refusal, Reply};
 use channel_values::{Fixed, StepFault, SupportFault};
-use network::{Command, LedgerFunding, Route, VirtualFunding};
+use network::{Command, LedgerFunding, Release, Route, VirtualFunding};
 use node_lines::{
     CallNumber, Invalid, LedgerEntry, Line, LineError, NodeEvent, Query, Start, read_line,
     read_start,
@@ -24,6 +24,8 @@ enum Said {
     OpenVirtual(Route, [u64; 4], u32, (u64, u64)),
     Pay(u8, u32, u64),
     Close(u8),
+    Release(Release, u8),
+    Resend(u8),
     Exit,
     Query(Query),
 }
@@ -58,6 +60,8 @@ fn commanded(command: &Command) -> Said {
             amount,
         } => Said::Pay(channel[0], *asset, *amount),
         Command::Close { channel } => Said::Close(channel[0]),
+        Command::Release { how, channel } => Said::Release(*how, channel[0]),
+        Command::Resend { channel } => Said::Resend(channel[0]),
         Command::Exit => Said::Exit,
     }
 }
@@ -122,7 +126,7 @@ fn spelled(alloc: Global, row: &str) -> Result<String, AllocError> {
 }
 
 /// Each form, and what it says.
-const FORMS: [(&str, Said); 22] = [
+const FORMS: [(&str, Said); 24] = [
     (
         r#"{"do":"entry","number":7,"by":3,"op":"02000000000000000a","reply":"06000000000000000a"}"#,
         Said::Entry(7, 3, Reply::Now(10)),
@@ -172,6 +176,14 @@ const FORMS: [(&str, Said); 22] = [
         Said::Pay(0xee, 2, 9),
     ),
     (r#"{"do":"close","channel":"N"}"#, Said::Close(0xee)),
+    (
+        r#"{"do":"settle","channel":"N"}"#,
+        Said::Release(Release::Settle, 0xee),
+    ),
+    (
+        r#"{"channel":"N","do":"abandon"}"#,
+        Said::Release(Release::Abandon, 0xee),
+    ),
     (r#"{"do":"exit"}"#, Said::Exit),
     (
         r#"{"do":"share","asset":4294967295}"#,
@@ -196,7 +208,7 @@ const NO_JSON: [&str; 4] = [
 ];
 
 /// Lines whose fault is `shape`.
-const NO_FORM: [&str; 33] = [
+const NO_FORM: [&str; 37] = [
     r#"1"#,
     r#"[]"#,
     r#"{}"#,
@@ -205,6 +217,10 @@ const NO_FORM: [&str; 33] = [
     r#"{"do":"start","seed":"N","h":10}"#,
     r#"{"do":"tick","at":1}"#,
     r#"{"do":"exit","who":"N"}"#,
+    r#"{"do":"settle"}"#,
+    r#"{"do":"settle","channel":"N","who":"N"}"#,
+    r#"{"do":"abandon","channel":1}"#,
+    r#"{"do":"resend","channel":"N"}"#,
     r#"{"do":"entry","number":"1","by":3,"op":"02000000000000000a","reply":"06000000000000000a"}"#,
     r#"{"do":"message","bytes":[]}"#,
     r#"{"do":"dropped","event":3}"#,

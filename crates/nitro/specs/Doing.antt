@@ -153,15 +153,15 @@ IsDone tasks.Lint g k done = IsLint g k done
 abbrev pub keeping : List ℕ → Sunk
 keeping text = record { before = Some []; after = Some text; faults_before = 0; faults_after = 0 }
 
--- what the task's call put into memory, and how it ended, with all that the call promises
+-- what the task's call wrote into memory, and how it ended, with all that the call promises
 abbrev pub IsKept : Task → Given → List ℕ → Done → Type 0
 IsKept task g text done = IsDone task g (keeping text) done
 
--- The JSON of the call's text was put whole.
+-- The JSON of the call's text was written whole.
 abbrev pub IsWritten : Task → Given → Sunk → Done → Type 0
 IsWritten task g k done = (text : List ℕ) × IsKept task g text done × Appends k.before k.after (json_of text)
 
--- The sink failed, and a part of that JSON was put.
+-- The sink failed, and a part of that JSON was written.
 abbrev pub IsCut : Task → Given → Sunk → Type 0
 IsCut task g k =
     Rose k.faults_before k.faults_after

@@ -22,7 +22,7 @@ fn keys_of(word: &str) -> Option<&'static str> {
         "open_on" => Some("who ledger channel asset amounts"),
         "open_virtual" => Some("who ledgers guarantors joint channel asset amounts"),
         "pay" => Some("who channel asset amount"),
-        "close" => Some("who channel"),
+        "close" | "settle" | "abandon" | "resend" => Some("who channel"),
         "exit" => Some("who"),
         "rounds" => Some("count"),
         "catch" => Some("name from channel turn"),

@@ -30,7 +30,7 @@ pub enum Done {
     Checked(record_checker::Status),
     Drawn(picture::Status),
     Linted(script_lint::Status),
-    /// The output failed while JSON was put.
+    /// The output failed while JSON was written.
     Unwritten,
 }
 
@@ -64,8 +64,9 @@ impl Done {
     }
 }
 
-/// Does a task: hands the words, the source and the sink to the call that does it, whose contract has all that is promised.
-/// A picture takes labels too. In a race three act beside the nodes: one plays old challenges again, one answers a challenge in two ways, and one rests.
+/// Does a task: hands the arguments, the source and the sink to the call that does it, whose contract has all that is
+/// promised. A picture takes labels too. In a race three act beside the nodes: one plays old challenges again, one
+/// answers a challenge in two ways, and one rests.
 pub(crate) fn perform<R: Threads + Wait + Sync, S: Source, K: Sink>(
     rt: &R,
     alloc: Global,
@@ -102,7 +103,7 @@ pub(crate) fn perform<R: Threads + Wait + Sync, S: Source, K: Sink>(
     }
 }
 
-/// Does a task, and puts the lines of its text as JSON: the text is kept in memory until the task is done.
+/// Does a task, and writes the lines of its text as JSON: the text is kept in memory until the task is done.
 fn perform_as_json<R: Threads + Wait + Sync, S: Source, K: Sink>(
     rt: &R,
     alloc: Global,
@@ -128,7 +129,7 @@ fn perform_as_json<R: Threads + Wait + Sync, S: Source, K: Sink>(
     }
 }
 
-/// Does a task, and puts its text, or that text as JSON.
+/// Does a task, and writes its text, or that text as JSON.
 pub(crate) fn perform_either<R: Threads + Wait + Sync, S: Source, K: Sink>(
     rt: &R,
     alloc: Global,

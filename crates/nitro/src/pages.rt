@@ -1,5 +1,6 @@
 //! The manual page, and completions for three shells, made from the table of commands.
 
+use crate::table::lines_of;
 use channel_values::NoMemory;
 use clap::{Arg, Command};
 use std::alloc::Global;
@@ -77,6 +78,9 @@ fn push_manual_command(out: &mut String, command: &Command) -> Result<(), NoMemo
         out,
         &[".SS ", command.get_name(), "\n", about_of(command), ".\n"],
     )?;
+    if let Some(lines) = lines_of(command.get_name()) {
+        push_all(out, &[".PP\n", lines, "\n"])?;
+    }
     for arg in command.get_arguments() {
         out.push_str(".TP\n.B ")?;
         push_argument(out, arg)?;

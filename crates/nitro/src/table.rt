@@ -27,6 +27,12 @@ const LEDGER: &str =
 const NODE: &str =
     "Serve a node that survives crashes: one JSON event a line in, one JSON effect a line out";
 
+const LEDGER_LINES: &str = "Events: enter, time. docs/USING.md has their keys.";
+
+const NODE_LINES: &str = "\
+First line: start. Events: entry, message, tick, dropped; the commands open, open_on, open_virtual, pay, close,
+settle, abandon, exit. Queries: share, balance, report, plan, chains, resend. docs/USING.md has their keys.";
+
 const JSON: &str = "\
 Print each line as a JSON object with a version. What is proved of the text isn't proved of the JSON, beyond \
 which object each line becomes";
@@ -151,8 +157,22 @@ fn lint<'a>(alloc: Global) -> Result<Command<'a>, AllocError> {
         .arg(file(alloc, SCRIPT))
 }
 
+/// The lines that a service reads, by their words.
+pub(crate) fn lines_of(service: &str) -> Option<&'static str> {
+    match service {
+        "ledger" => Some(LEDGER_LINES),
+        "node" => Some(NODE_LINES),
+        _ => None,
+    }
+}
+
 /// A service, with its state file.
-fn service<'a>(alloc: Global, name: &'a str, about: &'a str) -> Result<Command<'a>, AllocError> {
+fn service<'a>(
+    alloc: Global,
+    name: &'a str,
+    about: &'a str,
+    lines: &'a str,
+) -> Result<Command<'a>, AllocError> {
     let state = Arg::new(alloc, "state")
         .long("state")
         .value_name("FILE")
@@ -169,6 +189,7 @@ fn service<'a>(alloc: Global, name: &'a str, about: &'a str) -> Result<Command<'
         .help("Take a file that was moved: no other copy of it may be in use");
     Command::new(alloc, name)
         .about(about)
+        .after_help(lines)
         .arg(state)?
         .arg(after)?
         .arg(moved)
@@ -210,8 +231,8 @@ pub(crate) fn program<'a>(alloc: Global) -> Result<Command<'a>, AllocError> {
         .subcommand(reader(alloc, "show", show, RECORD)?)?
         .subcommand(drawing(alloc)?)?
         .subcommand(lint(alloc)?)?
-        .subcommand(service(alloc, "ledger", LEDGER)?)?
-        .subcommand(service(alloc, "node", NODE)?)?
+        .subcommand(service(alloc, "ledger", LEDGER, LEDGER_LINES)?)?
+        .subcommand(service(alloc, "node", NODE, NODE_LINES)?)?
         .subcommand(page(alloc)?)?
         .subcommand(Command::new(alloc, "version").about("Print the version"))
 }
