@@ -582,6 +582,14 @@ step_goes c n before (steps.Close who channel) m k st =
     let s = steps.Close who channel in
     let a = behind_one (list_all (λ x. context.is_node c x) who) (context.is_channel c channel) (named_known c s k) in
     always c n before s (goes c (before ++ s ∷ []) (fixed_by n.channels channel) _ (known_channel c n before m channel a) (λ f is. quiet c n before s m))
+step_goes c n before (steps.Release how who channel) m k st =
+    let s = steps.Release how who channel in
+    let a = behind_one (list_all (λ x. context.is_node c x) who) (context.is_channel c channel) (named_known c s k) in
+    always c n before s (goes c (before ++ s ∷ []) (fixed_by n.channels channel) _ (known_channel c n before m channel a) (λ f is. quiet c n before s m))
+step_goes c n before (steps.Resend who channel) m k st =
+    let s = steps.Resend who channel in
+    let a = behind_one (list_all (λ x. context.is_node c x) who) (context.is_channel c channel) (named_known c s k) in
+    always c n before s (goes c (before ++ s ∷ []) (fixed_by n.channels channel) _ (known_channel c n before m channel a) (λ f is. quiet c n before s m))
 step_goes c n before (steps.Exit who) m k st = always c n before (steps.Exit who) (quiet c n before (steps.Exit who) m)
 step_goes c n before (steps.Rounds count) m k st =
     let s = steps.Rounds count in

@@ -20,3 +20,7 @@ pub mod People
 pub mod States
 pub mod Happens
 pub mod HopExample
+pub mod Lasting
+pub mod Resending
+pub mod LetGo
+pub mod LettingGo

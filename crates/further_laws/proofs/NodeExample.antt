@@ -151,7 +151,7 @@ knowing view c last =
     record {
       key = key_a;
       parts = Root name ∷ [];
-      goals = record { part = 0; opening = []; amounts = (0, 0); closing = false } ∷ [];
+      goals = record { part = 0; opening = []; amounts = (0, 0); closing = false; over = false } ∷ [];
       view = view;
       kept = record { channel = name; me = 0; chain = c; last = last } ∷ [];
       left = false;

@@ -2,7 +2,6 @@
 -- sound, and the exits of A and of the second intermediary.
 use Rattle.std.specs.Prelude.{◌≡◌, ℕ, Bool, true, false, List, [], ◌∷◌, None, if◌then◌else◌}
 use Rattle.std.specs.Str.{bytes_eq}
-use Rattle.channel_values.specs.declared.value.AssetOutcome.{AssetOutcome}
 use Rattle.channel_values.specs.declared.value.Dest.{Dest}
 use Rattle.channel_values.specs.declared.value.Dest.TheVariants.{Person, Channel}
 use Rattle.channel_values.specs.declared.value.Item.{Item}

@@ -10,3 +10,6 @@ pub mod Network
 pub mod RaceWitness
 pub mod Happens
 pub mod Example
+pub mod Resending
+pub mod LetGo
+pub mod LettingGo
