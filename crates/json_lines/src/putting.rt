@@ -1,4 +1,4 @@
-//! The lines of a text, put as JSON.
+//! The lines of a text, written as JSON.
 
 ghost use Rattle.std.specs.Prelude.{◌≡◌, OnOk, IsErrOf};
 ghost use Rattle.std.specs.Io.KnownBytes.{Appends};
@@ -10,16 +10,16 @@ use crate::objects::json_of;
 use byte_streams::{Sink, put_all};
 use std::alloc::Global;
 
-/// Why the JSON of a text wasn't put whole.
+/// Why the JSON of a text wasn't written whole.
 #[derive(Clone, Copy, Debug, PartialEq, Eq)]
 pub enum JsonFault {
-    /// Nothing was put.
+    /// Nothing was written.
     NoMemory,
-    /// The sink failed, and a part was put.
+    /// The sink failed, and a part was written.
     Sink,
 }
 
-/// Puts the lines of a text, each as one JSON object in a line of its own.
+/// Writes the lines of a text, each as one JSON object in a line of its own.
 pub fn put_as_json<K: Sink>(alloc: Global, text: &[u8], sink: &mut K) -> Result<(), JsonFault>
     ensures put { OnOk result (Appends (K.held sink.old) (K.held sink.new) (json_of text.now)) }
     ensures part { IsErrOf result JsonFault.Sink →

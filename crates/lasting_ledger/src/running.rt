@@ -26,7 +26,7 @@ pub struct Start<'a> {
     pub path: &'a str,
     /// The responses to records with higher numbers are written again; with `None`, none are.
     pub after: Option<u64>,
-    /// Whether the file may have another inode. Whoever permits it has to know that no other copy of the file is in
+    /// Whether the file may have another inode. Anyone who permits it has to know that no other copy of the file is in
     /// use.
     pub moved: bool,
 }

@@ -72,7 +72,7 @@ EndsAs words t ReadFault = (asks words ≡ true) × Takes t (λ bytes. length by
 EndsAs words t WriteFault = ⊤
 EndsAs words t TooLong = (asks words ≡ true) × Takes t (λ bytes. 4194304 < length bytes)
 
--- the ends before which nothing was put
+-- the ends before which nothing was written
 abbrev pub puts_nothing : Status → Bool
 puts_nothing Done = false
 puts_nothing WriteFault = false

@@ -14,7 +14,7 @@ pub record Sunk : Type 0 where
   pub faults_before : ℕ
   pub faults_after : ℕ
 
--- how a drawing ended is right, by what it was handed and what it put
+-- how a drawing ended is right, by what it was handed and what it wrote
 pub record IsDrawing (words : List (List ℕ)) (source : SourceChange) (k : Sunk) (status : Status) : Type 0 where
   pub ends : EndsAs words source status
   pub done : status ≡ Done → (svg : List ℕ) × Appends k.before k.after svg

@@ -1,4 +1,4 @@
-//! From words and a source to a status and the picture that was put.
+//! From arguments and a source to a status and the picture that was written.
 
 ghost use Rattle.std.specs.Prelude.{◌≡◌, ℕ, List, true, IfOk, IfErr, IsOk};
 ghost use Rattle.std.specs.Io.KnownBytes.{Keeps, Appends};
@@ -171,7 +171,7 @@ pub fn draw<S: Source, K: Sink>(
     // Every status but running out of memory and a fault of the sink has its cause.
     ensures ends { EndsAs words.now (told S.remaining S.faults source.old source.new) result }
 
-    // A picture was put whole, or nothing, unless the sink failed; then a part of one was put.
+    // A picture was written whole, or nothing, unless the sink failed; then a part of one was written.
     ensures done { result ≡ Status.Done → (svg : List ℕ)
         × Appends (K.held sink.old) (K.held sink.new) svg }
     ensures write_fault { result ≡ Status.WriteFault → Rose (K.faults sink.old) (K.faults sink.new)

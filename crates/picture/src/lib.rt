@@ -1,4 +1,4 @@
-//! Pictures: from the text or the record of a run to the picture that was put.
+//! Pictures: from the text or the record of a run to the picture that was written.
 #![tactic(auto)]
 
 mod drawing;

@@ -21,7 +21,7 @@ use Rattle.node_guarantees.specs.Telling.{HaveFixed}
 abbrev pub AllFixed : {P : Type 0} → Ways P → List (MemberOf P) → Type 0
 AllFixed ways members = AllByRecursion (λ m. HaveFixed (ways.lines m.node)) members
 
--- no node failed for want of memory, and each followed so many entries
+-- no node ran out of memory, and each followed so many entries
 abbrev pub AllFollowed : {P : Type 0} → Ways P → (lost : P → Bool) → ℕ → List (MemberOf P) → Type 0
 AllFollowed ways lost count members = AllByRecursion (λ m. HasFollowed ways lost count m.node) members
 

@@ -13,7 +13,7 @@ use Rattle.record_checker.specs.Lines.{fault_line, verdict_line}
 use Rattle.record_checker.specs.Answering.{Asked, Given, IsReadTo, asks, EndsAs}
 use Rattle.record_checker.specs.declared.status.Status.TheVariants.{Done, Unspelled, Unsound}
 
--- a fault but want of memory is what reading gives
+-- a fault other than running out of memory is what reading gives
 pub told : (f : ByteFault) (read : Result Record ByteFault) → (f ≡ faults.NoMemory → ⊥) → Fails f read → read ≡ Err f
 told faults.NoMemory read h e = absurd (h refl)
 told (faults.Cut place) read h e = e

@@ -23,15 +23,15 @@ sunk held faults old new =
       faults_after = faults new;
     }
 
--- how it ended is right, by what it was handed and what it put
+-- how it ended is right, by what it was handed and what it wrote
 pub record IsRun (a : Asked) (g : Given) (k : Sunk) (status : Status) : Type 0 where
-  -- Every status but want of memory and a fault of the sink has its cause, and its text was put whole.
+  -- Every status but out of memory and a fault of the sink has its cause, and its text was written whole.
   pub ended : status ≢ NoMemory → status ≢ WriteFault
       → (text : List ℕ) × EndsAs a g status text × Appends k.before k.after text
-  -- At a fault of the sink a part was put of the text of another end.
+  -- At a fault of the sink a part was written of the text of another end.
   pub write_fault : status ≡ WriteFault → Rose k.faults_before k.faults_after
       × ((other : Status) × (text : List ℕ) × EndsAs a g other text × AppendsPart k.before k.after text)
-  -- For want of memory nothing was put.
+  -- Out of memory nothing was written.
   pub no_memory : status ≡ NoMemory → Keeps k.before k.after
   -- A run ends as what its bytes come to, unless memory runs out, where neither source nor sink fails.
   pub complete : (bytes text : List ℕ) (other : Status) → Tells a bytes g → Comes a bytes other text

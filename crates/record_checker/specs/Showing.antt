@@ -1,4 +1,4 @@
--- What a showing comes to: bytes are read as a record, whose text is put. It isn't asked whether the record is sound.
+-- What a showing comes to: bytes are read as a record, and its text is written, whether the record is sound or not.
 use Rattle.std.specs.Prelude.{◌≡◌, ◌≢◌, ◌≤◌, ◌<◌, ◌⊎◌, ℕ, List, [], ◌∷◌, length, Bool, true, false, Option, Some, Ok, Err, codes}
 use Rattle.std.specs.Str.{bytes_eq}
 use Rattle.std.specs.Io.KnownBytes.{Keeps, Appends}
@@ -59,15 +59,15 @@ pub record Tells (bytes : List ℕ) (g : Given) : Type 0 where
   pub short : length bytes ≤ 4194304
   pub faultless : ¬ (Rose g.faults_before g.faults_after)
 
--- how a showing ended is right, by what it was handed and what it put
+-- how a showing ended is right, by what it was handed and what it wrote
 pub record IsShowing (g : Given) (k : Sunk) (status : Status) : Type 0 where
-  -- Every status but out of memory and a fault of the sink has its cause, and its text was put whole.
+  -- Every status but out of memory and a fault of the sink has its cause, and its text was written whole.
   pub ended : status ≢ NoMemory → status ≢ WriteFault
       → (text : List ℕ) × EndsAs g status text × Appends k.before k.after text
-  -- At a fault of the sink a part was put of the text of another end.
+  -- At a fault of the sink a part was written of the text of another end.
   pub write_fault : status ≡ WriteFault → Rose k.faults_before k.faults_after
       × ((other : Status) × (text : List ℕ) × EndsAs g other text × AppendsPart k.before k.after text)
-  -- Out of memory nothing was put.
+  -- Out of memory nothing was written.
   pub no_memory : status ≡ NoMemory → Keeps k.before k.after
   -- A showing ends as what its bytes come to, unless memory runs out, where neither source nor sink fails.
   pub complete : (bytes text : List ℕ) (other : Status) → Tells bytes g → Comes bytes other text

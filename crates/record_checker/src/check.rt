@@ -1,4 +1,4 @@
-//! A check of a record, and the line that was put.
+//! A check of a record, and the line that was written.
 
 ghost use Rattle.std.specs.Prelude.{◌≡◌, ⊤, IfOk, string_bytes};
 ghost use Rattle.record_checker.specs.Answering.{given};

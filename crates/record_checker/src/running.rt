@@ -1,4 +1,4 @@
-//! From words and a source to a status, and the text that was put.
+//! From arguments and a source to a status, and the text that was written.
 
 ghost use Rattle.std.specs.Prelude.{◌≡◌, ℕ, List, true, Ok, IfOk};
 ghost use Rattle.run_record.specs.Reading.{record_of};

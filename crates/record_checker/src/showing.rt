@@ -1,4 +1,4 @@
-//! From words and a source to a status, and the text that was put.
+//! From arguments and a source to a status, and the text that was written.
 
 ghost use Rattle.std.specs.Prelude.{◌≡◌, true, IfOk};
 ghost use Rattle.record_checker.specs.Answering.{Given, IsReadTo, given};
@@ -82,7 +82,7 @@ fn work<S: Source>(alloc: Global, words: &[Label], source: &mut S) -> Result<End
     }
 }
 
-/// Reads a record, and puts its entries, sums and endings as text, whether they are sound or not.
+/// Reads a record, and writes its entries, sums and endings as text, whether they are sound or not.
 #[tactic(auto, using(crate::proofs::ShowCompletes::completes))]
 pub fn run_show<S: Source, K: Sink>(
     alloc: Global,

@@ -22,7 +22,7 @@ fn ended<R: Threads + Wait + Sync + AllocGlobal>(
     Ok((ended.status, ended.report.is_some()))
 }
 
-/// A run: its status, whether there is a report, and how much of the text was put, if that is a front of it.
+/// A run: its status, whether there is a report, and how much of the text was written, if that is a front of it.
 type End = (Status, bool, Option<usize>);
 
 /// How long the bytes are, if the text begins with them.

@@ -14,7 +14,7 @@ pub record Sunk : Type 0 where
   pub faults_before : ℕ
   pub faults_after : ℕ
 
--- how a lint ended is right, by what it was handed and what it put
+-- how a lint ended is right, by what it was handed and what it wrote
 pub record IsLint (g : Given) (k : Sunk) (status : Status) : Type 0 where
   pub ended : status ≢ NoMemory → status ≢ WriteFault
       → (text : List ℕ) × EndsAs g status text × Appends k.before k.after text

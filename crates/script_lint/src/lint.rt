@@ -1,4 +1,4 @@
-//! From words and a source to a status, and the line that was put.
+//! From arguments and a source to a status, and the line that was written.
 
 ghost use Rattle.std.specs.Prelude.{◌≡◌, ◌≢◌, ◌≤◌, ℕ, List, Some, length, IfOk, string_bytes};
 ghost use Rattle.std.specs.Io.KnownBytes.{Keeps, Consumes, Appends, IsAtEnd};
@@ -95,7 +95,7 @@ fn sound_line(alloc: Global, steps: usize) -> Result<String, AllocError>
     format!(in alloc; "sound steps {steps}\n")
 }
 
-/// The bytes of a line that is put as it is.
+/// The bytes of a line that is written as it is.
 fn bytes_of(alloc: Global, line: &str) -> Result<Vec<u8>, NoMemory>
     ensures { IfOk result (λ bytes. bytes.items ≡ line.now) }
 {
@@ -163,18 +163,18 @@ pub fn run_lint<S: Source, K: Sink>(
     source: &mut S,
     sink: &mut K,
 ) -> Status
-    // Every status but running out of memory and a fault of the sink has its cause, and its line was put whole.
+    // Every status but running out of memory and a fault of the sink has its cause, and its line was written whole.
     ensures ended { result ≢ Status.NoMemory → result ≢ Status.WriteFault → (text : List ℕ)
         × EndsAs (given S.Source words.now source.old source.new) result text
         × Appends (K.held sink.old) (K.held sink.new) text }
 
-    // At a fault of the sink a part was put of the line of another end.
+    // At a fault of the sink a part was written of the line of another end.
     ensures write_fault { result ≡ Status.WriteFault → Rose (K.faults sink.old) (K.faults sink.new)
         × ((other : Status) × (text : List ℕ)
         × EndsAs (given S.Source words.now source.old source.new) other text
         × AppendsPart (K.held sink.old) (K.held sink.new) text) }
 
-    // Out of memory nothing was put.
+    // Out of memory nothing was written.
     ensures no_memory { result ≡ Status.NoMemory → Keeps (K.held sink.old) (K.held sink.new) }
 {
     let Ok(ended) = work(alloc, words, source) else {

@@ -1,4 +1,4 @@
--- What is true of a run once what its end owes was put whole, in part, or not at all.
+-- What is true of a run once what its end owes was written whole, in part, or not at all.
 use Rattle.std.proofs.Common.{◌≡◌, ◌⊎◌, inl, inr, ℕ, List, Option, Some, None, Result, Ok, refl, subst}
 use Rattle.std.specs.Prelude.{◌≢◌, IfOk, IfSome}
 use Rattle.std.specs.Io.KnownBytes.{Keeps, Appends}

@@ -1,4 +1,4 @@
--- What is true of a route once what its end owes was put whole, in part, or not at all.
+-- What is true of a route once what its end owes was written whole, in part, or not at all.
 use Rattle.std.proofs.Common.{◌≡◌, inl, inr, ℕ, List, Option, Some, None, refl, subst}
 use Rattle.std.specs.Prelude.{IfSome}
 use Rattle.std.specs.Io.KnownBytes.{Keeps as Untouched, Appends}

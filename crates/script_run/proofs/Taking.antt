@@ -26,23 +26,23 @@ use Rattle.script_run.specs.Taken.{OneChannel, RootsTake}
 -- ---- what is taken in the three cases
 
 -- a repeated state, in the first round or the second
-repeated-taken : (e : Direct) (next : ℕ) (before : nat_lt next (length e.channel.people) ≡ false → is_now e.channel.top (state_with next false e.channel.opening []) ≡ true)
+repeated-taken : (e : Direct) (kept : e.over ≡ false) (next : ℕ) (before : nat_lt next (length e.channel.people) ≡ false → is_now e.channel.top (state_with next false e.channel.opening []) ≡ true)
     → root_takes e (state_with next false e.channel.opening []) ≡ true
-repeated-taken e next before = go (nat_lt next (length e.channel.people)) refl e.pays refl
+repeated-taken e kept next before = go (nat_lt next (length e.channel.people)) refl e.pays refl
   where
     go : (b : Bool) → nat_lt next (length e.channel.people) ≡ b → (pays : Bool) → e.pays ≡ pays → root_takes e (state_with next false e.channel.opening []) ≡ true
-    go true is true pays = simp (is, pays, bytes_eq_self (outcome e.channel.opening))
-    go true is false pays = simp (is, pays, bytes_eq_self (outcome e.channel.opening))
-    go false is true pays = simp (is, pays)
-    go false is false pays = simp (is, pays, before is)
+    go true is true pays = simp (kept, is, pays, bytes_eq_self (outcome e.channel.opening))
+    go true is false pays = simp (kept, is, pays, bytes_eq_self (outcome e.channel.opening))
+    go false is true pays = simp (kept, is, pays)
+    go false is false pays = simp (kept, is, pays, before is)
 
 -- a final state
-final-taken : (e : Direct) (next : ℕ) (o : List AssetOutcome) → nat_lt next (length e.channel.people) ≡ false → root_takes e (state_with next true o []) ≡ true
-final-taken e next o late = go e.pays refl
+final-taken : (e : Direct) (kept : e.over ≡ false) (next : ℕ) (o : List AssetOutcome) → nat_lt next (length e.channel.people) ≡ false → root_takes e (state_with next true o []) ≡ true
+final-taken e kept next o late = go e.pays refl
   where
     go : (pays : Bool) → e.pays ≡ pays → root_takes e (state_with next true o []) ≡ true
-    go true pays = simp (late, pays)
-    go false pays = simp (late, pays)
+    go true pays = simp (kept, late, pays)
+    go false pays = simp (kept, late, pays)
 
 -- ---- and so what is wanted
 
@@ -60,7 +60,7 @@ late next n e = grind (arith, nat_tests)
 not-early : (next n : ℕ) → n ≤ next → nat_lt next n ≡ false
 not-early next n h = grind (arith, nat_tests)
 
-module _ (d e : Direct) (s : StateParts) (one : OneChannel d.channel e.channel d.closing) where
+module _ (d e : Direct) (s : StateParts) (kept : e.over ≡ false) (one : OneChannel d.channel e.channel d.closing) where
   repeats-taken : (from until : ℕ) → (until ≡ people d) ⊎ (until ≡ 2 * people d) → repeats from until d.channel ≡ Some s → root_takes e s ≡ true
   repeats-taken from until which r =
       let c : Seat = d.channel in
@@ -72,7 +72,7 @@ module _ (d e : Direct) (s : StateParts) (one : OneChannel d.channel e.channel d
       (subst (λ (o : List AssetOutcome). state_is (λ x. is_same_outcome o x.outcome) e.channel.top ≡ true) (sym one.opening)
       (subst (λ (t : Option StateParts). state_is (λ x. is_same_outcome c.opening x.outcome) t ≡ true) (sym one.top)
       (one.opens (late c.next (length c.people) (subst (λ (p : List (List ℕ)). nat_lt c.next (length p) ≡ false) one.people past)) few))) in
-      subst (λ (x : StateParts). root_takes e x ≡ true) (ap (λ (o : List AssetOutcome). state_with c.next false o []) one.opening ∙ w.is) (repeated-taken e c.next there)
+      subst (λ (x : StateParts). root_takes e x ≡ true) (ap (λ (o : List AssetOutcome). state_with c.next false o []) one.opening ∙ w.is) (repeated-taken e kept c.next there)
 
   final-of : (top : Option StateParts) → d.closing ≡ true → final_after d.channel top ≡ Some s → root_takes e s ≡ true
   final-of None closing f = absurd (none-eq s f)
@@ -80,11 +80,11 @@ module _ (d e : Direct) (s : StateParts) (one : OneChannel d.channel e.channel d
       let w = when-some (has_no_data t && nat_lt d.channel.next (2 ^ 48) && is_turn d.channel) (state_with d.channel.next true t.outcome []) s f in
       let past : nat_lt d.channel.next (length e.channel.people) ≡ false =
       subst (λ (p : List (List ℕ)). nat_lt d.channel.next (length p) ≡ false) (sym one.people) (not-early d.channel.next (length d.channel.people) (one.closes closing)) in
-      subst (λ (x : StateParts). root_takes e x ≡ true) w.is (final-taken e d.channel.next t.outcome past)
+      subst (λ (x : StateParts). root_takes e x ≡ true) w.is (final-taken e kept d.channel.next t.outcome past)
 
   wanted-taken : IsWanted d s → root_takes e s ≡ true
   wanted-taken (opens from until which r) = repeats-taken from until which r
-  wanted-taken (closes closing going f) = final-of d.channel.top closing f
+  wanted-taken (closes closing held-on going f) = final-of d.channel.top closing f
 
 -- ---- over facts
 
@@ -106,8 +106,8 @@ root-named g channel None e got = absurd (none-eq e got)
 root-named g channel (Some goal) e got = seat-named g channel goal.opening (place_in channel g.places) (Some goal) e got
 
 pub roots_take : RootsTake
-roots_take f g channel d e s asked answered is_d is_e one wanted =
+roots_take f g channel d e s asked answered is_d is_e kept one wanted =
     let wants_it : wanted_in channel (root_rows d) ≡ Some s =
     sym (ap (wanted_of_root channel) is_d) ∙ sym (ap (wanted_of f channel) asked) ∙ wanted in
     let named : bytes_eq e.channel.name channel ≡ true = subst (λ (n : List ℕ). bytes_eq n channel ≡ true) (sym (root-named g channel (goal_in g channel) e is_e)) (bytes_eq_self channel) in
-    ap (takes_of g channel s) answered ∙ ap (taken_of_root channel s) is_e ∙ and-both (bytes_eq e.channel.name channel) (root_takes e s) named (wanted-taken d e s one (wants d channel s wants_it).1)
+    ap (takes_of g channel s) answered ∙ ap (taken_of_root channel s) is_e ∙ and-both (bytes_eq e.channel.name channel) (root_takes e s) named (wanted-taken d e s kept one (wants d channel s wants_it).1)

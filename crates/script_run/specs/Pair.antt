@@ -54,7 +54,7 @@ abbrev pub kept : Rules → Pair → ℕ → List StateParts → List Mark → O
 kept r p me states marks last = record { channel = name r p; me = me; chain = chain p states marks; last = last }
 
 abbrev pub goal : Pair → Bool → Goal
-goal p closing = record { part = 0; opening = split p p.a p.b; amounts = (0, 0); closing = closing }
+goal p closing = record { part = 0; opening = split p p.a p.b; amounts = (0, 0); closing = closing; over = false }
 
 -- the first or the second of the two, with this key
 abbrev pub mind : Rules → Pair → ℕ → List ℕ → Bool → WorldView → List StateParts → List Mark → Option StateParts → Mind

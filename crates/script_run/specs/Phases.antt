@@ -34,8 +34,8 @@ module _ {p : Pair} {sa sb : SignerOf} {names : Names} {next_a : Bool} {turn x y
   abbrev pub second_mind : Standing p sa sb names next_a turn x y ua ub s → Mind
   second_mind st = b_runs p false (state p st.before false st.u st.v) (state p turn false x y) (marks_by next_a st.ga st.gb) st.last_b
 
--- Whoever of the two is told to pay whatever in the channel's asset, at whatever step: if it isn't refused, both hold it after
--- one more round.
+-- Whichever of the two is told to pay any amount of the channel's asset, at any step: if it isn't refused, both hold it
+-- after one more round.
 abbrev pub PaymentsAreHeld : Type 0
 PaymentsAreHeld =
     (p : Pair) (sa sb : SignerOf) (names : Names) (next_a : Bool) (turn x y ua ub step amount : ℕ) (s : SceneOf Numbered) → AreMade p sa sb → AreTwo p names.people

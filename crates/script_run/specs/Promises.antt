@@ -42,14 +42,14 @@ sunk k old new =
 module _ {P : Type 0} (ways : Ways P) where
   -- What `run_words` promises of how it ended, and of its report.
   pub record IsRun (cast : List Player) (g : Given) (k : Sunk) (status : Status) (report : Option Report) : Type 0 where
-    -- Every status but out of memory and a fault of the sink has its cause, and its text was put whole.
+    -- Every status but out of memory and a fault of the sink has its cause, and its text was written whole.
     pub ended : status ≢ NoMemory → status ≢ WriteFault
         → runs.EndsAs ways cast g status report × Appends k.before k.after (owed status report)
-    -- At a fault of the sink a part was put of what another end owes, and the report is that end's.
+    -- At a fault of the sink a part was written of what another end owes, and the report is that end's.
     pub write_fault : status ≡ WriteFault → Rose k.faults_before k.faults_after
         × ((other : Status) × runs.EndsAs ways cast g other report
         × AppendsPart k.before k.after (owed other report))
-    -- Out of memory nothing was put.
+    -- Out of memory nothing was written.
     pub no_memory : status ≡ NoMemory → IsNone report × Untouched k.before k.after
     -- Each reply of the history is the sequential adjudicator's at its place.
     pub legal : IfSome report (λ r. Legal real (newest_first r.history))
@@ -81,32 +81,32 @@ module _ {P : Type 0} (ways : Ways P) where
 
   -- What `run_record` promises of how it ended.
   pub record IsRecording (cast : List Player) (g : Given) (k : Sunk) (status : Recorded) : Type 0 where
-    -- Every status but out of memory and a fault of the sink has its cause, and its bytes were put whole: of what was
-    -- played the spelling of its record, whose history is legal and conserved; and it is sound where of each person
+    -- Every status but out of memory and a fault of the sink has its cause, and its bytes were written whole: of what
+    -- was played the spelling of its record, whose history is legal and conserved; and it is sound where of each person
     -- with a node nothing is told to be forged and no strings collide.
     pub ended : status ≢ Ran NoMemory → status ≢ Ran WriteFault
         → (bytes : List ℕ) × recordings.EndsAs ways cast g status bytes × Appends k.before k.after bytes
-    -- At a fault of the sink a part was put of what another end owes.
+    -- At a fault of the sink a part was written of what another end owes.
     pub write_fault : status ≡ Ran WriteFault → Rose k.faults_before k.faults_after
         × ((other : Recorded) × (bytes : List ℕ) × recordings.EndsAs ways cast g other bytes
         × AppendsPart k.before k.after bytes)
-    -- Out of memory nothing was put.
+    -- Out of memory nothing was written.
     pub no_memory : status ≡ Ran NoMemory → Untouched k.before k.after
-    -- A sound script is played and its record put, unless it is past the format's limits, memory runs out or a race's
-    -- history is full, where neither source nor sink fails.
+    -- A sound script is played and its record written, unless it is past the format's limits, memory runs out or a
+    -- race's history is full, where neither source nor sink fails.
     pub complete : recordings.IsRecordable g → ¬ (Rose k.faults_before k.faults_after)
         → (status ≡ Ran Done) ⊎ (status ≡ PastLimits) ⊎ (status ≡ Ran NoMemory) ⊎ recordings.IsFullRace g status
 
   -- What `run_route` promises of how it ended, and of its report.
   pub record IsRoute (words : List (List ℕ)) (k : Sunk) (status : Status) (report : Option Report) : Type 0 where
-    -- Every status but out of memory and a fault of the sink has its cause, and its text was put whole.
+    -- Every status but out of memory and a fault of the sink has its cause, and its text was written whole.
     pub ended : status ≢ NoMemory → status ≢ WriteFault → (text : List ℕ)
         × routes.EndsAs ways words status report text × Appends k.before k.after text
-    -- At a fault of the sink a part was put of what another end owes, and the report is that end's.
+    -- At a fault of the sink a part was written of what another end owes, and the report is that end's.
     pub write_fault : status ≡ WriteFault → Rose k.faults_before k.faults_after
         × ((other : Status) × (text : List ℕ) × routes.EndsAs ways words other report text
         × AppendsPart k.before k.after text)
-    -- Out of memory nothing was put.
+    -- Out of memory nothing was written.
     pub no_memory : status ≡ NoMemory → IsNone report × Untouched k.before k.after
     -- Each reply of the history is the sequential adjudicator's at its place.
     pub legal : IfSome report (λ r. Legal real (newest_first r.history))

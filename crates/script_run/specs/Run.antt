@@ -107,7 +107,7 @@ module _ {P : Type 0} (ways : Ways P) (cast : List Player) where
   abbrev pub IsToldOf : Given → Report → Type 0
   IsToldOf g report = Asks g (λ a. Comes (λ load steps. IsPlayed ways load report steps) (λ steps. IsOfRace ways cast report steps) g a)
 
-  -- Why a run comes to each end, before its text is put.
+  -- Why a run comes to each end, before its text is written.
   abbrev pub EndsAs : Given → Status → Option Report → Type 0
   EndsAs g Done (Some report) = IsToldOf g report
   EndsAs g Usage None = (wanted g.words ≡ None) × IsUnread g

@@ -1,6 +1,6 @@
 -- What one node wants in a channel, the table of its partner takes, where both know the same of it. This is stated for parts of
 -- all four kinds; `RootsTake`, for channels that hold their own funds, is proved.
-use Rattle.std.specs.Prelude.{◌≡◌, ℕ, ◌+◌, ◌*◌, ◌<◌, ◌≤◌, Bool, true, ◌||◌, List, length, Some, ◌⊎◌}
+use Rattle.std.specs.Prelude.{◌≡◌, ℕ, ◌+◌, ◌*◌, ◌<◌, ◌≤◌, Bool, true, false, ◌||◌, List, length, Some, ◌⊎◌}
 use Rattle.std.specs.Str.{bytes_eq}
 use Rattle.channel_values.specs.Parts.{StateParts}
 use Rattle.support_rules.specs.Rules.{is_same_outcome}
@@ -34,7 +34,7 @@ pub record OneChannel (c d : Seat) (closing : Bool) : Type 0 where
 abbrev pub RootsTake : Type 0
 RootsTake =
     (f g : FactsOf) (channel : List ℕ) (d e : Direct) (s : StateParts) → stages.asked f channel ≡ Some (Root channel) → stages.asked g channel ≡ Some (Root channel)
-    → direct_in f channel ≡ Some d → direct_in g channel ≡ Some e → OneChannel d.channel e.channel d.closing
+    → direct_in f channel ≡ Some d → direct_in g channel ≡ Some e → e.over ≡ false → OneChannel d.channel e.channel d.closing
     → stages.wanted f channel ≡ Some s → stages.accepts g channel s ≡ true
 
 -- ---- channels that others fund

@@ -1,4 +1,4 @@
-//! From words and a source to what was played, and the bytes of its record that were put.
+//! From arguments and a source to what was played, and the bytes of its record that were written.
 
 ghost use Rattle.std.specs.Prelude.{◌≡◌, ◌≤◌, ℕ, List, [], Some, None, All, IfOk, IfSome, IsNone, length};
 ghost use Rattle.std.specs.Option.{option_copied};
@@ -121,8 +121,8 @@ fn put_end<K: Sink>(end: Result<Ended, NoMemory>, sink: &mut K) -> Status
 }
 
 /// Plays the script that it reads, and writes the record of what was played. It starts no thread and waits for nobody,
-/// so it returns. It answers nothing where the words ask for the record of a race: then nothing was read and nothing
-/// put.
+/// so it returns. It answers nothing where the arguments ask for the record of a race: then nothing was read or
+/// written.
 pub fn record_in_one_thread<S: Source, K: Sink>(
     alloc: Global,
     words: &[Label],

@@ -1,4 +1,4 @@
-//! Routes over two intermediaries: from words to a status and the text that was put.
+//! Routes over two intermediaries: from arguments to a status and the text that was written.
 
 ghost use Rattle.std.specs.Prelude.{◌≡◌, ◌≤◌, ℕ, List, Some, None, IfOk, IfSome, string_bytes};
 ghost use Rattle.node_guarantees.specs.Ways.{ways};

@@ -1,4 +1,4 @@
-//! The top call: from words and a source to a status and the text that was put.
+//! The top call: from arguments and a source to a status and the text that was written.
 
 ghost use Rattle.std.specs.Prelude.{◌≡◌, ◌≤◌, ℕ, List, [], Some, None, length, All, IfOk, IfSome, IsNone, string_bytes};
 ghost use Rattle.std.specs.Io.KnownBytes.{Consumes, IsAtEnd};

@@ -8,7 +8,7 @@ use crate::run::Status as Ran;
 /// How a recording ended.
 #[derive(Clone, Copy, Debug, PartialEq, Eq)]
 pub enum Status {
-    /// As a run or a race of the script ends; where that was played, its record was put.
+    /// As a run or a race of the script ends; where that was played, its record was written.
     Ran(Ran),
     /// What was played is past the limits of the format.
     PastLimits,

@@ -5,7 +5,7 @@ use shared_object::{NoMemory, OneThread};
 #[derive(Drop)]
 pub struct Counter {
     pub sum: u64,
-    /// Whether it always refuses for want of memory.
+    /// Whether it always refuses, as if out of memory.
     pub refuses: bool,
 }
 

@@ -1,4 +1,4 @@
-//! A replay of a record, and the text that was put.
+//! A replay of a record, and the text that was written.
 
 ghost use denote.Param.Send.{IsSync};
 ghost use Rattle.std.specs.Prelude.{◌≡◌, fold, OnOk};

@@ -1,4 +1,4 @@
--- Whoever has calls holds a chain of a challenged channel, and is found.
+-- A client that has calls holds a chain of a challenged channel, and is found.
 use Rattle.std.proofs.Common.{◌≡◌, nat_lt, ℕ, List, [], ◌∷◌, ◌++◌, Bool, true, false, ◌||◌, cond, map, filter, refl, sym, ◌∙◌, ap, subst, true≢false, Contains, ◌<◌, ◌+◌, length, take, get_or}
 use Rattle.std.specs.List.{list_any, flat_map}
 use Rattle.std.specs.Str.{bytes_eq}

@@ -18,7 +18,7 @@ keeps_more c p c' p' c'' p'' first second channel place has = second channel pla
 nothing_in : {A : Type 1} (place : ℕ) → Contains [] place → A
 nothing_in place has = let lt = has.1 in absurd (omega (arith, lt))
 
--- whoever is found at an index, is so by other lists too
+-- a client that is found at an index is found by other lists too
 moved : (channels places channels' places' : List (List ℕ)) (channel : List ℕ) (place : ℕ)
     → ((i : ℕ) → position (bytes_eq channel) channels ≡ Some i → position (bytes_eq channel) channels' ≡ Some i)
     → ((i : ℕ) → i < length channels → Contains (get_or places i []) place → Contains (get_or places' i []) place)

@@ -8,7 +8,7 @@ use Rattle.watchtower.specs.declared.client.Client.{Client}
 use Rattle.watchtower.specs.Towers.{is_of}
 use Rattle.watchtower.specs.Holders.{holders_of}
 
--- whoever has a chain of a channel is a holder of it
+-- each client that has a chain of a channel is a holder of it
 abbrev pub AreIndexed : List Client → List (List ℕ) → List (List ℕ) → Type 0
 AreIndexed clients channels places =
     (place : ℕ) (c : Client) (channel : List ℕ) → slice_get clients place ≡ Some c

@@ -95,7 +95,7 @@ fault_among r new (Some chains) = chain_fault r new chains
 abbrev pub hand_fault : Rules → List ℕ → HeldChain → List Client → Option HandFault
 hand_fault r name new clients = fault_among r new (chains_of name clients)
 
--- the fault that an answer gives; want of memory is none of the table
+-- the fault that an answer gives; running out of memory is none of the table
 abbrev pub fault_told : Result (Unit {0}) HandFault → Option HandFault
 fault_told (Ok done) = None
 fault_told (Err faults.NoMemory) = None

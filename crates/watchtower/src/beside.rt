@@ -53,7 +53,7 @@ impl<C: Count> Lesson<usize, ()> for Below<C> {
 
 type Places<C> = RuledArrayQueue<usize, (), Below<C>>;
 
-/// Pushes the places onto the queue, which has room for them. One that is no client's isn't put.
+/// Pushes the places onto the queue, which has room for them. One that is no client's isn't pushed.
 fn fill<C: Count, R: Wait>(
     rt: &R,
     queue: &Places<C>,

@@ -109,7 +109,7 @@ fn concerned(
 }
 
 /// Follows the entries and notes the channels that are then challenged. Answers the places of the clients that hold a
-/// chain of one, rising: whoever has calls is at one of them.
+/// chain of one, rising: each client that has calls is at one of them.
 #[tactic(auto, using(crate::proofs::Opening::noted_well))]
 pub(crate) fn look_around(
     watcher: &mut Watcher,

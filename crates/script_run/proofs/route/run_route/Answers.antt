@@ -1,4 +1,4 @@
--- The text of a route was put whole, in part, or not at all.
+-- The text of a route was written whole, in part, or not at all.
 use Rattle.std.proofs.Common.{List, ℕ, sym, subst}
 use Rattle.std.specs.Io.KnownBytes.{Appends}
 use Rattle.byte_streams.proofs.Known.{keeps_all}

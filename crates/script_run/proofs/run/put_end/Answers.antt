@@ -1,4 +1,4 @@
--- What an end owes was put whole, in part, or not at all.
+-- What an end owes was written whole, in part, or not at all.
 use Rattle.std.proofs.Common.{◌∙◌, List, ℕ, sym, subst}
 use Rattle.std.specs.Prelude.{IfSome}
 use Rattle.std.specs.Io.KnownBytes.{Appends}

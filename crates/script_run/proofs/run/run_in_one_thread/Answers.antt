@@ -1,4 +1,4 @@
--- What comes of it is put, and a load pays.
+-- What comes of it is written, and a load pays.
 use Rattle.script_run.proofs.Pays.{pays_at_end}
 use Rattle.script_run.proofs.run.run_in_one_thread.Goals as goal
 use Rattle.script_run.specs.Run.{Given, given}
