@@ -132,6 +132,9 @@ FORMS = {
                      "asset": number, "amounts": many(number)},
     "pay": {"who": name, "channel": name, "asset": number, "amount": number},
     "close": {"who": names, "channel": name},
+    "settle": {"who": names, "channel": name},
+    "abandon": {"who": names, "channel": name},
+    "resend": {"who": names, "channel": name},
     "exit": {"who": names},
     "rounds": {"count": number},
 }

@@ -47,12 +47,7 @@ class Play:
         self.ledger = Service([program, "ledger"], os.path.join(folder, "ledger"), self.killer)
         self.people = [Person(place, self.node("node-%d" % place, height)) for place in range(2)]
         self.running = list(self.people)
-        self.channel = {
-            "people": [person.key for person in self.people], "nonce": seed, "app": "payment", "duration": DURATION}
-        keys = [bytes.fromhex(person.key) for person in self.people]
-        fixed = b"\2" + b"".join(keys) + seed.to_bytes(8, "big") + b"\1" + DURATION.to_bytes(4, "big")
-        self.name = hashlib.sha256(b"\1" + fixed).hexdigest()
-        self.indices.people[bytes.fromhex(self.name)] = keys
+        self.channel, self.name = self.payment_channel(seed)
 
     def __enter__(self):
         return self
@@ -65,6 +60,16 @@ class Play:
         seed = bytes(self.chance.randrange(256) for _ in range(32)).hex()
         return Service(
             [self.program, "node"], os.path.join(self.folder, name), self.killer, {"do": "start", "seed": seed, "h": height})
+
+    def payment_channel(self, nonce):
+        """A payment channel of both people, and its name."""
+        channel = {
+            "people": [person.key for person in self.people], "nonce": nonce, "app": "payment", "duration": DURATION}
+        keys = [bytes.fromhex(person.key) for person in self.people]
+        fixed = b"\2" + b"".join(keys) + nonce.to_bytes(8, "big") + b"\1" + DURATION.to_bytes(4, "big")
+        name = hashlib.sha256(b"\1" + fixed).hexdigest()
+        self.indices.people[bytes.fromhex(name)] = keys
+        return channel, name
 
     # ---- what a node is asked, and what comes of its effects
 
@@ -191,10 +196,14 @@ class Play:
 
     # ---- parts of plays
 
+    def opens(self, person, channel):
+        """Whether the person's node opens the channel with what both bring."""
+        items = [[other.key, amount] for other, amount in zip(self.people, BROUGHT)]
+        return self.does(person, do="open", channel=channel, outcome=[{"asset": ASSET, "items": items}])
+
     def open(self):
-        items = [[person.key, amount] for person, amount in zip(self.people, BROUGHT)]
         for person in self.people:
-            assert self.does(person, do="open", channel=self.channel, outcome=[{"asset": ASSET, "items": items}])
+            assert self.opens(person, self.channel)
         self.until(lambda: [person.took for person in self.people] == [3, 2], "opening")
 
     def pay(self, number, is_carried=True):
@@ -304,6 +313,40 @@ def spend(program, folder, seed):
         return play.told()
 
 
+def settle(program, folder, seed):
+    """One leaves, and the other lets go of the channel once it is final. Both are paid."""
+    with Play(program, folder, seed, 0.1) as play:
+        play.open()
+        for number in range(play.chance.randrange(6)):
+            play.pay(number)
+        gone, left = play.chance.sample(play.people, 2)
+        assert not play.does(left, do="settle", channel=play.name), "the channel isn't final"
+        assert play.does(gone, do="exit")
+        play.until(lambda: play.does(left, do="settle", channel=play.name), "settling")
+        play.until(lambda: play.paid == play.balance, "being paid")
+        play.finish()
+        return play.told()
+
+
+def abandon(program, folder, seed):
+    """The other never answers an opening. Once it is given up, another channel is opened and closed."""
+    with Play(program, folder, seed, 0.1) as play:
+        channel, name = play.payment_channel(2**32 + seed)
+        person = play.chance.choice(play.people)
+        assert play.opens(person, channel)
+        for _ in range(20):
+            play.step()
+        assert not play.opens(person, play.channel), "an opening is unfinished"
+        assert play.does(person, do="abandon", channel=name)
+        play.open()
+        play.pay(0)
+        for person in play.people:
+            play.until(lambda: play.does(person, do="close", channel=play.name), "closing")
+        play.until(lambda: play.paid == play.balance, "being paid")
+        play.finish()
+        return play.told()
+
+
 def set_back(program, folder, seed):
     """A node is set back to a copy of its file, and leaves with an old state. The other's node answers, and leaves too."""
     with Play(program, folder, seed, 0.04) as play:
@@ -349,7 +392,7 @@ def refuse(program, folder, seed):
         return "statuses %d, %d, %d and %d" % (IN_USE, FOREIGN, BEHIND, NOT_ITS_LEDGER)
 
 
-PLAYS = (agree, leave, spend, set_back, refuse)
+PLAYS = (agree, leave, settle, abandon, spend, set_back, refuse)
 
 
 def tried(program, play, seed):

@@ -9,6 +9,7 @@ part of examples/check.
 """
 import argparse
 import hashlib
+import json
 import os
 import random
 import shutil
@@ -120,14 +121,20 @@ def at_once(program, path, height, opening, payments):
 
 
 def started(program, path, height):
-    """The seconds up to the line `ready`, the most memory in KB, and this line."""
+    """The seconds up to the line `ready`, those of a processor, the most memory in KB, and this line. No response is written
+    again."""
+    child = subprocess.Popen([program, "node", "--state", path], stdin=subprocess.PIPE, stdout=subprocess.PIPE)
     begun = time.monotonic()
-    service = fresh(program, path, height)
+    child.stdin.write(line_of(start_of(SEEDS[0], height)))
+    child.stdin.flush()
+    ready = json.loads(child.stdout.readline())
     seconds = time.monotonic() - begun
-    service.child.stdin.close()
-    service.child.stdout.read()
-    _, _, usage = os.wait4(service.child.pid, 0)
-    return seconds, usage.ru_maxrss, service.ready
+    with open("/proc/%d/status" % child.pid, encoding="ascii") as file:
+        memory = next(int(line.split()[1]) for line in file if line.startswith("VmHWM:"))
+    child.stdin.close()
+    child.stdout.close()
+    _, _, usage = os.wait4(child.pid, 0)
+    return seconds, usage.ru_utime + usage.ru_stime, memory, ready
 
 
 def main():
@@ -153,9 +160,9 @@ def main():
             seconds = way(program, os.path.join(folder, way.__name__), given.height, opening, payments)
             print("%d payments a second of one node, %s" % (count / seconds, name))
         path = nodes[0].service.path
-        seconds, memory, ready = started(program, path, given.height)
-        print("a start with %d signatures used: %.2f s, %d KB of memory, a file of %d bytes and %d records" % (
-            ready["used"], seconds, memory, os.stat(path).st_size, ready["n"]))
+        seconds, busy, memory, ready = started(program, path, given.height)
+        print("a start with %d signatures used: %.2f s, %.2f s of a processor, %d KB of memory, a file of %d bytes and %d "
+              "records" % (ready["used"], seconds, busy, memory, os.stat(path).st_size, ready["n"]))
     return 0
 
 

@@ -72,17 +72,17 @@ class Service:
             with contextlib.suppress(BrokenPipeError):
                 self.child.stdin.write(line_of(event))
                 self.child.stdin.flush()
-        text, count = b"", 0
+        lines = []
         while True:
-            if count == kill_at:
+            if len(lines) == kill_at:
                 time.sleep(self.killer.chance.random() * 0.002)
                 self.kill()
             line = self.child.stdout.readline()
-            text, count = text + line, count + 1
+            lines.append(line)
             if not line.endswith(b"\n"):
-                raise Ended(self.end(), text)
+                raise Ended(self.end(), b"".join(lines))
             if json.loads(line)["effect"] in ends:
-                return text
+                return b"".join(lines)
 
     def end(self):
         """Waits for the end of the process, and returns its status."""

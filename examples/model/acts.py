@@ -20,7 +20,7 @@ class Acts(Lies):
 
     # ---- chains
 
-    def resend(self):
+    def repeat(self):
         """Some known state goes to some node once more."""
         name = self.some_channel()
         known = self.stage.known_states(name)
@@ -325,10 +325,58 @@ class Acts(Lies):
             name = self.random.choice(openings) if self.chance(0.85) else self.random.choice(list(self.world.channels))
         opening = next((it for it in self.shape.openings if it.channel() == name), None)
         people = people or self.some(opening.people if opening else self.world.people)
+        self.give(people, "close", name)
+
+    def let_go(self, word, everybody=False):
+        """Somebody settles or abandons, mostly where it may; or everybody does, wherever it may."""
+        people = list({**self.world.nodes, **self.world.shadows}.values())
+        parts = [(node, part) for node in people for part in node.parts]
+        ready = [it for it in parts if (it[1].settles(it[0]) if word == "settle" else it[1].abandons(it[0]))]
+        if not everybody and (not ready or self.chance(0.1)):
+            ready = parts
+        self.random.shuffle(ready)
+        for node, part in ready if everybody else ready[:1]:
+            odd = self.random.choice(part.channels() + [self.some_channel()])
+            self.give([node.me], word, odd if self.chance(0.08) else part.channel.name)
+
+    def settle(self):
+        self.let_go("settle")
+
+    def abandon(self):
+        self.let_go("abandon")
+
+    def resend(self):
+        """Somebody sends its newest state once more, mostly where another lacks it."""
+        people = {**self.world.nodes, **self.world.shadows}
+        kept = [(node, record) for node in people.values() for record in node.records.values()]
+        lost = [(node, record) for node, record in kept if record.last_signed is not None and any(
+            other.records[record.channel.name].next_turn() <= record.last_signed.turn
+            for person, other in people.items()
+            if person in record.channel.people and record.channel.name in other.records)]
+        if lost and self.chance(0.7):
+            node, record = self.random.choice(lost)
+            self.give([node.me], "resend", record.channel.name)
+        elif kept and self.chance(0.8):
+            node, record = self.random.choice(kept)
+            self.give(self.some(record.channel.people), "resend", record.channel.name)
+        else:
+            self.give(self.some(list(people)), "resend", self.some_channel())
+
+    def lose(self):
+        """A payment is lost, and mostly sent once more, soon or later."""
+        self.pay()
+        self.drop()
+        if self.chance(0.5):
+            self.some_rounds()
+        if self.chance(0.8):
+            self.resend()
+
+    def give(self, people, word, name):
+        """A command of a channel alone, to nodes and shadows."""
         who = self.nodes_of(people)
         if who:
-            self.stage.do("close", who=who, channel=name)
-        self.stage.command_shadows(people, lambda node: node.close(name))
+            self.stage.do(word, who=who, channel=name)
+        self.stage.command_shadows(people, lambda node: getattr(node, word)(name))
 
     def leave(self, people=None):
         who = self.nodes_of(self.world.people if people is None else people)

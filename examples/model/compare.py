@@ -1,10 +1,11 @@
 #!/usr/bin/env python3
-"""Compares a program with the model on random hostile plays: `compare.py PROGRAM FIRST COUNT [--scripts]`.
+"""Compares a program with the model on random plays: `compare.py PROGRAM FIRST COUNT [--scripts] [--hubs]`.
 
 PROGRAM, which may have words of its own (`"./nitro run"`), is given the routes of a play as further words and its
 script as standard input; status and text must be the model's. With `--scripts` all virtual channels are plain and no
-routes are given. Four plays run at a time. Each difference is told by its seed and the first line that differs;
-`plays.py SEED` prints the script. Ends with 1 where one differs.
+routes are given. With `--hubs` the plays are those of `hubs.py`. Four plays run at a time. Each difference is told by
+its seed and the first line that differs; `plays.py SEED` and `hubs.py SEED` print the script. Ends with 1 where one
+differs.
 """
 import json
 import shlex
@@ -13,8 +14,9 @@ import sys
 from concurrent.futures import ProcessPoolExecutor
 from itertools import zip_longest
 
+import hubs
+import plays
 from play import play
-from plays import make
 
 AT_ONCE, SECONDS = 4, 900
 
@@ -29,7 +31,7 @@ def first_difference(found, wanted):
 
 def compare(work):
     """What differs in the play of a seed, or None."""
-    program, seed, onward = work
+    program, seed, onward, make = work
     script, routes = make(seed, onward)
     wanted = play(script["steps"], routes).text()
     words = shlex.split(program) + (routes if onward else [])
@@ -43,12 +45,12 @@ def compare(work):
 
 
 def main(words):
-    onward = "--scripts" not in words
-    program, first, count = [word for word in words if word != "--scripts"]
+    onward, make = "--scripts" not in words, hubs.make if "--hubs" in words else plays.make
+    program, first, count = [word for word in words if word not in ("--scripts", "--hubs")]
     seeds = range(int(first), int(first) + int(count))
     agreed = 0
     with ProcessPoolExecutor(AT_ONCE) as workers:
-        for seed, differs in zip(seeds, workers.map(compare, [(program, seed, onward) for seed in seeds])):
+        for seed, differs in zip(seeds, workers.map(compare, [(program, seed, onward, make) for seed in seeds])):
             agreed += differs is None
             if differs:
                 print(f"seed {seed}: {differs}", flush=True)

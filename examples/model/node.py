@@ -51,7 +51,7 @@ class Node:
         self.parts, self.owners, self.records, self.journal, self.outbox = [], {}, {}, [], []
         self.seen, self.exited, self.exit_given = 0, False, False
         self.tally, self.known, self.known_at, self.changes = Counter(), {}, None, 0
-        self.idle_at = None
+        self.idle_at, self.given = None, Counter()
 
     # ---- facts
 
@@ -102,7 +102,7 @@ class Node:
     def standing_on(self, ledger):
         return [part for part in self.parts if ledger in part.ledgers]
 
-    def _first_not_open(self):
+    def first_not_open(self):
         """The first channel of the node, of a part that isn't closed, that isn't open."""
         def find():
             return next((name for name in self.records if self.mode(name) != OPEN
@@ -110,7 +110,7 @@ class Node:
         return self._remembered("not open", find)
 
     def _not_open(self):
-        name = self._first_not_open()
+        name = self.first_not_open()
         return None if name is None else refusal("NotOpen", name, self.mode(name))
 
     def _busy_stage(self):
@@ -144,7 +144,7 @@ class Node:
         record, state = self.records.get(message.channel), message.state
         if record is None:
             return refusal("UnknownChannel")
-        if self._first_not_open():
+        if self.first_not_open():
             return self._not_open()
         if record.has_ended() or state.turn != record.next_turn():
             return refusal("NotNext", 0 if record.has_ended() else record.next_turn())
@@ -222,9 +222,9 @@ class Node:
 
     def _begin(self, ledgers, make):
         """Adds a part to the plan, or tells why not. `make` gives no part where what was commanded doesn't fit."""
-        if any(self.part_of(ledger) is None for ledger in ledgers):
+        if any(self.part_of(ledger) is None or self.part_of(ledger).released for ledger in ledgers):
             return refusal("UnknownChannel")
-        if self._first_not_open():
+        if self.first_not_open():
             return self._not_open()
         part = make()
         if part is None or any(self.part_of(name) for name in part.channels()):
@@ -250,25 +250,57 @@ class Node:
         part = self.part_of(name)
         if part is None:
             return refusal("UnknownChannel")
-        if self._first_not_open():
+        if self.first_not_open():
             return self._not_open()
         stage = self._busy_stage()
         if stage is None and self.stage(part) != part.running:
             stage = self.stage(part)
         if stage is None:
-            standing = self.standing_on(part.channel.name)
-            stage = next((self.stage(it) for it in standing if not it.is_closed(self)), None)
+            stage = self._standing_stage(part)
         if stage is not None:
             return refusal("NotWanted", stage)
         part.closing = True
         self.changes += 1
         return None
 
+    def _standing_stage(self, part):
+        """The stage of the first part that stands on the part's channel and isn't closed, or None."""
+        standing = self.standing_on(part.channel.name)
+        return next((self.stage(it) for it in standing if not it.is_closed(self)), None)
+
+    def _release(self, name, may):
+        """Lets go of a part, whether other channels are open or not. `may` tells whether it may."""
+        part = self.part_of(name)
+        if part is None:
+            return refusal("UnknownChannel")
+        stage = self._standing_stage(part) if may(part) else self.stage(part)
+        if self.exited or stage is not None:
+            return refusal("NotWanted", LEFT if self.exited else stage)
+        part.closing = part.released = True
+        self.changes += 1
+        return None
+
+    def settle(self, name):
+        return self._release(name, lambda part: part.settles(self))
+
+    def abandon(self, name):
+        return self._release(name, lambda part: part.abandons(self))
+
+    def resend(self, name):
+        """Sends the newest state that it signed in a channel once more, also after its exit. It signs nothing."""
+        record = self.records.get(name)
+        if record is None:
+            return refusal("UnknownChannel")
+        if record.last_signed is None:
+            return refusal("NotWanted", self.stage(self.part_of(name)))
+        self._send(record, record.signed[record.last_signed.turn])
+        return None
+
     def pay(self, name, asset, amount):
         part, record = self.part_of(name), self.records.get(name)
         if record is None:
             return refusal("UnknownChannel")
-        if self._first_not_open():
+        if self.first_not_open():
             return self._not_open()
         if not record.is_own_turn():
             return refusal("NotNext", record.next_turn())
@@ -280,6 +312,7 @@ class Node:
         if self.used == self.signatures:
             return refusal("KeySpent", self.used)
         self._sign(record, state)
+        self.given[asset] += amount
         return None
 
     def _payment(self, part, record, asset, amount):
@@ -318,6 +351,9 @@ class Node:
         record.note_own(signed)
         self.changes += 1
         self.journal.append(Event(self.seen, "signed", name))
+        self._send(record, signed)
+
+    def _send(self, record, signed):
         self.outbox += [(person, signed) for person in record.channel.people if person != self.me]
 
     def _ordered(self):
@@ -338,7 +374,7 @@ class Node:
         if self.exited:
             return self._leave()
         for record in self._ordered():
-            state = None if self._first_not_open() else self._wanted(record)
+            state = None if self.first_not_open() else self._wanted(record)
             if state is not None:
                 self._sign(record, state)
         return [call for part in self.parts for call in part.calls(self)]

@@ -115,8 +115,9 @@ class Loan:
 
 
 class Part:
-    """What all parts share. `running` and `closed` are stages; `closing` tells that the node was told to close."""
-    running, closed, closing = 3, 6, False
+    """What all parts share. `running` and `closed` are stages; `closing` tells that the node was told to close it or to
+    let go of it, and `released` that it let go of it."""
+    running, closed, closing, released = 3, 6, False, False
 
     def is_unfinished(self, facts):
         stage = facts.stage(self)
@@ -127,6 +128,14 @@ class Part:
 
     def calls(self, facts):
         return []
+
+    def settles(self, facts):
+        """Whether the node may let go of it since it is final."""
+        return False
+
+    def abandons(self, facts):
+        """Whether the node may let go of it since it isn't set up and the node put nothing in."""
+        return False
 
 
 @dataclass(eq=False)
@@ -143,6 +152,8 @@ class Root(Part):
 
     def stage(self, facts):
         record, n = facts.record(self.channel.name), len(self.channel.people)
+        if self.released:
+            return 6
         if not self.closing:
             if not record.holds(n - 1):
                 return 0
@@ -151,15 +162,15 @@ class Root(Part):
             return 3 if record.holds(2 * n - 1) else 2
         if not record.has_ended():
             return 4
-        return 6 if facts.mode(self.channel.name) == FINAL and not self._dues(facts) else 5
+        return 6 if facts.mode(self.channel.name) == FINAL and not self.dues(facts) else 5
 
     def _is_funded(self, facts):
         return all(facts.held(self.channel.name, it.asset) >= it.total() for it in self.opening)
 
-    def _dues(self, facts):
+    def dues(self, facts):
         """Asset and place of each own item of the settled outcome with something due."""
         name, outcome = self.channel.name, facts.settled(self.channel.name)
-        own = [(it.asset, place) for it in outcome if isinstance(it, Allocation)
+        own = [(it.asset, place) for it in outcome or () if isinstance(it, Allocation)
                for place, (to, _) in enumerate(it.items) if to == facts.me]
         return [(asset, place) for asset, place in own if facts.due(name, outcome, asset, place)]
 
@@ -172,7 +183,7 @@ class Root(Part):
         return final_state(record) if stage == 4 else None
 
     def accepts(self, facts, name, state):
-        return takes(facts.record(name), state, self.opening, no_target)
+        return not self.released and takes(facts.record(name), state, self.opening, no_target)
 
     def opening_of(self, name):
         return self.opening
@@ -184,10 +195,27 @@ class Root(Part):
             return self._deposits(facts)
         if stage == 5 and facts.mode(name) == OPEN:
             return [Conclude(facts.record(name).chain)]
-        if stage == 5 and facts.mode(name) == FINAL:
+        if (stage == 5 or self.released) and facts.mode(name) == FINAL:
             outcome = facts.settled(name)
-            return [Transfer(name, outcome, asset, place) for asset, place in self._dues(facts)]
+            return [Transfer(name, outcome, asset, place) for asset, place in self.dues(facts)]
         return []
+
+    def settles(self, facts):
+        return facts.mode(self.channel.name) == FINAL and not self.released
+
+    def abandons(self, facts):
+        if self.closing or facts.mode(self.channel.name) == FINAL or facts.stage(self) == self.running:
+            return False
+        return facts.stage(self) == 0 or not any(self._has_turn(facts, it) for it in self.opening)
+
+    def _has_turn(self, facts, it):
+        """Whether the node's item of an asset has or had its turn to be put in."""
+        before = 0
+        for to, amount in it.items:
+            if to == facts.me:
+                return amount > 0 and before <= facts.held(self.channel.name, it.asset)
+            before += amount
+        return False
 
     def _deposits(self, facts):
         """Each puts its own item in once those before it are there."""

@@ -160,6 +160,15 @@ class Play:
     def _close(self, it):
         self._command(it["who"], lambda node: node.close(it["channel"]))
 
+    def _settle(self, it):
+        self._command(it["who"], lambda node: node.settle(it["channel"]))
+
+    def _abandon(self, it):
+        self._command(it["who"], lambda node: node.abandon(it["channel"]))
+
+    def _resend(self, it):
+        self._command(it["who"], lambda node: node.resend(it["channel"]))
+
     def _exit(self, it):
         def leave(node):
             node.exit()

@@ -15,21 +15,22 @@ from shapes import shape_of
 from stage import Stage
 import rules
 
-HOSTILE = {"some_rounds": 10, "lie": 7, "resend": 2, "challenge": 3, "surprise": 1, "dispute": 2, "barrage": 2,
+HOSTILE = {"some_rounds": 10, "lie": 7, "repeat": 2, "challenge": 3, "surprise": 1, "dispute": 2, "barrage": 2,
            "checkpoint": 1, "conclude": 1, "answer": 2, "payout": 2, "deposit": 1, "time": 1, "drop": 2, "odd_open": 4,
-           "pay": 5, "close": 4, "leave_some": 0.5}
+           "pay": 5, "lose": 1, "resend": 1, "close": 4, "settle": 1, "abandon": 1, "leave_some": 0.5}
 BY_LIARS = ("lie", "challenge", "surprise", "dispute", "barrage")
 
 
 class Maker:
     """One play. `onward` allows virtual ledgers; `notice` is told of each node after it acted. In a hasty play people
     leave while something opens; in a deceitful one liars go along at first and then lie at their turns."""
+    words, hub = HOSTILE, 0
 
     def __init__(self, seed, onward=True, notice=None):
         self.random = random.Random(f"{seed} {onward}")
         self.stage = Stage(self.random, notice)
         self.kind = self.random.choice(("mixed",) * 9 + ("hasty",) * 3 + ("deceitful",) * 8)
-        self.shape = shape_of(self.random, onward, self.kind == "deceitful")
+        self.shape = shape_of(self.random, onward, self.kind == "deceitful", self.hub)
         self.routes = (PLAIN, LEDGER, ONWARD) if onward else (PLAIN,)
         self.acts = Acts(self.stage, self.shape, self.routes)
 
@@ -83,8 +84,8 @@ class Maker:
 
     def act(self):
         """One hostile act."""
-        words = [word for word in HOSTILE if word not in BY_LIARS or self.stage.world.shadows]
-        word = self.random.choices(words, [HOSTILE[word] for word in words])[0]
+        words = [word for word in self.words if word not in BY_LIARS or self.stage.world.shadows]
+        word = self.random.choices(words, [self.words[word] for word in words])[0]
         getattr(self.acts, word)()
 
     def use(self):
@@ -193,11 +194,15 @@ def make(seed, onward=True, notice=None):
     return Maker(seed, onward, notice).make()
 
 
-def main(words):
-    script, routes = make(int(words[0]), "--scripts" not in words)
+def show(script, routes):
+    """Prints a script, and its routes to the standard error."""
     print(json.dumps(script))
     print(*routes, file=sys.stderr)
     return 0 if rules.first_broken(json.dumps(script).encode()) is None else 1
+
+
+def main(words):
+    return show(*make(int(words[0]), "--scripts" not in words))
 
 
 if __name__ == "__main__":

@@ -27,7 +27,7 @@ PICTURES = {
             {0: ("A pays 2",), 1: ("B pays 1",)}),
     "close": ("A and B close the channel C", "payment.json", 10, 11,
               {0: ("both sign a final state",), 2: ("one concludes with it",), 3: ("each is paid",)}),
-    "virtual": ("A and B open the virtual channel X through the hub", "hub.json", 14, 15,
+    "virtual": ("A and B open the virtual channel X through the hub", "intermediary.json", 14, 15,
                 {0: ("a first round of the two", "guarantors GA and GB, of the", "joint channel J, and of X"),
                  9: ("each ledger channel votes", "to set 5 aside for its", "guarantor, and repeats it"),
                  14: ("a second round of J:", "both ledger channels back it"),

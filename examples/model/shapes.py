@@ -223,6 +223,16 @@ def of_three(shape):
     on_a_ledger(shape)
 
 
+def clients(shape):
+    """An intermediary with three or four clients, of whom two may have a channel through it."""
+    for name in "ABDE"[:shape.random.choice((3, 3, 4))]:
+        app = "payment" if name in "DE" and shape.random.random() < 0.5 else "consensus"
+        pair = ("I", name) if name == "B" else (name, "I")
+        shape.root("L" + name, *pair, app)
+    if shape.random.random() < 0.7:
+        shape.virtual("X", PLAIN, ("A", "I", "B"), ("LA", "LB"))
+
+
 OVER_TWO = (hop, hop, hop, mirrored_hop, turned_hop, hop_twice, forked_hop, crowd, two_virtual_ledgers,
             beside_virtual_ledgers, mixed_hop, virtual_ledger_alone)
 OVER_ONE = (through_one, through_one, through_one_twice, on_a_ledger, of_three)
@@ -232,10 +242,14 @@ SMALL_OVER_TWO = (virtual_ledger_alone, virtual_ledger_alone, hop, mirrored_hop)
 SMALL_OVER_ONE = (through_one, through_one, on_a_ledger, of_three)
 
 
-def shape_of(random, onward, small):
-    """A random shape; without `onward` all its virtual channels are plain."""
+def shape_of(random, onward, small, hub=0):
+    """A random shape; without `onward` all its virtual channels are plain. `hub` is how often it is one of clients."""
     shape = Shape(random)
     shape.assets_may_differ(0.2)
+    if random.random() < hub:
+        clients(shape)
+        shape.add_spares((PLAIN,), 2)
+        return shape
     over_two = onward and random.random() < (0.65 if small else 0.8)
     if small:
         random.choice(SMALL_OVER_TWO if over_two else SMALL_OVER_ONE)(shape)

@@ -1,12 +1,14 @@
 #!/usr/bin/env python3
-"""What random plays reach: `survey.py FIRST COUNT` prints in how many plays each stage, refusal and reply was met."""
+"""What random plays reach: `survey.py FIRST COUNT [--scripts] [--hubs]` prints in how many plays each stage, refusal
+and reply was met, of `plays.py` or of `hubs.py`."""
 import json
 import sys
 from collections import Counter
 
+import hubs
+import plays
 from parts import OnLedger, Root
 from play import Play, rules
-from plays import make
 from values import CONSENSUS
 
 
@@ -32,6 +34,8 @@ class Survey:
             self.met.add(f"stage {kind_of(part)} {part.stage(node)}")
             if node.exited:
                 self.met.add(f"left in {kind_of(part)} {part.stage(node)}")
+            if part.released:
+                self.met.add(f"let go of, now {node.mode(part.channel.name)}")
 
     def end(self, world):
         for entry in world.adjudicator.history:
@@ -48,7 +52,7 @@ class Survey:
                      if line.startswith("person") and line.split()[4] != line.split()[6]}
 
 
-def survey(seed, onward=True):
+def survey(seed, onward=True, make=plays.make):
     found = Survey()
     script, routes = make(seed, onward)
     broken = rules.first_broken(json.dumps(script).encode())
@@ -59,14 +63,16 @@ def survey(seed, onward=True):
     for step in script["steps"]:
         world.take(step)
     found.end(world)
+    found.met |= {" ".join(it) for it in hubs.answered(script["steps"], world)}
     return found.met, len(script["steps"]), sum(it.get("count", 0) for it in script["steps"])
 
 
 def main(words):
     first, count = int(words[0]), int(words[1])
+    make = hubs.make if "--hubs" in words else plays.make
     total, steps, rounds = Counter(), [], []
     for seed in range(first, first + count):
-        met, step_count, round_count = survey(seed, "--scripts" not in words)
+        met, step_count, round_count = survey(seed, "--scripts" not in words, make)
         total.update(met)
         steps.append(step_count)
         rounds.append(round_count)

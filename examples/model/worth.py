@@ -7,9 +7,19 @@ from values import Allocation, Guarantee, asset_of
 
 def share(facts, asset):
     """What the person was paid, and what its plan is worth to it at the least."""
+    return facts.paid(asset) + min(worth.of_plan() for worth in _choices(facts, asset))
+
+
+def is_funded(facts, asset):
+    """Whether under each choice what stands on other channels reaches as far as the items that it is for."""
+    return all(worth.is_funded(part) for worth in _choices(facts, asset) for part in facts.parts)
+
+
+def _choices(facts, asset):
+    """The worth of the plan under each choice of outcomes."""
     names = [name for name in facts.own_channels() if facts.record(name).counts()]
-    choices = product(*(_possible(facts, name) for name in names))
-    return facts.paid(asset) + min(Worth(facts, asset, dict(zip(names, choice))).of_plan() for choice in choices)
+    return [Worth(facts, asset, dict(zip(names, choice)))
+            for choice in product(*(_possible(facts, name) for name in names))]
 
 
 def _possible(facts, name):
@@ -94,13 +104,42 @@ class Worth:
         return self.afforded(part.channel.name, self.facts.me) + min(self._owed(part, self.facts.me), left)
 
     def _of_middle(self, part):
-        """Either both guarantors together, or each for itself, leave enough after the channel and the ends."""
+        return min(self._owed(part, self.facts.me), self._left_between(part))
+
+    def _left_between(self, part):
+        """What an intermediary's two guarantors, together or each for itself, leave after the channel and the ends."""
         reached = [self.reach(it.name) for it in part.guarantors]
         channel = self._owed(part, part.channel.name)
         ends = [self._second(part, it.name) for it in part.guarantors]
         together = less(sum(reached), channel + sum(ends))
-        apart = sum(less(has, channel + end) for has, end in zip(reached, ends))
-        return min(self._owed(part, self.facts.me), max(together, apart))
+        return max(together, sum(less(has, channel + end) for has, end in zip(reached, ends)))
+
+    # ---- funded
+
+    def is_funded(self, part):
+        """Whether its ledgers hold what they owe, and each channel on them reaches the person's item."""
+        if isinstance(part, Root):
+            return True
+        if not all(sum(amount for _, amount in self.items(name)) <= self.reach(name) for name in part.ledgers):
+            return False
+        if not hasattr(part, "guarantors"):
+            return self._reaches_me(part.ledger.name, part.channel.name)
+        lent = all(self.amount(ledger.name, it.name) is not None
+                   for ledger, it in zip(part.own_ledgers, part.own_guarantors()))
+        if not part.is_end():
+            return not lent or self._owed(part, self.facts.me) <= self._left_between(part)
+        owed = self._owed(part, part.channel.name) + self._owed(part, self.facts.me)
+        return self._reaches_me(part.joint.name, part.channel.name) and (
+            not lent or owed <= self.reach(part.own_guarantors()[0].name))
+
+    def _reaches_me(self, payer, name):
+        """Whether a channel that counts, and for which the payer has an item, reaches as far as the person's own."""
+        up_to = 0
+        for to, amount in self.items(name):
+            up_to += amount
+            if to == self.facts.me:
+                break
+        return name not in self.chosen or self.amount(payer, name) is None or up_to <= self.reach(name)
 
     def _second(self, part, guarantor):
         """What the joint channel owes to the second destination of a guarantor's list."""
