@@ -290,7 +290,9 @@ def leave(program, folder, seed):
             play.pay(number)
         if play.chance.random() < 0.5:
             play.pay(count, is_carried=False)
-        left = play.chance.choice([person for person in play.people if play.balance[person.place] > 0])
+        # (nobody may have anything, where all was paid by a message that was lost)
+        owed = [person for person in play.people if play.balance[person.place] > 0]
+        left = play.chance.choice(owed or play.people)
         play.leave_alone(left, play.people[1 - left.place])
         play.finish()
         return play.told()
