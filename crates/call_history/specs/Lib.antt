@@ -15,5 +15,6 @@ pub mod Reading
 pub mod Marked
 pub mod Shown
 pub mod Tables
+pub mod Viewed
 pub mod Told
 pub mod Same

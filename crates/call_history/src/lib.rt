@@ -4,6 +4,7 @@
 mod answering;
 mod balances;
 mod call;
+mod channel_views;
 mod display;
 mod entry;
 mod event;
@@ -12,6 +13,7 @@ mod funds;
 mod held_chain;
 mod items;
 mod laws;
+mod paid_amounts;
 mod refusal;
 mod row;
 mod standing;
@@ -23,6 +25,7 @@ mod view;
 pub use answering::answered;
 pub use balances::{deposited, held, held_by_all, paid, paid_to_all};
 pub use call::{Call, ChallengeCall, ClaimCall, DepositCall, Op, RespondCall, TransferCall};
+pub use channel_views::ChannelViews;
 pub use entry::Entry;
 pub use event::{Deed, Event, NodeRefusal};
 pub use flows::flow_of;
@@ -34,6 +37,7 @@ pub use laws::{
     no_channel_pays_more_than_it_holds, nobody_holds_more_than_was_deposited, payouts_lower_both,
     same_calls_are_one,
 };
+pub use paid_amounts::PaidAmounts;
 pub use refusal::{Refusal, Reply};
 pub use row::{Row, row_or_blank};
 pub use standing::{Standing, mode};

@@ -1,5 +1,7 @@
 //! What a caller knows of the adjudicator's history.
 
+use crate::channel_views::ChannelViews;
+use crate::paid_amounts::PaidAmounts;
 use channel_values::{Chain, Listed, Name, Outcome};
 
 /// What is known of a channel: its recorded turn, the deadline of an open challenge, what it holds by asset, the
@@ -21,6 +23,6 @@ pub struct ChannelView {
 pub struct WorldView {
     pub now: u64,
     pub count: u32,
-    pub channels: Listed<ChannelView>,
-    pub paid: Listed<(Name, u32, u64)>,
+    pub channels: ChannelViews,
+    pub paid: PaidAmounts,
 }

@@ -21,7 +21,7 @@ fn is_final_at(now: u64, view: Option<&ChannelView>) -> bool
 fn is_final_in(world: &WorldView, name: &Name) -> bool
     ensures { result ≡ exits.is_final_in world.entry.now name.now }
 {
-    is_final_at(world.now, view_in(world.channels.as_slice(), name))
+    is_final_at(world.now, view_in(&world.channels, name))
 }
 
 fn settled_at<'a>(view: Option<&'a ChannelView>) -> Option<&'a Outcome>
@@ -36,7 +36,7 @@ fn settled_at<'a>(view: Option<&'a ChannelView>) -> Option<&'a Outcome>
 fn settled_in<'a>(world: &'a WorldView, name: &Name) -> Option<&'a Outcome>
     ensures { option_copied result ≡ exits.settled_at (gathered.view_in name.now world.entry.now.channels) }
 {
-    settled_at(view_in(world.channels.as_slice(), name))
+    settled_at(view_in(&world.channels, name))
 }
 
 /// What a final channel ended with.

@@ -12,7 +12,7 @@ use crate::child::Child;
 use crate::facts::Facts;
 use crate::plan::{Goal, Part};
 use crate::seat::SeatView;
-use call_history::{ChannelView, HeldChain, Known, Place, newest};
+use call_history::{ChannelView, ChannelViews, HeldChain, Known, Place, newest};
 use channel_values::{Name, State};
 
 /// The participant's place in a channel.
@@ -30,10 +30,10 @@ pub fn chain_in<'a>(chains: &'a [HeldChain], name: &Name) -> Option<&'a HeldChai
 }
 
 /// What the view says of a channel.
-pub fn view_in<'a>(views: &'a [ChannelView], name: &Name) -> Option<&'a ChannelView>
+pub fn view_in<'a>(views: &'a ChannelViews, name: &Name) -> Option<&'a ChannelView>
     ensures { option_copied result ≡ gathered.view_in name.now views.now }
 {
-    views.iter().find(|view| view.channel == *name)
+    views.get(name)
 }
 
 fn known_in<'a>(known: &'a [Known], name: &Name) -> Option<&'a Known>

@@ -1,16 +1,12 @@
 -- What is held of an asset and what a person was paid of it, at their places and changed.
 use Rattle.std.proofs.Common.{◌≡◌, ℕ, ◌<◌, ◌≤◌, List, [], ◌∷◌, ◌++◌, length, set, get_or, sym, ap}
 use Rattle.std.specs.List.{position_or_len}
-use Rattle.call_history.proofs.Tabled.{changed_at, added_at, found_at, none_at}
+use Rattle.call_history.proofs.Tabled.{changed_at, added_at, found_at, none_at, changed_same}
 use Rattle.history_view.specs.Views.{is_in, held_amount, held_with, is_paid, paid_amount, paid_with}
-use Rattle.history_view.proofs.Placed.{changed_same}
 
 -- past the end of the balances
 abbrev pub no_balance : ℕ × ℕ
 no_balance = (0, 0)
-
-abbrev pub no_payment : List ℕ × ℕ × ℕ
-no_payment = ([], 0, 0)
 
 -- ---- what is held
 
@@ -35,22 +31,6 @@ held_changed change held asset amount e =
     changed_same (is_in asset) (λ balance. (asset, amount)) (λ balance. (asset, change balance.1)) (asset, 0) held (ap (λ (n : ℕ). (asset, n)) e)
 
 -- ---- what was paid
-
-pub paid_at : (paid : List (List ℕ × ℕ × ℕ)) (person : List ℕ) (asset i : ℕ) (d : List ℕ × ℕ × ℕ) → i ≡ position_or_len (is_paid person asset) paid → i < length paid
-    → (get_or paid i d).2 ≡ paid_amount paid person asset
-paid_at paid person asset i d at lt = ap (λ (balance : List ℕ × ℕ × ℕ). balance.2) (found_at (is_paid person asset) (person, asset, 0) d paid i at lt)
-
-pub paid_past : (paid : List (List ℕ × ℕ × ℕ)) (person : List ℕ) (asset i : ℕ) → i ≡ position_or_len (is_paid person asset) paid → length paid ≤ i
-    → paid_amount paid person asset ≡ 0
-paid_past paid person asset i at le = ap (λ (balance : List ℕ × ℕ × ℕ). balance.2) (sym (none_at (is_paid person asset) (person, asset, 0) paid i at le))
-
-pub paid_set_at : (paid : List (List ℕ × ℕ × ℕ)) (person : List ℕ) (asset i amount : ℕ) → i ≡ position_or_len (is_paid person asset) paid → i < length paid
-    → set paid i (person, asset, amount) ≡ paid_with (λ before. amount) person asset paid
-paid_set_at paid person asset i amount at lt = changed_at (is_paid person asset) (λ balance. (person, asset, amount)) (person, asset, 0) no_payment paid i at lt
-
-pub paid_set_past : (paid : List (List ℕ × ℕ × ℕ)) (person : List ℕ) (asset i amount : ℕ) → i ≡ position_or_len (is_paid person asset) paid → length paid ≤ i
-    → paid ++ (person, asset, amount) ∷ [] ≡ paid_with (λ before. amount) person asset paid
-paid_set_past paid person asset i amount at le = added_at (is_paid person asset) (λ balance. (person, asset, amount)) (person, asset, 0) paid i at le
 
 pub paid_changed : (change : ℕ → ℕ) (paid : List (List ℕ × ℕ × ℕ)) (person : List ℕ) (asset amount : ℕ) → amount ≡ change (paid_amount paid person asset)
     → paid_with (λ before. amount) person asset paid ≡ paid_with change person asset paid

@@ -1,4 +1,3 @@
-pub mod Placed
 pub mod Amounts
 pub mod Known
 pub mod Lowered

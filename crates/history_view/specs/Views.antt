@@ -1,7 +1,7 @@
 -- Views: what is known of a history, and what one more entry makes of it.
-use Rattle.std.specs.Prelude.{ℕ, ◌+◌, ◌-◌, ◌==◌, Bool, ◌&&◌, nat_lt, List, [], ◌∷◌, Option, Some, None, if◌then◌else◌}
+pub use Rattle.call_history.specs.Viewed.{unknown, is_of, view_of, views_with, is_paid, paid_amount, paid_with}
+use Rattle.std.specs.Prelude.{ℕ, ◌+◌, ◌-◌, ◌==◌, Bool, nat_lt, List, [], ◌∷◌, Option, Some, None, if◌then◌else◌}
 use Rattle.std.specs.Option.{option_map}
-use Rattle.std.specs.Str.{bytes_eq}
 use Rattle.channel_values.specs.Parts.{FixedParts}
 use Rattle.channel_values.specs.declared.chain.Chain.{Chain}
 use Rattle.channel_values.specs.declared.chain.Signed.{Signed}
@@ -23,20 +23,7 @@ use Rattle.call_history.specs.declared.funds.Payment.{Payment}
 use Rattle.call_history.specs.declared.view.ChannelView.{ChannelView}
 use Rattle.call_history.specs.declared.view.WorldView.{WorldView}
 
--- ---- what is known of a channel, what it holds of an asset, and what a person was paid
-
-abbrev pub unknown : List ℕ → ChannelView
-unknown channel =
-    record { channel = channel; turn = 0; deadline = None; held = []; shown = None; settled = None; rest = None }
-
-abbrev pub is_of : List ℕ → ChannelView → Bool
-is_of channel v = bytes_eq v.channel channel
-
-abbrev pub view_of : List ChannelView → List ℕ → ChannelView
-view_of views channel = found (is_of channel) (unknown channel) views
-
-abbrev pub views_with : (ChannelView → ChannelView) → List ℕ → List ChannelView → List ChannelView
-views_with change channel views = changed (is_of channel) change (unknown channel) views
+-- ---- what a channel holds of an asset
 
 abbrev pub is_in : ℕ → ℕ × ℕ → Bool
 is_in asset balance = balance.0 == asset
@@ -46,16 +33,6 @@ held_amount held asset = (found (is_in asset) (asset, 0) held).1
 
 abbrev pub held_with : (ℕ → ℕ) → ℕ → List (ℕ × ℕ) → List (ℕ × ℕ)
 held_with change asset held = changed (is_in asset) (λ balance. (asset, change balance.1)) (asset, 0) held
-
-abbrev pub is_paid : List ℕ → ℕ → List ℕ × ℕ × ℕ → Bool
-is_paid person asset balance = bytes_eq balance.0 person && (balance.1 == asset)
-
-abbrev pub paid_amount : List (List ℕ × ℕ × ℕ) → List ℕ → ℕ → ℕ
-paid_amount paid person asset = (found (is_paid person asset) (person, asset, 0) paid).2
-
-abbrev pub paid_with : (ℕ → ℕ) → List ℕ → ℕ → List (List ℕ × ℕ × ℕ) → List (List ℕ × ℕ × ℕ)
-paid_with change person asset paid =
-    changed (is_paid person asset) (λ balance. (person, asset, change balance.2)) (person, asset, 0) paid
 
 -- ---- the chain that is shown
 

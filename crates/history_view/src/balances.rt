@@ -1,10 +1,10 @@
 //! What a channel holds by asset, and what persons were paid.
 
-ghost use Rattle.std.specs.Prelude.{◌≡◌, ◌<◌, ◌+◌, ◌-◌, ◌^◌, ◌==◌, ◌&&◌, OnOk};
+ghost use Rattle.std.specs.Prelude.{◌≡◌, ◌<◌, ◌+◌, ◌-◌, ◌^◌, ◌==◌, OnOk};
 ghost use Rattle.std.specs.List.{position_or_len};
-ghost use Rattle.std.specs.Str.{bytes_eq};
-ghost use Rattle.history_view.specs.Views.{is_in, held_amount, held_with, is_paid, paid_amount, paid_with};
+ghost use Rattle.history_view.specs.Views.{is_in, held_amount, held_with, paid_amount, paid_with};
 
+use call_history::PaidAmounts;
 use channel_values::{Listed, Name, NoMemory};
 
 fn is_in(balance: &(u32, u64), asset: u32) -> bool
@@ -73,55 +73,9 @@ pub(crate) fn raise_held(
     set_held(held, asset, more)
 }
 
-fn is_paid(balance: &(Name, u32, u64), person: &Name, asset: u32) -> bool
-    ensures { result ≡ is_paid person.now asset balance.now }
-{
-    balance.0 == *person && balance.1 == asset
-}
-
-/// The place of the person and the asset, or the length where the person was paid nothing of it.
-fn place_paid(paid: &[(Name, u32, u64)], person: &Name, asset: u32) -> usize
-    ensures { result ≡ position_or_len (is_paid person.now asset) paid.now }
-{
-    for (place, balance) in paid.iter().enumerate() {
-        if is_paid(balance, person, asset) {
-            return place;
-        }
-    }
-    paid.len()
-}
-
-/// What the person was paid of the asset.
-#[tactic(auto, using(crate::proofs::Amounts::paid_at, crate::proofs::Amounts::paid_past))]
-pub(crate) fn amount_paid(paid: &[(Name, u32, u64)], person: &Name, asset: u32) -> u64
-    ensures { result ≡ paid_amount paid.now person.now asset }
-{
-    let place = place_paid(paid, person, asset);
-    if place < paid.len() { paid[place].2 } else { 0 }
-}
-
-/// Sets what the person was paid of the asset.
-#[tactic(auto, using(crate::proofs::Amounts::paid_set_at, crate::proofs::Amounts::paid_set_past))]
-fn set_paid(
-    paid: &mut Listed<(Name, u32, u64)>,
-    person: &Name,
-    asset: u32,
-    amount: u64,
-) -> Result<(), NoMemory>
-    ensures { OnOk result (paid.new ≡ paid_with (λ before. amount) person.now asset paid.old) }
-{
-    let place = place_paid(paid.as_slice(), person, asset);
-    if place < paid.as_slice().len() {
-        paid.set(place, (*person, asset, amount));
-        Ok(())
-    } else {
-        paid.push((*person, asset, amount))
-    }
-}
-
 /// Adds an amount to what the person was paid of the asset.
 pub(crate) fn raise_paid(
-    paid: &mut Listed<(Name, u32, u64)>,
+    paid: &mut PaidAmounts,
     person: &Name,
     asset: u32,
     amount: u64,
@@ -129,6 +83,6 @@ pub(crate) fn raise_paid(
     requires { paid_amount paid.old person.now asset + amount < 2 ^ 64 }
     ensures { OnOk result (paid.new ≡ paid_with (λ n. n + amount) person.now asset paid.old) }
 {
-    let more = amount_paid(paid.as_slice(), person, asset) + amount;
-    set_paid(paid, person, asset, more)
+    let more = paid.amount(person, asset) + amount;
+    paid.set(person, asset, more)
 }

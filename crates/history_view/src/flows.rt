@@ -5,9 +5,8 @@ ghost use Rattle.history_view.specs.Views.{held_amount, view_of, channel_gave, c
 ghost use Rattle.history_view.specs.Room.{HasRoom};
 
 use crate::balances::{lower_held, raise_held, raise_paid};
-use crate::channels::place_for;
-use call_history::{ChannelView, Flow};
-use channel_values::{Dest, Listed, Name, NoMemory};
+use call_history::{ChannelView, ChannelViews, Flow, PaidAmounts};
+use channel_values::{Dest, Name, NoMemory};
 
 fn lower_view(view: &mut ChannelView, asset: u32, amount: u64) -> Result<(), NoMemory>
     ensures { OnOk result (view.new ≡ channel_gave asset amount view.old) }
@@ -24,44 +23,46 @@ fn raise_view(view: &mut ChannelView, asset: u32, amount: u64) -> Result<(), NoM
 
 /// The source gives, if it is a channel.
 fn give(
-    views: &mut Vec<ChannelView>,
+    views: &mut ChannelViews,
     from: Option<Name>,
     asset: u32,
     amount: u64,
 ) -> Result<(), NoMemory>
-    ensures { OnOk result (views.new.items ≡ views_gave from asset amount views.old.items) }
+    ensures { OnOk result (views.new ≡ views_gave from asset amount views.old) }
 {
     let Some(source) = from else {
         return Ok(());
     };
-    let place = place_for(views, &source)?;
-    lower_view(&mut views[place], asset, amount)
+    let mut view = views.take(&source)?;
+    lower_view(&mut view, asset, amount)?;
+    views.put(view)
 }
 
 /// A channel receives.
 fn receive(
-    views: &mut Vec<ChannelView>,
+    views: &mut ChannelViews,
     channel: &Name,
     asset: u32,
     amount: u64,
 ) -> Result<(), NoMemory>
-    requires { held_amount (view_of views.old.items channel.now).held asset + amount < 2 ^ 64 }
-    ensures { OnOk result (views.new.items ≡ views_with (channel_got asset amount) channel.now views.old.items) }
+    requires { held_amount (view_of views.old channel.now).held asset + amount < 2 ^ 64 }
+    ensures { OnOk result (views.new ≡ views_with (channel_got asset amount) channel.now views.old) }
 {
-    let place = place_for(views, channel)?;
-    raise_view(&mut views[place], asset, amount)
+    let mut view = views.take(channel)?;
+    raise_view(&mut view, asset, amount)?;
+    views.put(view)
 }
 
 /// The destination receives.
 fn deliver(
-    views: &mut Vec<ChannelView>,
-    paid: &mut Listed<(Name, u32, u64)>,
+    views: &mut ChannelViews,
+    paid: &mut PaidAmounts,
     to: Dest,
     asset: u32,
     amount: u64,
 ) -> Result<(), NoMemory>
-    requires { HasRoom to asset amount views.old.items paid.old }
-    ensures views { OnOk result (views.new.items ≡ views_got to asset amount views.old.items) }
+    requires { HasRoom to asset amount views.old paid.old }
+    ensures views { OnOk result (views.new ≡ views_got to asset amount views.old) }
     ensures paid { OnOk result (paid.new ≡ paid_got to asset amount paid.old) }
 {
     match to {
@@ -72,14 +73,14 @@ fn deliver(
 
 /// Moves funds from their source to their destination.
 pub(crate) fn move_funds(
-    views: &mut Vec<ChannelView>,
-    paid: &mut Listed<(Name, u32, u64)>,
+    views: &mut ChannelViews,
+    paid: &mut PaidAmounts,
     flow: Flow,
 ) -> Result<(), NoMemory>
     requires { HasRoom flow.to flow.asset flow.amount
-        (views_gave flow.from flow.asset flow.amount views.old.items) paid.old }
-    ensures views { OnOk result (views.new.items
-        ≡ views_got flow.to flow.asset flow.amount (views_gave flow.from flow.asset flow.amount views.old.items)) }
+        (views_gave flow.from flow.asset flow.amount views.old) paid.old }
+    ensures views { OnOk result (views.new
+        ≡ views_got flow.to flow.asset flow.amount (views_gave flow.from flow.asset flow.amount views.old)) }
     ensures paid { OnOk result (paid.new ≡ paid_got flow.to flow.asset flow.amount paid.old) }
 {
     give(views, flow.from, flow.asset, flow.amount)?;

@@ -15,19 +15,18 @@ ghost use Rattle.history_view.specs.Room.{HaveRoom, turns_short, CanFollow};
 use crate::flows::move_funds;
 use crate::payments::{pay_item, payment_of};
 use crate::turning::turn_channel;
-use call_history::{ChannelView, Entry, Op, WorldView, fixed_of, flow_of, time_set};
-use channel_values::{Listed, Name, NoMemory};
+use call_history::{ChannelViews, Entry, Op, PaidAmounts, WorldView, fixed_of, flow_of, time_set};
+use channel_values::NoMemory;
 use std::alloc::Global;
-use std::mem;
 
 /// Moves the funds of an accepted call, if it moves any.
 fn follow_flow(
-    views: &mut Vec<ChannelView>,
-    paid: &mut Listed<(Name, u32, u64)>,
+    views: &mut ChannelViews,
+    paid: &mut PaidAmounts,
     entry: &Entry,
 ) -> Result<(), NoMemory>
-    requires { HaveRoom (flow_of entry.now.op entry.now.reply) views.old.items paid.old }
-    ensures views { OnOk result (views.new.items ≡ views_moved (flow_of entry.now.op entry.now.reply) views.old.items) }
+    requires { HaveRoom (flow_of entry.now.op entry.now.reply) views.old paid.old }
+    ensures views { OnOk result (views.new ≡ views_moved (flow_of entry.now.op entry.now.reply) views.old) }
     ensures paid { OnOk result (paid.new ≡ paid_moved (flow_of entry.now.op entry.now.reply) paid.old) }
 {
     match flow_of(&entry.op, &entry.reply) {
@@ -37,8 +36,8 @@ fn follow_flow(
 }
 
 /// Lowers the item that an accepted call pays, if it pays any.
-fn follow_payment(views: &mut Vec<ChannelView>, entry: &Entry) -> Result<(), NoMemory>
-    ensures { OnOk result (views.new.items ≡ views_paid (payment_of entry.now.op entry.now.reply) views.old.items) }
+fn follow_payment(views: &mut ChannelViews, entry: &Entry) -> Result<(), NoMemory>
+    ensures { OnOk result (views.new ≡ views_paid (payment_of entry.now.op entry.now.reply) views.old) }
 {
     match payment_of(&entry.op, &entry.reply) {
         Some(payment) => pay_item(views, payment),
@@ -48,18 +47,18 @@ fn follow_payment(views: &mut Vec<ChannelView>, entry: &Entry) -> Result<(), NoM
 
 /// What the entry makes of what is known of channels and of payments. The time is that before it.
 fn follow_calls(
-    views: &mut Vec<ChannelView>,
-    paid: &mut Listed<(Name, u32, u64)>,
+    views: &mut ChannelViews,
+    paid: &mut PaidAmounts,
     now: u64,
     entry: &Entry,
 ) -> Result<(), NoMemory>
-    requires room { HaveRoom (flow_of entry.now.op entry.now.reply) views.old.items paid.old }
+    requires room { HaveRoom (flow_of entry.now.op entry.now.reply) views.old paid.old }
     requires short { turns_short name_of entry.now.op (fixed_of entry.now.op)
-        (told_row now entry.now.op entry.now.reply) views.old.items ≡ true }
-    ensures views { OnOk result (views.new.items ≡ views_paid (payment_of entry.now.op entry.now.reply)
+        (told_row now entry.now.op entry.now.reply) views.old ≡ true }
+    ensures views { OnOk result (views.new ≡ views_paid (payment_of entry.now.op entry.now.reply)
         (views_moved (flow_of entry.now.op entry.now.reply)
         (views_turned name_of entry.now.op (fixed_of entry.now.op)
-        (told_row now entry.now.op entry.now.reply) views.old.items))) }
+        (told_row now entry.now.op entry.now.reply) views.old))) }
     ensures paid { OnOk result (paid.new ≡ paid_moved (flow_of entry.now.op entry.now.reply) paid.old) }
 {
     turn_channel(views, now, entry)?;
@@ -73,11 +72,7 @@ fn follow_entry(view: &mut WorldView, entry: &Entry) -> Result<(), NoMemory>
         (told_row view.old.now entry.now.op entry.now.reply) view.old.channels ≡ true }
     ensures { OnOk result (view.new ≡ followed name_of entry.now view.old) }
 {
-    let now = view.now;
-    let none = Listed::make(Vec::new(view.channels.allocator()));
-    let mut channels = mem::replace(&mut view.channels, none).into_vec();
-    follow_calls(&mut channels, &mut view.paid, now, entry)?;
-    view.channels = Listed::make(channels);
+    follow_calls(&mut view.channels, &mut view.paid, view.now, entry)?;
     if let Some(to) = time_set(entry) {
         view.now = to;
     }
@@ -115,7 +110,7 @@ pub fn unseen(alloc: Global) -> WorldView
     WorldView {
         now: 0,
         count: 0,
-        channels: Listed::make(Vec::new(alloc)),
-        paid: Listed::make(Vec::new(alloc)),
+        channels: ChannelViews::new(alloc),
+        paid: PaidAmounts::new(alloc),
     }
 }

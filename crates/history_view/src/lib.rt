@@ -2,7 +2,6 @@
 #![tactic(auto)]
 
 mod balances;
-mod channels;
 mod flows;
 mod following;
 pub mod laws;

@@ -8,10 +8,9 @@ ghost use Rattle.call_history.specs.Dues.{shape_in};
 ghost use Rattle.call_history.specs.History.{listed_dest, place_in, payment_of};
 ghost use Rattle.history_view.specs.Views.{channel_paid, views_with};
 
-use crate::channels::place_for;
 use crate::lowering::lowered_outcome;
 use call_history::{
-    Call, ChannelView, ClaimCall, Op, Payment, Reply, listed_dest, place_of, shape_in,
+    Call, ChannelView, ChannelViews, ClaimCall, Op, Payment, Reply, listed_dest, place_of, shape_in,
 };
 use channel_values::{AssetOutcome, Dest, NoMemory, Shape};
 
@@ -93,9 +92,10 @@ fn lower_rest(view: &mut ChannelView, payment: Payment) -> Result<(), NoMemory>
 }
 
 /// Lowers what is left of the item that was paid.
-pub(crate) fn pay_item(views: &mut Vec<ChannelView>, payment: Payment) -> Result<(), NoMemory>
-    ensures { OnOk result (views.new.items ≡ views_with (channel_paid payment) payment.channel views.old.items) }
+pub(crate) fn pay_item(views: &mut ChannelViews, payment: Payment) -> Result<(), NoMemory>
+    ensures { OnOk result (views.new ≡ views_with (channel_paid payment) payment.channel views.old) }
 {
-    let place = place_for(views, &payment.channel)?;
-    lower_rest(&mut views[place], payment)
+    let mut view = views.take(&payment.channel)?;
+    lower_rest(&mut view, payment)?;
+    views.put(view)
 }

@@ -5,25 +5,17 @@ ghost use Rattle.std.specs.List.{find};
 ghost use Rattle.std.specs.Option.{option_map};
 ghost use Rattle.history_view.specs.Views.{unknown, is_of, view_of, held_amount, paid_amount};
 
-use crate::balances::{amount_held, amount_paid};
-use crate::channels::place_of;
+use crate::balances::amount_held;
 use call_history::{ChannelView, WorldView};
 use channel_values::Name;
 
 /// What is known of the channel, if anything is.
-#[tactic(auto, using(crate::proofs::Known::find_there, crate::proofs::Known::find_past, crate::proofs::Known::view_there, crate::proofs::Known::view_past))]
 pub fn view_of<'a>(view: &'a WorldView, channel: &Name) -> Option<&'a ChannelView>
     ensures found { option_map (λ v. v.now) result ≡ find (is_of channel.now) view.entry.now.channels }
     ensures meant { MatchOption result (view_of view.entry.now.channels channel.now ≡ unknown channel.now)
         (λ v. view_of view.entry.now.channels channel.now ≡ v.now) }
 {
-    let views = view.channels.as_slice();
-    let place = place_of(views, channel);
-    if place < views.len() {
-        Some(&views[place])
-    } else {
-        None
-    }
+    view.channels.get(channel)
 }
 
 /// What the channel holds of the asset.
@@ -40,5 +32,5 @@ pub fn held_amount(view: &WorldView, channel: &Name, asset: u32) -> u64
 pub fn paid_amount(view: &WorldView, person: &Name, asset: u32) -> u64
     ensures { result ≡ paid_amount view.entry.now.paid person.now asset }
 {
-    amount_paid(view.paid.as_slice(), person, asset)
+    view.paid.amount(person, asset)
 }

@@ -6,15 +6,15 @@ ghost use Rattle.call_history.specs.History.{settles};
 ghost use Rattle.call_history.specs.Rows.{fixed_of};
 ghost use Rattle.call_history.specs.Told.{told_row};
 ghost use Rattle.call_history.specs.Naming.{name_of};
-ghost use Rattle.history_view.specs.Views.{newer_shown, shown_after, channel_turned, views_turned};
+ghost use Rattle.history_view.specs.Views.{newer_shown, shown_after, channel_turned, view_of, views_with, views_turned};
 ghost use Rattle.history_view.specs.Room.{is_short, turns_short};
 
-use crate::channels::place_for;
 use crate::lowering::outcome_of;
 use call_history::{
-    Call, ChallengeCall, ChannelView, Entry, Op, answered, fixed_of, newest, told_row, top_turn,
+    Call, ChallengeCall, ChannelView, ChannelViews, Entry, Op, answered, fixed_of, newest,
+    told_row, top_turn,
 };
-use channel_values::{Chain, NoMemory, Outcome, channel_name};
+use channel_values::{Chain, Name, NoMemory, Outcome, channel_name};
 use std::alloc::Global;
 
 /// The newer chain, at equal turns the later one.
@@ -102,17 +102,33 @@ fn turn_view(
     Ok(())
 }
 
+/// Turns what is known of the channel.
+fn turn_known(
+    views: &mut ChannelViews,
+    channel: &Name,
+    op: &Op,
+    turn: u64,
+    deadline: Option<u64>,
+) -> Result<(), NoMemory>
+    requires { is_short op.now (view_of views.old channel.now).shown ≡ true }
+    ensures { OnOk result (views.new ≡ views_with (channel_turned op.now (turn, deadline)) channel.now views.old) }
+{
+    let mut view = views.take(channel)?;
+    turn_view(&mut view, op, turn, deadline)?;
+    views.put(view)
+}
+
 /// Turns what is known of the entry's channel, if the entry turns one. The time is that before it.
 pub(crate) fn turn_channel(
-    views: &mut Vec<ChannelView>,
+    views: &mut ChannelViews,
     now: u64,
     entry: &Entry,
 ) -> Result<(), NoMemory>
     requires { turns_short name_of entry.now.op (fixed_of entry.now.op)
-        (told_row now entry.now.op entry.now.reply) views.old.items ≡ true }
-    ensures { OnOk result (views.new.items
+        (told_row now entry.now.op entry.now.reply) views.old ≡ true }
+    ensures { OnOk result (views.new
         ≡ views_turned name_of entry.now.op (fixed_of entry.now.op)
-        (told_row now entry.now.op entry.now.reply) views.old.items) }
+        (told_row now entry.now.op entry.now.reply) views.old) }
 {
     let Some(fixed) = fixed_of(&entry.op) else {
         return Ok(());
@@ -121,6 +137,5 @@ pub(crate) fn turn_channel(
         return Ok(());
     };
     let channel = channel_name(fixed.bytes());
-    let place = place_for(views, &channel)?;
-    turn_view(&mut views[place], &entry.op, turn, deadline)
+    turn_known(views, &channel, &entry.op, turn, deadline)
 }

@@ -74,7 +74,7 @@ fn direct_with<'a>(facts: &Facts<'a>, name: &Name, goal: &'a Goal) -> Option<Dir
 {
     let channel = seat_with(facts, name, Aim::make(AimKind::Given(&goal.opening)))?;
     let held = chain_in(facts.chains, name);
-    let view = view_in(facts.view.channels.as_slice(), name);
+    let view = view_in(&facts.view.channels, name);
     Some(DirectView {
         channel,
         opening: &goal.opening,

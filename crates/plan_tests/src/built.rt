@@ -1,6 +1,6 @@
 //! Outcomes, plans and views that are built from rows of plain values.
 
-use call_history::{ChannelView, HeldChain, WorldView};
+use call_history::{ChannelViews, HeldChain, PaidAmounts, WorldView};
 use channel_values::{
     AssetOutcome, ByteFault, Chain, Dest, Fixed, Item, Listed, Name, Outcome, Shape, State,
 };
@@ -118,11 +118,11 @@ pub(super) fn plan_of(alloc: Global, me: Name, parts: &[Part]) -> Result<Plan, B
 }
 
 /// A view of these channels, in which nobody was paid.
-pub(super) fn view_of(alloc: Global, now: u64, channels: Vec<ChannelView>) -> WorldView {
+pub(super) fn view_of(alloc: Global, now: u64, channels: ChannelViews) -> WorldView {
     WorldView {
         now,
         count: 0,
-        channels: Listed::make(channels),
-        paid: Listed::make(Vec::new(alloc)),
+        channels,
+        paid: PaidAmounts::new(alloc),
     }
 }

@@ -1,7 +1,7 @@
 //! The exit of one person from one channel.
 
 use crate::built::{A, Body, CHANNEL, TO_A, TO_B, held_with, outcome_of, plan_of, view_of};
-use call_history::{Call, ChannelView, WorldView};
+use call_history::{Call, ChannelView, ChannelViews, WorldView};
 use channel_exits::{ExitFault, exit_calls};
 use channel_values::{ByteFault, Listed, Name};
 use funding_plans::Part;
@@ -32,7 +32,8 @@ fn channel_of(alloc: Global) -> Result<ChannelView, ByteFault> {
 }
 
 fn seen_at(alloc: Global, now: u64) -> Result<WorldView, ByteFault> {
-    let channels = Vec::from_array(alloc, [channel_of(alloc)?])?;
+    let mut channels = ChannelViews::new(alloc);
+    channels.push(channel_of(alloc)?)?;
     Ok(view_of(alloc, now, channels))
 }
 

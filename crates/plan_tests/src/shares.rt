@@ -4,7 +4,7 @@ use crate::built::{
     A, B, Body, CHANNEL, GUARANTOR_A, GUARANTOR_B, I, JOINT, LEDGER_A, LEDGER_B, TO_A, TO_B, TO_I,
     VIRTUAL, outcome_of, plan_of, state_of, view_of,
 };
-use call_history::{ChannelView, Known, WorldView};
+use call_history::{ChannelView, ChannelViews, Known, WorldView};
 use channel_values::{ByteFault, Dest, Listed, Name, NoMemory, State};
 use funding_plans::{Part, Plan, Virtual};
 use plan_share::{is_funded, is_owed, share};
@@ -116,12 +116,12 @@ fn holding(alloc: Global, channel: Name, amount: u64) -> Result<ChannelView, Byt
 
 /// A view in which both ledgers hold an amount, and A was paid 4.
 fn seen(alloc: Global, amount: u64) -> Result<WorldView, ByteFault> {
-    let mut channels = Vec::new(alloc);
+    let mut channels = ChannelViews::new(alloc);
     for ledger in [LEDGER_A, LEDGER_B] {
         channels.push(holding(alloc, ledger, amount)?)?;
     }
     let mut view = view_of(alloc, 0, channels);
-    view.paid.push((A, 0, 4))?;
+    view.paid.set(&A, 0, 4)?;
     Ok(view)
 }
 

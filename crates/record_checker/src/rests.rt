@@ -10,7 +10,10 @@ ghost use Rattle.record_checker.specs.Past.{AreRests};
 ghost use Rattle.history_view.specs.Views.{view_of};
 ghost use Rattle.support_rules.specs.Real.{real};
 
-use call_history::{Call, ChallengeCall, ChannelView, Entry, Op, Reply, WorldView, flow_of};
+use call_history::{
+    Call, ChallengeCall, ChannelView, ChannelViews, Entry, Op, PaidAmounts, Reply, WorldView,
+    flow_of,
+};
 use channel_values::{Listed, Name, NoMemory, Outcome, channel_name};
 use history_view::{follow, view_of};
 use indexmap::IndexMap;
@@ -98,7 +101,7 @@ fn alone(
 ) -> Result<WorldView, NoMemory>
     ensures { IfOk result (λ w. w ≡ past.alone now number channel.now rest) }
 {
-    let mut channels = Vec::new(alloc);
+    let mut channels = ChannelViews::new(alloc);
     channels.push(ChannelView {
         channel: *channel,
         turn: 0,
@@ -111,8 +114,8 @@ fn alone(
     Ok(WorldView {
         now,
         count: number.saturating_sub(1),
-        channels: Listed::make(channels),
-        paid: Listed::make(Vec::new(alloc)),
+        channels,
+        paid: PaidAmounts::new(alloc),
     })
 }
 

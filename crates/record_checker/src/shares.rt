@@ -10,7 +10,7 @@ use crate::comparing::are_same;
 use crate::past::Past;
 use crate::plans::{firsts, joined, proposed};
 use crate::rests::copied;
-use call_history::{ChannelView, Known, WorldView};
+use call_history::{ChannelView, ChannelViews, Known, PaidAmounts, WorldView};
 use channel_values::{AssetOutcome, Listed, Name, NoMemory, Outcome};
 use funding_plans::Plan;
 use plan_share::share;
@@ -46,10 +46,10 @@ fn channels_seen(
     past: &Past,
     asset: u32,
     names: &[Name],
-) -> Result<Vec<ChannelView>, NoMemory>
-    ensures { IfOk result (λ all. all.items ≡ map (seen.channel_seen past.now asset) names.now) }
+) -> Result<ChannelViews, NoMemory>
+    ensures { IfOk result (λ all. all ≡ map (seen.channel_seen past.now asset) names.now) }
 {
-    let mut all = Vec::new(alloc);
+    let mut all = ChannelViews::new(alloc);
     for name in names {
         let known = channel_seen(alloc, past, asset, name)?;
         all.push(known)?;
@@ -62,13 +62,13 @@ fn plan_seen(alloc: Global, past: &Past, plan: &Plan, asset: u32) -> Result<Worl
 {
     let names = joined(alloc, plan.parts.as_slice())?;
     let channels = channels_seen(alloc, past, asset, &names)?;
-    let mut paid = Vec::new(alloc);
-    paid.push((plan.me, asset, past.paid(&plan.me, asset)))?;
+    let mut paid = PaidAmounts::new(alloc);
+    paid.set(&plan.me, asset, past.paid(&plan.me, asset))?;
     Ok(WorldView {
         now: past.time(),
         count: 0,
-        channels: Listed::make(channels),
-        paid: Listed::make(paid),
+        channels,
+        paid,
     })
 }
 

@@ -7,5 +7,5 @@ use Rattle.history_view.proofs.following.unseen.Goals as goal
 
 pub returns-clause-stands : goal.returns-clause-stands
 returns-clause-stands c r =
-    let is : unseen ≡ record { now = 0; count = 0; channels = c.make.result; paid = c.make-2.result } = cc in
+    let is : unseen ≡ record { now = 0; count = 0; channels = c.new.result; paid = c.new-2.result } = cc in
     subst (λ (w : WorldView). StandsFor r [] w) is (unseen_stands r)
