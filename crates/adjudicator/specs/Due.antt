@@ -7,7 +7,7 @@ use Rattle.std.specs.Ordering.{nat_cmp, ordering_then}
 use Rattle.std.specs.Str.{bytes_eq}
 use Rattle.std.specs.declared.cmp.Ordering.{Ordering}
 
--- Clauses name of the rows only a channel's deadline, and those that are due.
+-- Clauses mention only a channel's deadline in the rows, and those that are due.
 pub record Dated : Type 0 where
   pub rows : List (ℕ × List ℕ)
   -- how many more rows fit without more memory

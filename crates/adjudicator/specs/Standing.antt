@@ -21,7 +21,7 @@ use Rattle.call_history.specs.declared.row.Row.{Row}
 use Rattle.asset_holder.specs.Balances.{Balances, amount_held, amount_paid, amount_deposited, HasMoved}
 use Rattle.asset_holder.specs.Payments.{Payments, amount_of_item}
 
--- Of the rows clauses name only which row a channel has, and of the balances and payments only the amounts.
+-- Clauses mention only which row a channel has, and the amounts of the balances and payments.
 pub record Standing : Type 0 where
   pub now : ℕ
   pub rows : List (List ℕ × Row)
@@ -66,8 +66,8 @@ claim_answer r s k =
     (amount_of_item s.items k.target k.asset) (amount_held s.funds k.guarantor k.asset) k.guarantor k.guarantor_outcome
     k.target k.target_outcome k.asset k.position
 
--- The op is served: its answer is the reply that each history gives for which the adjudicator stood, it then stands for
--- that history with the op's entry, and a refused op changes nothing.
+-- The op is served. Its answer is the reply that each history gives for which the adjudicator stood. It then stands
+-- for that history with the op's entry, and a refused op changes nothing.
 pub record Serves (r : Rules) (old : Standing) (op : Op) (answer : Reply) (new : Standing) : Type 0 where
   pub reply : (h : List Entry) → StandsFor r h old → answer ≡ reply_to r h op
   pub stands : (h : List Entry) (number by : ℕ) → StandsFor r h old

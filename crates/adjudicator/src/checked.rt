@@ -12,7 +12,7 @@ use std::marker::Model;
 use std::thread::Threads;
 use support_rules::{check_signatures, is_signed_well};
 
-/// An op, and of each signature in it whether it verifies. Contracts see the op.
+/// An op, and whether each signature in it verifies. Contracts see the op.
 #[derive(Drop)]
 pub struct CheckedOp {
     op: Op,
@@ -40,7 +40,7 @@ fn one(alloc: Global, value: bool) -> Result<Vec<bool>, NoMemory>
     Ok(values)
 }
 
-/// Of each signature in an op whether it verifies. The marks of a chain are checked side by side.
+/// Whether each signature in an op verifies. The marks of a chain are checked side by side.
 fn check<R: Threads + Sync>(rt: &R, alloc: Global, op: &Op) -> Result<Vec<bool>, NoMemory>
     ensures { IfOk result (λ v. v.items ≡ values_of real op.now) }
 {
@@ -91,7 +91,7 @@ impl CheckedOp {
         op
     }
 
-    /// Of each signature in the op whether it verifies.
+    /// Whether each signature in the op verifies.
     pub(crate) fn verified(&self) -> &[bool]
         ensures { result.now ≡ values_of real self.now }
     {

@@ -72,8 +72,8 @@ fn challenged(
     Ok(after_challenge(now, chain, last, challenger))
 }
 
-/// A challenge with a supported chain, which the challenger signs: the channel ends with the chain's last state unless
-/// it is answered before the deadline, which is the duration from now.
+/// A challenge with a supported chain, which the challenger signs. The channel ends with the chain's last state
+/// unless it is answered before the deadline, which is the duration from now.
 #[tactic(auto, unfolding(channel_values::specs::Support::supports))]
 pub fn challenge(
     row: Option<&Row>,

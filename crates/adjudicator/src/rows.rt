@@ -14,7 +14,7 @@ use indexmap::IndexMap;
 use std::alloc::Global;
 use std::marker::Model;
 
-/// Of each channel at most one row.
+/// At most one row for each channel.
 #[derive(Drop)]
 pub(crate) struct Rows {
     rows: IndexMap<Name, Row>,

@@ -33,8 +33,8 @@ pub(crate) fn digest_of_outcome(outcome: &Outcome) -> Name
     outcome_digest(outcome.bytes())
 }
 
-/// Whether the key at the challenger's position verifies a challenge with the chain. Nobody challenges with a chain of
-/// no state, and a participant that isn't there signs nothing.
+/// Whether the key at the challenger's position verifies a challenge with the chain. Nobody challenges with a chain
+/// of no state, and a participant that doesn't exist signs nothing.
 pub fn is_challenge_signed(chain: &Chain, challenger: u8, signature: &[u8]) -> bool
     ensures { result ≡ signs_challenge real chain.now.fixed chain.now.states challenger signature.now }
 {

@@ -33,7 +33,7 @@ type Asset = (u32, Part);
 /// What was paid of an item: its channel, asset and place, and the amount.
 type Paid = (Name, u32, u8, u64);
 
-/// Whom a call pays, of which place, how much; or why it doesn't.
+/// Who a call pays, of which place, how much; or why it doesn't.
 type Answer = Result<(Dest, u8, u64), Refusal>;
 
 fn shape(alloc: Global, part: &Part) -> Result<Shape, NoMemory> {

@@ -1,4 +1,4 @@
-//! What is tried before the application, and the mover that the application is told of.
+//! What is tried before the application, and the mover that the application is given.
 
 use crate::built::{
     AFTER, DATA, EARLY, Fault, LOWERED, OUTCOME, PAIR, Parts, RAISED, TRIPLE, fixed_of, state_of,

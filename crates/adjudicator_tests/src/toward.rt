@@ -8,8 +8,8 @@ use support_rules::move_toward;
 /// The turn and the ballot of what was signed last.
 type Own = Option<(u64, Ballot)>;
 
-/// Of three people toward what gives the first 7: the turn and the ballot of the latest state, what was signed last, and
-/// the ballot that is wanted at turn 9.
+/// Three people move toward what gives the first 7. The turn and the ballot of the latest state, what was signed
+/// last, and the ballot that is wanted at turn 9.
 const MOVES: [(u64, Ballot, Own, Option<Ballot>); 12] = [
     // A vote, and the last vote.
     (8, (2, 7, 5), None, Some((1, 7, 5))),

@@ -8,7 +8,7 @@ use Rattle.call_history.specs.Flows.{brings, takes, enters}
 use Rattle.call_history.specs.declared.funds.Flow.{Flow}
 use Rattle.asset_holder.specs.Amounts.{amount_in, counted}
 
--- Clauses name of the tables only the amounts, and that they add up.
+-- Clauses mention only the tables' amounts, and that these add up.
 pub record Balances : Type 0 where
   -- what channels hold and persons were paid, by name and asset, and what came from outside, by asset
   pub held : List ((List ℕ × ℕ) × ℕ)
@@ -54,7 +54,7 @@ pub record AreSame (old new : Balances) : Type 0 where
   pub paid : new.paid ≡ old.paid
   pub deposited : new.deposited ≡ old.deposited
 
--- A flow more changes these balances: of its source, of its destination, and where it comes from outside what was
+-- One more flow changes these balances: of its source, of its destination, and where it comes from outside what was
 -- deposited. Where a channel pays itself, what it holds stays.
 pub record HasMoved (old : Balances) (flow : Flow) (new : Balances) : Type 0 where
   pub held : (channel : List ℕ) (asset : ℕ) → amount_held new channel asset

@@ -3,7 +3,7 @@ use Rattle.std.specs.Prelude.{◌==◌, ◌&&◌, ℕ, Bool, List}
 use Rattle.std.specs.Str.{bytes_eq}
 use Rattle.asset_holder.specs.Amounts.{amount_in}
 
--- Clauses name of the table only the amounts.
+-- Clauses mention only the table's amounts.
 pub record Payments : Type 0 where
   -- what was paid, by the channel of an outcome, an asset in it and a place there
   pub rows : List ((List ℕ × ℕ × ℕ) × ℕ)

@@ -1,4 +1,4 @@
--- The numbers by which replies, refusals and faults are told apart.
+-- The numbers by which replies, refusals and faults are distinguished.
 use Rattle.std.specs.Prelude.{ℕ, ◌==◌, List, Option, Some, None, if◌then◌else◌}
 use Rattle.channel_values.specs.declared.fault.StepFault.{StepFault}
 use Rattle.channel_values.specs.declared.fault.StepFault.TheVariants as steps

@@ -1,4 +1,4 @@
-//! The canonical bytes of replies. Where there is no memory, some of them may stay.
+//! The canonical bytes of replies. When memory runs out, some of them may stay.
 
 ghost use Rattle.std.specs.Prelude.{◌≡◌, ◌++◌, ◌∷◌, [], OnOk};
 ghost use Rattle.channel_values.specs.Outcomes.{IsName};

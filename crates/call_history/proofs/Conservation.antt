@@ -180,7 +180,7 @@ held_is_left fs asset w = omega (arith, flows_conserved fs w.covered asset)
 pub within_amounts : (r : Rules) (h : List Entry) → Legal r h → AreWithinAmounts (flows_of h)
 within_amounts r h legal = record { covered = covered r h legal; deposits = deposits_fit r h legal }
 
--- sums over flows don't tell the order of the entries
+-- sums over flows don't determine the order of the entries
 flows_of-append : (g h : List Entry) → flows_of (g ++ h) ≡ flows_of g ++ flows_of h
 flows_of-append [] h = refl
 flows_of-append (e ∷ past) h = ap (λ fs. flow_of e.op e.reply ++ fs) (flows_of-append past h) ∙ sym (append_assoc (flow_of e.op e.reply) (flows_of past) (flows_of h))

@@ -1,4 +1,4 @@
--- Marks counted anew, one at a time; and no mark stands before the first marked place.
+-- Marks counted again, one at a time; and no mark stands before the first marked place.
 use Rattle.std.proofs.Common.{◌≡◌, ℕ, zero, suc, ◌+◌, ◌-◌, ◌<◌, ◌≤◌, List, [], ◌∷◌, ◌++◌, length, map, take, drop, get_or, set, refl, sym, ◌∙◌, ap, arith}
 use Rattle.std.specs.Prelude.{min, slice_get, Some}
 use Rattle.channel_values.specs.declared.chain.Mark.{Mark}

@@ -68,7 +68,8 @@ pay_ok to place held n d e =
       some = above_zero n p.0;
     }
 
--- What is due of the item at a place: it is paid to its destination, and is no more than its rest and than what is held.
+-- What is due of the item at a place: it is paid to its destination, and is no more than its rest and than what is
+-- held.
 pub record IsDueOf (paid : ℕ → ℕ) (held : ℕ) (shape : Option Shape) (to : Option Dest) (place : ℕ) (d : Due) : Type 0 where
   pub items : List Item
   pub shape_is : shape ≡ Some (Allocation items)

@@ -54,7 +54,7 @@ deposited_in flows asset = sum_by (enters asset) flows
 abbrev pub AreCovered : List Flow → Type 0
 AreCovered flows = (channel : List ℕ) (asset : ℕ) → out_of flows channel asset ≤ into flows (Channel channel) asset
 
--- no channel paid out more than it received, and of no asset was more than 2^64 - 1 deposited
+-- no channel paid out more than it received, and no more than 2^64 - 1 of any asset was deposited
 pub record AreWithinAmounts (flows : List Flow) : Type 0 where
   pub covered : AreCovered flows
   pub deposits : (asset : ℕ) → deposited_in flows asset < 2 ^ 64
@@ -98,9 +98,8 @@ paid_to_all flows asset = sum_by (λ person. paid_in flows person asset) (distin
 abbrev pub AreConserved : List Flow → Type 0
 AreConserved flows = (asset : ℕ) → deposited_in flows asset ≡ held_by_all flows asset + paid_to_all flows asset
 
--- A flow more changes these balances: of its source, of its destination, and where it comes from outside what was
--- deposited.
--- Where a channel pays itself, what it holds stays.
+-- One more flow changes these balances: of its source, of its destination, and where it comes from outside what was
+-- deposited. Where a channel pays itself, what it holds stays.
 pub record HasMoved (old : List Flow) (flow : Flow) (new : List Flow) : Type 0 where
   pub held : (channel : List ℕ) (asset : ℕ)
       → held_in new channel asset

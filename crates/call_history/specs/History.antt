@@ -93,7 +93,7 @@ settled r channel (e ∷ past) =
 
 -- ---- flows
 
--- whom a transfer of an item pays, and whom a claim by a guarantee does, or none past the end
+-- who a transfer of an item pays, and who a claim by a guarantee pays, or none past the end
 abbrev pub item_dest : Option Shape → ℕ → Option Dest
 item_dest (Some (Allocation items)) index = option_map (λ item. item.to) (slice_get items index)
 item_dest _ index = None

@@ -44,14 +44,14 @@ longer f s w =
 abbrev pub lower_place : ℕ → Mark → ℕ
 lower_place least mark = min mark.place least
 
--- the least of this place and those of the marks
+-- the smallest of this place and the places of the marks
 abbrev pub lowest : ℕ → List Mark → ℕ
 lowest place marks = fold lower_place place marks
 
 abbrev pub lowered : ℕ → Mark → Mark
 lowered d mark = record { place = mark.place - d; signature = mark.signature }
 
--- without the first d states, the places counted anew
+-- without the first d states, the places counted again
 abbrev pub cut : ℕ → Marked → Marked
 cut d w = record { states = drop d w.states; marks = map (lowered d) w.marks }
 

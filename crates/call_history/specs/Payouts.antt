@@ -23,7 +23,7 @@ is_to (Some to) channel = is_same to (Channel channel)
 pub record LowersBoth (h : List Entry) (e : Entry) (payer owner : List ℕ) (outcome : List AssetOutcome) (asset : ℕ)
     (to : Option Dest) (amount : ℕ) : Type 0 where
   pub some : 1 ≤ amount
-  -- the item is of whom is paid; so much was left of it, and that item alone is lowered
+  -- the item belongs to the one that is paid; so much was left of it, and that item alone is lowered
   pub place : ℕ
   pub named : item_dest (shape_in outcome asset) place ≡ to
   pub left : amount ≤ left_of (rest_outcome (paid_of h owner) outcome) asset place

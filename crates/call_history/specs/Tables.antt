@@ -1,7 +1,7 @@
 -- Tables: lists of rows, of which the first that passes a test is the one that is meant.
 use Rattle.std.specs.Prelude.{Bool, List, [], ◌∷◌, if◌then◌else◌}
 
--- the row that is meant, or what stands for none
+-- the row that is meant, or the value that stands for none
 abbrev pub found : {X : Type 0} → (X → Bool) → X → List X → X
 found is none [] = none
 found is none (x ∷ xs) = if is x then x else found is none xs

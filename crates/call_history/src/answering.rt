@@ -6,7 +6,7 @@ ghost use Rattle.channel_values.specs.declared.chain.Mark.{Mark as AMark};
 
 use channel_values::{Chain, Fixed, Listed, Mark, NoMemory, Signed, State, mover_at};
 
-/// The least of a place and those of the marks.
+/// The smallest of a place and the places of the marks.
 fn lowest_place(place: usize, marks: &[Mark]) -> usize
     ensures value { result ≡ lowest place marks.now }
     ensures inside { result ≤ place }
@@ -35,7 +35,7 @@ fn put(marks: &mut Vec<Mark>, people: usize, j: usize, mark: Mark) -> Result<(),
     Ok(())
 }
 
-/// Counts the places anew after this many states are gone.
+/// Counts the places again after this many states were removed.
 fn lower(marks: &mut Vec<Mark>, count: u8)
     requires { (i : ℕ) (m : AMark) → slice_get marks.old.items i ≡ Some m → count ≤ m.place }
     ensures { marks.new.items ≡ map (lowered count) marks.old.items }
@@ -46,7 +46,7 @@ fn lower(marks: &mut Vec<Mark>, count: u8)
     }
 }
 
-/// Takes the first states away.
+/// Removes the first states.
 fn forget(states: &mut Vec<State>, count: usize)
     requires { count ≤ length states.old.items }
     ensures { states.new.items ≡ drop count states.old.items }
@@ -56,8 +56,8 @@ fn forget(states: &mut Vec<State>, count: usize)
     }
 }
 
-/// The chain with the state added as its last, the mark of the state's mover put on it, and the states before the
-/// first marked one taken away. A place is one byte, so the chain has at most 255 states.
+/// The chain with the state added as its last, marked by the state's mover, without the states before the first
+/// marked one. A place is one byte, so the chain has at most 255 states.
 pub fn answered(fixed: &Fixed, chain: Chain, next: Signed) -> Result<Chain, NoMemory>
     requires { length chain.states ≤ 255 }
     ensures { IfOk result (λ c. c ≡ chain_of chain.fixed (answered fixed.now next (marked_of chain))) }

@@ -1,4 +1,4 @@
-//! How refusals are told in words.
+//! How refusals are printed in words.
 
 use crate::event::NodeRefusal;
 use crate::refusal::Refusal;

@@ -33,7 +33,7 @@ pub enum NodeRefusal {
 /// What a node did.
 #[derive(Drop)]
 pub enum Deed {
-    /// It was told the command of this number.
+    /// It was given the command of this number.
     Commanded(u32, Option<NodeRefusal>),
     /// It was given a message of these bytes.
     Handled(Listed<u8>, Option<NodeRefusal>),

@@ -25,7 +25,7 @@ pub fn shape_in(outcome: &Outcome, asset: u32) -> Option<&Shape>
     shape_among(outcome.assets(), asset)
 }
 
-/// Whom a transfer of an item pays, where the shape is an allocation with this many items.
+/// Who a transfer of an item pays, where the shape is an allocation with this many items.
 pub(crate) fn item_dest(shape: Option<&Shape>, index: u8) -> Option<Dest>
     ensures { result ≡ item_dest (option_map (λ s. s.now) shape.entry) index }
 {
@@ -38,7 +38,7 @@ pub(crate) fn item_dest(shape: Option<&Shape>, index: u8) -> Option<Dest>
     }
 }
 
-/// Whom a claim by a guarantee pays, where the shape is a guarantee with this position in its list.
+/// Who a claim by a guarantee pays, where the shape is a guarantee with this position in its list.
 pub fn listed_dest(shape: Option<&Shape>, position: u8) -> Option<Dest>
     ensures { result ≡ listed_dest (option_map (λ s. s.now) shape.entry) position }
 {

@@ -46,7 +46,7 @@ pub fn time_after(before: u64, entry: &Entry) -> u64
     }
 }
 
-/// The fixed part of the channel whose row a call may turn.
+/// The fixed part of the channel whose row a call may change.
 pub fn fixed_of(op: &Op) -> Option<&Fixed>
     ensures { option_map (λ m. m.now) result ≡ fixed_of op.now }
 {

@@ -42,7 +42,7 @@ is_answerable key reply _ = false
 
 -- ---- the two answers
 
--- who moves to a turn, and the other one
+-- the person who moves to a turn, and the other one
 abbrev pub giver : FixedParts → ℕ → Dest
 giver f turn = person_at (persons f) (mover (people f) turn)
 
@@ -64,8 +64,8 @@ paid f turn outcome asset = state_with turn false (moved (giver f turn) (taker f
 abbrev pub paid_if : FixedParts → ℕ → List AssetOutcome → Option StateParts
 paid_if f turn outcome = option_map (paid f turn outcome) (first_asset (giver f turn) (taker f turn) outcome)
 
--- After an even number of signatures it repeats the outcome; after an odd one it moves 1 to the other. No state has a turn
--- of 2^48 or more.
+-- After an even number of signatures it repeats the outcome; after an odd one it moves 1 to the other. No state has a
+-- turn of 2^48 or more.
 abbrev pub next_state : ℕ → FixedParts → StateParts → Option StateParts
 next_state used f s =
     if nat_le (2 ^ 48) (s.turn + 1)
@@ -105,8 +105,8 @@ answer_if s (Some e) = answer_to s e.op
 abbrev pub key_of : Signing → List ℕ
 key_of s = made_key s.seed s.id s.h
 
--- It is done where its key, of height 5, is spent. Else it answers the oldest challenge that its key is to answer, if there is
--- one.
+-- It is done where its key, of height 5, is spent. Else it answers the oldest challenge that its key is to answer, if
+-- there is one.
 abbrev pub equivocated : Signing → List Entry → Act
 equivocated s entries =
     if nat_le 32 s.used then Done else answer_if s (find (λ e. is_answerable (key_of s) e.reply e.op) entries)

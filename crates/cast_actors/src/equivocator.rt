@@ -28,8 +28,8 @@ const SEED: [u8; 32] = [0x45; 32];
 /// How often its key signs, which has height 5.
 const MOST_SIGNATURES: u32 = 32;
 
-/// To the oldest accepted challenge of a payment channel that its key is to answer, it enters two answers by turns,
-/// again and again: one that repeats the outcome, and one that pays 1 to the other.
+/// It answers the oldest accepted challenge of a payment channel that its key is to answer. It enters two answers by
+/// turns, again and again: one that repeats the outcome, and one that pays 1 to the other.
 #[derive(Drop)]
 pub struct Equivocator {
     alloc: Global,

@@ -1,4 +1,4 @@
-//! The cast of the program: actors of whom nobody expects anything good.
+//! The cast of the program: actors that may do harm.
 #![tactic(auto)]
 
 mod equivocator;

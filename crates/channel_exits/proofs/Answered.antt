@@ -1,4 +1,4 @@
--- Right after a call of an exit stands, be it paid or refused, nothing more is due of it.
+-- Right after a call of an exit stands, whether it was paid or refused, nothing more is due of it.
 use Rattle.std.proofs.Common.{◌≡◌, ℕ, suc, ◌+◌, ◌-◌, ◌<◌, ◌≤◌, Bool, true, false, cond, ◌||◌, not, List, [], ◌∷◌, ◌++◌, refl, sym, ◌∙◌, ap, subst, arith, inl, inr, ◌⊎◌}
 use Rattle.std.specs.Prelude.{◌==◌, nat_le, length, slice_get, slice_index_or, map, Option, Some, None, Result, Ok, Err}
 use Rattle.std.specs.Option.{option_map}

@@ -125,9 +125,9 @@ abbrev pub AllListed : Books → List ℕ → List Part → Type 0
 AllListed b me [] = Unit {0}
 AllListed b me (p ∷ ps) = Listed b me p × AllListed b me ps
 
--- A stretch of a history in which the calls stand in their order: from the books b, where the person was paid `paid`, to
--- the books e, where it was paid `last`. An entry by anybody is a payment or none. Right after a call of the exit, be it
--- accepted or refused, it would pay nothing more.
+-- A stretch of a history in which the calls stand in their order. It goes from the books b, where the person was paid
+-- `paid`, to the books e, where it was paid `last`. An entry by anybody is a payment or none. Right after a call of
+-- the exit, whether it was accepted or refused, it would pay nothing more.
 pub data Run (me : List ℕ) (ps : List Part) : List Edge → Books → ℕ → Books → ℕ → Type 0 where
   ends : {b : Books} {paid : ℕ} → Run me ps [] b paid b paid
   moves : {calls : List Edge} {b c e : Books} {paid now last : ℕ} (counting : List Counting) → IsSound me ps counting → Pays b c counting me paid now →

@@ -1,4 +1,5 @@
--- A leaves a ledger that holds 10 and a channel of 6 on it: both are concluded, B's item of the channel is paid between, and A is paid its 9.
+-- A leaves a ledger that holds 10 and a channel of 6 on it. Both are concluded, B's item of the channel is paid
+-- between, and A is paid its 9.
 use Rattle.std.proofs.Common.{◌≡◌, ℕ, ◌<◌, ◌≤◌, Bool, true, false, cond, List, [], ◌∷◌, ◌++◌, ◌⊎◌, inl, inr, refl, sym, ◌∙◌, ap, subst, arith}
 use Rattle.std.specs.Prelude.{◌==◌, Some, None, map, take}
 use Rattle.std.specs.List.{AllByRecursion}

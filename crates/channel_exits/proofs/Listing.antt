@@ -36,7 +36,7 @@ abbrev pub edges_to : List ℕ → List (List ℕ) → List Item → List Edge
 edges_to f names [] = []
 edges_to f names (x ∷ xs) = edge_to f names x.to ++ edges_to f names xs
 
--- to the channels of these names that a channel names, and by those edges besides, that are of items that it doesn't have
+-- to the channels of these names that a channel names, and also by the edges of items that it doesn't have
 abbrev pub out_edges : (items : List ℕ → List Item) → (more : List ℕ → List Edge) → List (List ℕ) → List ℕ → List Edge
 out_edges items more names c = edges_to c names (items c) ++ more c
 

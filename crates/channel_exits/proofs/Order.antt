@@ -70,8 +70,8 @@ AreFrom f [] = Unit {0}
 AreFrom f (moving g d ∷ cs) = (g ≡ f) × AreFrom f cs
 AreFrom f (claiming g j d ∷ cs) = ⊥
 
--- The roots' calls come first, which pay the person and all that roots lend; then each other part's in the plan's order, where
--- an end's channel passes on all that it lends.
+-- The roots' calls come first, which pay the person and all that roots lend. Then come each other part's in the
+-- plan's order, where an end's channel passes on all that it lends.
 pub record ExitCalls (me : List ℕ) (ps : List Part) (roots : List Edge) (onward : List ℕ → List Edge) : Type 0 where
   pub from : FromRoots ps roots
   pub own : (x : List ℕ) → In (Root x) ps → is_shut roots x (Person me) ≡ true
@@ -201,7 +201,7 @@ unclaimed-later me c done (Middle v) n h = (
   open-later c done v.guarantor_b (Person me) (sym-false (payer c) v.guarantor_b (or-first _ _ (or-rest (bytes_eq (payer c) v.guarantor_a) _ n))) h.1,
 )
 
--- calls put onto those done, one by one
+-- calls added to those done, one by one
 abbrev onto : List Edge → List Edge → List Edge
 onto [] done = done
 onto (c ∷ cs) done = onto cs (c ∷ done)

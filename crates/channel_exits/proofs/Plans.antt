@@ -1,5 +1,5 @@
--- What a whole plan keeps of its exits: no channel pays in two parts' exits, and each ledger is a root or the channel of an
--- earlier end.
+-- What a whole plan keeps of its exits: no channel pays in two parts' exits, and each ledger is a root or the channel
+-- of an earlier end.
 use Rattle.std.proofs.Common.{◌≡◌, ℕ, Bool, true, false, ◌||◌, List, [], ◌∷◌, flat_map, inl, inr, refl, sym, ap, subst}
 use Rattle.std.specs.List.{AllByRecursion}
 use Rattle.std.specs.Str.{bytes_eq}

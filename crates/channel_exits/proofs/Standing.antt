@@ -18,7 +18,7 @@ pub data Follows (Gone : Edge → Type 0) (IsFor : Edge → Call → Type 0) : L
   gone : {xs : List Edge} {cs : List Call} (x : Edge) → Gone x → Follows Gone IsFor xs cs → Follows Gone IsFor (x ∷ xs) cs
   matched : {xs : List Edge} {cs : List Call} (x : Edge) (c : Call) → IsFor x c → Follows Gone IsFor xs cs → Follows Gone IsFor (x ∷ xs) (c ∷ cs)
 
--- one list put onto another, item by item
+-- one list added to another, item by item
 abbrev pub onto : {X : Type 0} → List X → List X → List X
 onto [] ys = ys
 onto (x ∷ xs) ys = onto xs (x ∷ ys)

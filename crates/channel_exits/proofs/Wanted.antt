@@ -1,5 +1,5 @@
--- The edges of the roots and of virtual ledgers, with those of items that aren't there, pay all that these lend the parts of a
--- plan.
+-- The edges of the roots and of virtual ledgers, with those of items that aren't there, pay all that these lend the
+-- parts of a plan.
 use Rattle.std.proofs.Common.{◌≡◌, ℕ, Bool, true, false, cond, ◌||◌, ◌&&◌, List, [], ◌∷◌, ◌++◌, refl, sym, ◌∙◌, ap, subst, inl, inr, ◌⊎◌}
 use Rattle.std.proofs.lemmas.Bool.{false≢true}
 use Rattle.std.specs.Str.{bytes_eq}
@@ -141,7 +141,7 @@ module _ (items : List ℕ → List Item) (me : List ℕ) (ps : List Part) (d : 
   abbrev ns : List (List ℕ)
   ns = channels ps
 
-  -- ---- the edges that a part would want of a ledger, where the outcome has no item for them
+  -- ---- the edges that a part would need of a ledger, where the outcome has no item for them
 
   abbrev pub missing_one : List ℕ → Dest → List Edge
   missing_one l e = cond (has (items l) e) [] (moving l e ∷ [])

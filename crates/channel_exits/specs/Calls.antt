@@ -66,7 +66,8 @@ root_calls ended me names _ asset = []
 abbrev pub is_ledger : List Part → List ℕ → Bool
 is_ledger parts name = list_any (λ part. is_among name (ledgers_of part)) parts
 
--- the channels to which the channel of an end passes on what it is paid: those of the plan, where it is a virtual ledger
+-- the channels to which the channel of an end passes on what it is paid: those of the plan, where it is a virtual
+-- ledger
 abbrev pub passed_to : List Part → List ℕ → List (List ℕ)
 passed_to parts name = if is_ledger parts name then channels parts else []
 
@@ -93,7 +94,7 @@ exits (OnLedger l c) = c ∷ []
 exits (End v) = v.channel ∷ own_guarantor v ∷ []
 exits (Middle v) = v.guarantor_a ∷ v.guarantor_b ∷ []
 
--- an asset put in its place among others, once
+-- an asset in its place among others, once
 abbrev pub put : ℕ → List ℕ → List ℕ
 put asset [] = asset ∷ []
 put asset (a ∷ rest) = if asset == a then a ∷ rest else if nat_lt asset a then asset ∷ a ∷ rest else a ∷ put asset rest

@@ -55,9 +55,9 @@ IsBacked counting (OnLedger l c) = Unit {0}
 IsBacked counting (End v) = IsBackedBy counting (own_guarantor v) v.joint
 IsBacked counting (Middle v) = IsBackedBy counting v.guarantor_a v.joint × IsBackedBy counting v.guarantor_b v.joint
 
--- What a plan keeps so that its person can leave at a place: it is sound, no channel pays in two parts' exits, each
--- ledger is a root or the channel of an end before, items of a joint channel are guaranteed, and each channel that counts
--- is final.
+-- What a plan keeps so that its person can leave at a place. It is sound, no channel pays in two parts' exits, and
+-- each ledger is a root or the channel of an end before. Items of a joint channel are guaranteed, and each channel
+-- that counts is final.
 pub record CanExit (r : Rules) (me : List ℕ) (orders : ℕ → Order) (past : List Entry) (front : List Line) : Type 0 where
   pub sound : IsSound me (plan orders front) (counting r past front)
   pub apart : AreApart bytes_eq (flat_map exits (plan orders front))

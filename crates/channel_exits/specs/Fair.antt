@@ -65,8 +65,8 @@ FairExitsPay =
     → Stand (reverse (exit_calls (ended r past) me (plan orders front))) later
     → (asset : ℕ) → share r me orders past front asset ≤ paid_to h me asset
 
--- So it is paid at least the share that it had when it began to leave: at any place before, after which it signs no
--- state until its channels are final.
+-- So it is paid at least the share that it had when it began to leave. That is any place before, after which it signs
+-- no state until its channels are final.
 abbrev pub FairLeaversArePaid : Type 0
 FairLeaversArePaid =
     (r : Rules) (key me : List ℕ) (orders : ℕ → Order) (h : List Entry) (journal : List Line) → KeepsFinal r

@@ -10,8 +10,8 @@ use Rattle.channel_exits.specs.Calls.{exit_calls}
 use Rattle.channel_exits.specs.Endings.{ended, Stand}
 use Rattle.channel_exits.specs.ExitLaws.{CanExit}
 
--- Rules, a legal history and a journal without collision, a place at which the person can exit, and after it the calls
--- of its exit: it was paid nothing there, its share was more, and that is what it was paid in the end.
+-- Rules, a legal history and a journal without collision, a place at which the person can exit, and after it the
+-- calls of its exit. The person was paid nothing there, its share was more, and that is what it was paid in the end.
 pub record LeavesWithItsShare : Type 0 where
   pub rules : Rules
   pub me : List ℕ

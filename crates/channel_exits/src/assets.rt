@@ -11,7 +11,7 @@ use channel_values::{AssetOutcome, Name, NoMemory, Outcome};
 use funding_plans::Part;
 use std::alloc::Global;
 
-/// Appends others with an asset in its place among them, once.
+/// Appends other assets, with this asset once in its place among them.
 fn append_put(assets: &mut Vec<u32>, asset: u32, others: &[u32]) -> Result<(), NoMemory>
     ensures value { OnOk result (assets.new.items ≡ assets.old.items ++ spelled.put asset others.now) }
     ensures few { OnOk result (length assets.new.items ≤ length assets.old.items + (length others.now + 1)) }

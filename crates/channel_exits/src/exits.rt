@@ -27,7 +27,7 @@ fn is_ledger(parts: &[Part], name: &Name) -> bool
     parts.iter().any(|part| part.stands_on(name))
 }
 
-/// The channels to which the channel of an end passes on what it is paid, where these are the names of the plan's.
+/// The channels to which the channel of an end passes on what it is paid. These are the names of the plan's channels.
 fn passed_to<'a>(parts: &[Part], names: &'a [Name], name: &Name) -> &'a [Name]
     requires { names.now ≡ channels parts.now }
     ensures { result.now ≡ spelled.passed_to parts.now name.now }

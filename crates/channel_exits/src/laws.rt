@@ -3,7 +3,7 @@
 ghost use Rattle.channel_exits.specs.ExitLaws.{ExitPaysShare};
 ghost use Rattle.channel_exits.specs.Fair.{FairExitsPay, FairLeaversArePaid};
 
-/// Whoever can exit and enters the calls of its exit is paid at least its share, whatever others enter between.
+/// A person that can exit and enters the calls of its exit is paid at least its share, whatever others enter between.
 pub fn exit_pays_the_share()
     ensures { ExitPaysShare }
 {}

@@ -114,7 +114,8 @@ fn items_ended<'a>(ended: Option<&'a Outcome>, asset: u32) -> &'a [Item]
     }
 }
 
-/// The transfers of a channel to those of these names that it names, in the items' order, then to the person: at most 17.
+/// The transfers of a channel to those of these names that it names, in the items' order, then to the person: at most
+/// 17.
 pub(crate) fn put_transfers(
     calls: &mut Vec<Call>,
     world: &WorldView,

@@ -9,8 +9,8 @@ pub fn example_holds()
     ensures { ExampleHolds }
 {}
 
-/// There are a legal history and a journal in which a person can exit and is owed something, and its exit stands and
-/// pays just that, though another's call stands between.
+/// There are a legal history and a journal in which a person can exit and is owed something. Its exit stands and pays
+/// just that, though another's call stands between.
 pub fn exits_can_pay()
     ensures { LeavesWithItsShare }
 {}

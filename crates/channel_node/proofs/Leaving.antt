@@ -1,4 +1,5 @@
--- At the place of an event a node left exactly where an exit that was accepted stands before it; what it signs and challenges with there.
+-- At the place of an event a node left exactly where an exit that was accepted stands before it; what it signs and
+-- challenges with there.
 use Rattle.std.proofs.Common.{◌≡◌, ℕ, suc, ◌≤◌, ◌==◌, Bool, true, false, cond, ◌&&◌, ◌||◌, List, [], ◌∷◌, ◌++◌, inl, inr, length, refl, sym, ◌∙◌, ap, arith}
 use Rattle.std.specs.Prelude.{Option, Some, None, Result, Ok, Err}
 use Rattle.std.specs.List.{list_any}

@@ -33,7 +33,7 @@ abbrev pub challenge_of : Mind → List ℕ → Option Kept → Option OwnChalle
 challenge_of m channel None = None
 challenge_of m channel (Some k) = if is_held k && is_open (stands_in (facts_of m) channel) then challenge_with k (newest k.chain.states) else None
 
--- with what it challenges in a channel: once it left, with the chain that it holds of a channel that is open
+-- what it challenges with in a channel: once it left, the chain that it holds of a channel that is open
 abbrev pub challenge_in : Mind → List ℕ → Option OwnChallenge
 challenge_in m channel = if m.left then challenge_of m channel (kept_of channel m.kept) else None
 
@@ -47,8 +47,8 @@ ChallengesWith m channel state who = (c : OwnChallenge) × (challenge_in m chann
 abbrev pub is_over : FactsOf → Bool
 is_over f = list_all (λ held. is_final (stands_in f held.channel)) f.chains
 
--- the calls of its exit: when all channels with a held chain are final, and again while it can still get more than it was
--- paid
+-- the calls of its exit: when all channels with a held chain are final, and again while it can still get more than it
+-- was paid
 abbrev pub exits_given : Tables → (has_exited : Bool) → FactsOf → List Call
 exits_given t has_exited f = if not has_exited || t.is_owed f then t.exits f else []
 
@@ -56,7 +56,7 @@ exits_given t has_exited f = if not has_exited || t.is_owed f then t.exits f els
 abbrev pub calls_of : Tables → (has_exited : Bool) → Mind → List Call
 calls_of t has_exited m = if m.left then exits_given t has_exited (facts_of m) else t.calls (facts_of m)
 
--- what it may call: besides, a challenge with a chain that it holds
+-- what it may call: a challenge with a chain that it holds, too
 abbrev pub may_give : Tables → Mind → List Call
 may_give t m = if m.left then t.exits (facts_of m) else t.calls (facts_of m)
 

@@ -33,8 +33,8 @@ use Rattle.network.specs.declared.command.Command.{Command}
 use Rattle.network.specs.declared.command.Command.TheVariants.{Open, OpenOn, OpenVirtual, Pay, Close, Release, Resend, Exit}
 use Rattle.channel_node.specs.Openings.{adds, opened, parts_of, goals_of}
 
--- Its key, what it opened and what was commanded of that, its view of the history, and what its store keeps; and whether it
--- left.
+-- Its key, what it opened and what was commanded of that, its view of the history, and what its store keeps; and
+-- whether it left.
 pub record Mind : Type 0 where
   pub key : List ℕ
   pub parts : List Part

@@ -37,8 +37,8 @@ PlayedJournalsLeaveForGood =
 
 -- ---- nodes
 
--- What a node makes of a message, a command, a tick with its states, challenges and calls, a look and an entry that comes
--- next stands for the history that it stood for.
+-- A node stands for the history that it stood for after a message, a command, and a tick with its states, challenges
+-- and calls. So it does after a look and an entry that comes next.
 pub record CallsStand (t : Tables) (r : Rules) (s : Signing) (h : List Entry) (n : NodeOf) : Type 0 where
   pub handles : (bytes : List ℕ) → Stands t r s h (handled t r bytes n)
   pub tells : (step : ℕ) (command : Command) → Stands t r s h (told_to t r s step command n)
@@ -57,7 +57,7 @@ CallsKeepStanding = (t : Tables) (r : Rules) (s : Signing) (h : List Entry) (n :
 abbrev pub FreshNodesStand : Type 0
 FreshNodesStand = (t : Tables) (r : Rules) (signer : SignerOf) (h : List Entry) → Stands t r (signing_of signer) h (new_node signer)
 
--- and a node that lost its memory stands as long as its journal and its commands stay
+-- and a node whose memory ran out stands as long as its journal and its commands stay
 abbrev pub LostNodesStand : Type 0
 LostNodesStand =
     (t : Tables) (r : Rules) (s : Signing) (h : List Entry) (n new : NodeOf) → new.is_lost ≡ true → new.journal ≡ n.journal → new.commands ≡ n.commands

@@ -19,8 +19,8 @@ use Rattle.channel_node.specs.Playing.{Signing, SignerOf, signing_of}
 use Rattle.network.specs.declared.command.Command.{Command}
 use Rattle.network.specs.declared.command.Command.TheVariants.{Pay}
 
--- What it knows, of what its signer is made and how often its key signed, its journal and its commands in the order of time,
--- whether the calls of its exit were given, and whether memory failed it.
+-- What it knows, what its signer is made of and how often its key signed, and its journal and its commands in the
+-- order of time. It says too whether the calls of its exit were given, and whether memory failed it.
 pub record NodeOf : Type 0 where
   pub mind : Mind
   pub signer : SignerOf
@@ -89,7 +89,8 @@ abbrev pub gave : List Call → NodeOf → NodeOf
 gave [] n = n
 gave (call ∷ calls) n = gave calls (gave_one n call)
 
--- once it left and all channels with a held chain are final the calls of its exit are given, be there any or none
+-- once it left and all channels with a held chain are final the calls of its exit are given, whether there are any or
+-- none
 abbrev pub exited : NodeOf → NodeOf
 exited n = record n { has_exited = n.has_exited || (n.mind.left && is_over (facts_of n.mind)) }
 

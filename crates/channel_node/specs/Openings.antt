@@ -51,7 +51,7 @@ are_apart (name ∷ names) = not (is_among name names) && are_apart names
 
 -- ---- the part
 
--- an end is told by the payment channel's people: the second is B
+-- the payment channel's people say which end it is: the second is B
 abbrev pub virtual : Rules → List ℕ → (List ℕ × List ℕ) → (FixedParts × FixedParts) → FixedParts → FixedParts → ℕ → (ℕ × ℕ) → Virtual
 virtual r key ledgers guarantors joint channel asset amounts =
     record {

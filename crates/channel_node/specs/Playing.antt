@@ -63,7 +63,8 @@ abbrev pub Answers : Tables → Rules → Signing → ℕ → Mind → Option No
 Answers t r s used m refusal None = ⊥
 Answers t r s used m refusal (Some command) = refusal ≡ command_refusal t r s.limit used m command
 
--- what a node may put into its journal, by the entries, what it knows, the signatures before, and a payment that waits
+-- what a node may write into its journal, by the entries, what it knows, the signatures before, and a payment that
+-- waits
 abbrev pub Allowed : Tables → Rules → Signing → List Entry → Mind → ℕ → Option Command → Deed → Option Command → Type 0
 Allowed t r s past m used waits (deeds.Commanded step refusal) command = (waits ≡ None) × Answers t r s used m refusal command
 Allowed t r s past m used waits (deeds.Handled bytes refusal) command = (waits ≡ None) × (refusal ≡ message_refusal t r m (message_of bytes))

@@ -14,8 +14,8 @@ use Rattle.channel_node.specs.Playing.{Signing, Plays}
 abbrev pub OpensLasting : List Line → Type 0
 OpensLasting journal = (x : Line) (f : FixedParts) → In x journal → In f (opened x) → 2 ≤ f.duration
 
--- The journal is one that the node's rules make over a legal history, both are those of a race whose rounds have these
--- ends, and the channels that its accepted commands open have durations of two or more.
+-- The journal is one that the node's rules make over a legal history, and both are those of a race whose rounds have
+-- these ends. The channels that its accepted commands open have durations of two or more.
 pub record PlaysRace (t : Tables) (r : Rules) (s : Signing) (h : List Entry) (journal : List Told) (ends : List ℕ)
     : Type 0 where
   pub legal : Legal r h

@@ -34,8 +34,8 @@ pub record Stands (t : Tables) (r : Rules) (s : Signing) (h : List Entry) (n : N
 abbrev pub ComesNext : List Entry → Entry → NodeOf → Type 0
 ComesNext h e n = (later : List Entry) × (past : List Entry) × (h ≡ later ++ e ∷ past) × (length past ≡ n.mind.view.count) × OfFew (fixed_of e.op)
 
--- These are the calls of a look, by the chains that the node holds, of a watcher that followed so many entries, no fewer
--- than the node.
+-- These are the calls of a look, by the chains that the node holds, of a watcher that followed so many entries, no
+-- fewer than the node.
 pub record Looks (r : Rules) (h : List Entry) (seen : ℕ) (given : List Call) (n : NodeOf) : Type 0 where
   pub within : seen ≤ length h
   pub after : n.mind.view.count ≤ seen

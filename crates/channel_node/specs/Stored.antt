@@ -11,7 +11,7 @@ use Rattle.channel_store.specs.declared.fault.NoteFault.{NoteFault}
 use Rattle.channel_store.specs.declared.fault.NoteFault.TheVariants as faults
 use Rattle.channel_store.specs.declared.kept.Kept.{Kept}
 
--- the node's refusal for a fault of a note; want of memory is none
+-- the node's refusal for a fault of a note; running out of memory is none
 abbrev pub refusal_for : Option NoteFault → Option NodeRefusal
 refusal_for None = None
 refusal_for (Some faults.Unknown) = Some UnknownChannel

@@ -18,8 +18,8 @@ pub record Tables : Type 0 where
   pub accepts : FactsOf → List ℕ → StateParts → Bool
   -- the calls of all parts
   pub calls : FactsOf → List Call
-  -- the calls of an exit, none while a channel with a held chain isn't final; and whether the participant can still get more
-  -- of an asset than it was paid
+  -- the calls of an exit, none while a channel with a held chain isn't final; and whether the participant can still
+  -- get more of an asset than it was paid
   pub exits : FactsOf → List Call
   pub is_owed : FactsOf → Bool
   -- the fixed parts, people and amounts of a command that opens fit the facts

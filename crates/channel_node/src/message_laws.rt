@@ -9,8 +9,8 @@ pub fn broken_bytes_are_refused()
     ensures trailing { TrailingIsRefused }
 {}
 
-/// Where a state comes next, a signature on it that doesn't verify is told, whatever else is wrong with it; and so is one
-/// in place of that of a message that is taken. Such a message leaves one line, and nothing else.
+/// Where a state comes next, a signature on it that doesn't verify is reported, whatever else is wrong with it. So is
+/// one in place of the signature of a message that is taken. Such a message leaves one line, and nothing else.
 pub fn bad_signatures_are_told()
     ensures next { BadSignaturesAreTold }
     ensures taken { TakenOnesAreSigned }

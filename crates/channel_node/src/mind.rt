@@ -35,8 +35,8 @@ impl Model for OwnChallenge {
     ghost view = { λ c. record { chain = c.chain; state = c.state; who = c.who } };
 }
 
-/// Each method is a function of what is known, by the stages, the rules and the signer. What a method changes is lost where memory
-/// fails it.
+/// Each method is a function of what is known, by the stages, the rules and the signer. What a method changes is lost
+/// where memory fails it.
 pub trait Knowing {
     ghost tables: { Tables };
 
@@ -44,7 +44,7 @@ pub trait Knowing {
 
     ghost mind: { Self → Mind };
 
-    // Of what its signer is made, which no method changes.
+    // What its signer is made of, which no method changes.
     ghost signer: { Self → SignerOf };
 
     // How often its key has signed.
@@ -54,8 +54,8 @@ pub trait Knowing {
     fn count(&self) -> u32
         ensures { result ≡ (mind self.now).view.count };
 
-    /// Follows the entry that comes next, and adopts a newer chain that it shows. One that it can't follow ends as want of
-    /// memory does.
+    /// Follows the entry that comes next, and adopts a newer chain that it shows. With an entry that it can't follow,
+    /// it ends as when memory runs out.
     fn see(&mut self, entry: &Entry) -> Result<(), NoMemory>
         ensures saw { OnOk result (mind self.new ≡ saw rules entry.now (mind self.old)) }
         ensures used { OnOk result (times self.new ≡ times self.old) }
@@ -89,7 +89,7 @@ pub trait Knowing {
         ensures order { IfOk result (λ channels. channels.items ≡ in_order (mind self.now).parts) }
         ensures few { IfOk result (λ channels. length channels.items ≤ 192) };
 
-    /// A signed state as messages for the channel's other people.
+    /// The messages with a signed state for the channel's other people.
     fn messages(
         &self,
         channel: &Name,
@@ -98,11 +98,12 @@ pub trait Knowing {
     ) -> Result<Vec<(Name, Listed<u8>)>, NoMemory>
         ensures { IfOk result (λ sends. sends.items ≡ sends_of (mind self.now) channel.now state.now signature.now) };
 
-    /// With what it challenges in a channel: once it left, with the chain that it holds of a channel that is open.
+    /// What it challenges with in a channel: once it left, the chain that it holds of a channel that is open.
     fn challenge(&self, channel: &Name) -> Result<Option<OwnChallenge>, NoMemory>
         ensures { IfOk result (λ own. own ≡ challenge_in (mind self.now) channel.now) };
 
-    /// The calls that the stages give, or those of its exit once it left, by whether they were given before; at most 16000.
+    /// The calls that the stages give, or those of its exit once it left, by whether they were given before; at most
+    /// 16000.
     fn calls(&self, has_exited: bool) -> Result<Vec<Call>, NoMemory>
         ensures few { IfOk result (λ given. length given.items ≤ 16000) }
         ensures given { IfOk result (λ given. given.items ≡ calls_of tables has_exited (mind self.now)) };

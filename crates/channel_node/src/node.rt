@@ -104,7 +104,7 @@ fn last_signed<'a>(channel: &Name, events: &'a [Event]) -> Option<OwnState<'a>>
     last
 }
 
-/// A node. After it answered that memory is gone it answers nothing else.
+/// A node. Once it answered that memory ran out, it answers nothing else.
 #[derive(Drop)]
 pub struct Node<M: Knowing + Drop> {
     mind: M,
@@ -183,7 +183,7 @@ impl<M: Knowing + Drop> Node<M> {
         }
     }
 
-    /// Places a command and its event into the journal and among the commands.
+    /// Adds a command's event to the journal, and the command to the commands.
     fn take_up(&mut self, step: u32, command: Command) -> Result<Option<NodeRefusal>, NoMemory>
         ensures refusal { IfOk result (λ refusal.
             refusal ≡ command_refusal M.tables M.rules
@@ -362,7 +362,7 @@ impl<M: Knowing + Drop> Node<M> {
         }
     }
 
-    /// Takes a command up, or says why not; a payment it signs.
+    /// Takes a command up, or says why not. It signs a payment.
     pub fn command(&mut self, step: u32, command: Command) -> Result<Outs, NodeFault>
         ensures answer { CommandAnswers M.tables M.rules
             (signing_of self.old.signer) step command self.old self.new result }
@@ -404,7 +404,7 @@ impl<M: Knowing + Drop> Node<M> {
         self.mind.see(entry)
     }
 
-    /// Follows the entry that comes next. One that can't come next it doesn't follow: it is lost then too.
+    /// Follows the entry that comes next. It doesn't follow one that can't come next, and is lost then too.
     pub fn see(&mut self, entry: &Entry) -> Result<(), NoMemory>
         ensures ok { OnOk result ((self.old.is_lost ≡ false) × (self.new ≡ saw_one M.rules self.old entry.now)) }
         ensures err { OnErr result ((self.new.is_lost ≡ true) × SameJournal self.old self.new) }
@@ -594,7 +594,7 @@ impl<M: Knowing + Drop> Node<M> {
         Ok(())
     }
 
-    /// Places a call into the journal.
+    /// Adds a call to the journal.
     fn give(&mut self, call: &Call) -> Result<(), NoMemory>
         ensures ok { OnOk result (self.new ≡ gave_one self.old call.now) }
         ensures err { OnErr result (SameJournal self.old self.new) }
@@ -658,8 +658,8 @@ impl<M: Knowing + Drop> Node<M> {
         Ok(outs)
     }
 
-    /// Signs in each channel, in order, at most one state, which it wants there, or once it left at most one challenge,
-    /// and gives these and the calls of its stages or of its exit, at most 16384.
+    /// Signs at most one state in each channel, in order, which it wants there; once it left, at most one challenge.
+    /// It gives these and the calls of its stages or of its exit, at most 16384.
     pub fn tick(&mut self) -> Result<Outs, NoMemory>
         ensures gives { IfOk result (λ outs. outs ≡ tick_gives M.tables M.rules (signing_of self.old.signer) self.old) }
         ensures few { IfOk result (λ outs. length outs.calls ≤ 16384) }
@@ -694,7 +694,7 @@ impl<M: Knowing + Drop> Node<M> {
         Ok(())
     }
 
-    /// Places a look of its watcher into the journal, which had followed `seen` entries.
+    /// Adds a look of its watcher, which had followed `seen` entries, to the journal.
     pub fn watch(&mut self, seen: u32, place: u32, calls: Listed<Call>) -> Result<(), NoMemory>
         ensures ok { OnOk result ((self.old.is_lost ≡ false) × (self.new ≡ watched seen place calls self.old)) }
         ensures err { OnErr result ((self.new.is_lost ≡ true) × SameJournal self.old self.new) }

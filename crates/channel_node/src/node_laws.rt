@@ -1,5 +1,5 @@
-//! Laws alone: what a node's mind keeps is what is held, and its journal is honest, whatever its stages are; keys that are made
-//! of a seed sign well. Each function is empty: its contract is the law.
+//! Laws alone: what a node's mind keeps is what is held, and its journal is honest, whatever its stages are; keys
+//! that are made of a seed sign well. Each function is empty: its contract is the law.
 
 ghost use Rattle.channel_node.specs.Stored.{RefusedAsNoted};
 ghost use Rattle.channel_node.specs.NodeLaws.{CallsKeepStanding, FollowsWithin, FreshNodesStand, KeptIsHeld, LostNodesStand, PlayedJournalsAreHonest, PlayedJournalsLeaveForGood, StandingGrows, StandingNodesAreHonest};
@@ -20,8 +20,8 @@ pub fn played_journals_leave_for_good()
     ensures { PlayedJournalsLeaveForGood }
 {}
 
-/// A node that stands for a legal history stands for it after a message, a command, a tick with its states, challenges
-/// and calls, a look of its watcher, or the entry that comes next.
+/// A node that stands for a legal history still does after a message, a command or a tick with its states, challenges
+/// and calls. So it does after a look of its watcher, or the entry that comes next.
 pub fn calls_keep_standing()
     ensures { CallsKeepStanding }
 {}
@@ -31,7 +31,7 @@ pub fn fresh_nodes_stand()
     ensures { FreshNodesStand }
 {}
 
-/// A node that lost its memory stands for what it stood for, as long as its journal and its commands stay.
+/// A node whose memory ran out stands for what it stood for, as long as its journal and its commands stay.
 pub fn lost_nodes_stand()
     ensures { LostNodesStand }
 {}
@@ -61,7 +61,8 @@ pub fn made_keys_sign_well()
     ensures { MadeKeysSignWell }
 {}
 
-/// The journal of a node with such a key is honest over every legal history that it stands for, with no premise besides.
+/// The journal of a node with such a key is honest over every legal history that it stands for, with no premise
+/// besides.
 pub fn made_nodes_are_honest()
     ensures { MadeNodesAreHonest }
 {}

@@ -19,7 +19,7 @@ use Rattle.channel_safety.proofs.Tests.{cond-false, cond-true, le_or_lt, some-eq
 use Rattle.channel_safety.proofs.Lists.{In-append_cases, In-drop, get-within, get-append, get-end, get-drop, Mapped, get-map, get-set, get-push}
 use Rattle.channel_safety.proofs.Chains.{last_turn-low, turn_at, top_at, Stood, Parts, parts, whole, to_mark, FromMark, from_mark}
 
--- a mark after another was put is that one or was there
+-- a mark after another was added is that one or was there
 pub get-put : (n j : ℕ) (m : Mark) (marks : List Mark) (i : ℕ) (x : Mark) → slice_get (put n j m marks) i ≡ Some x → (x ≡ m) ⊎ (slice_get marks i ≡ Some x)
 get-put n j m marks i x e = go (nat_lt (length marks) n) refl
   where

@@ -1,4 +1,5 @@
--- What a supported chain has: a mark of each participant on a state of at least its last turn, and every step from there on.
+-- What a supported chain has: a mark of each participant on a state of at least its last turn, and every step from
+-- there on.
 use Rattle.std.proofs.Common.{◌≡◌, ℕ, zero, suc, ◌+◌, ◌-◌, ◌*◌, ◌%◌, ◌/◌, ◌<◌, ◌≤◌, Bool, true, false, not, ◌&&◌, ◌||◌, List, [], ◌∷◌, ◌⊎◌, inl, inr, length, refl, sym, ◌∙◌, ap, subst, arith}
 use Rattle.std.specs.Prelude.{nat_le, eqb, ltb, Option, Some, None, Ok, is_ok}
 use Rattle.std.specs.List.{slice_get}

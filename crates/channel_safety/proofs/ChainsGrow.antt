@@ -1,4 +1,5 @@
--- A state that passes the tests makes a supported chain another one, and the first round longer, until it is a supported chain.
+-- A state that passes the tests makes a supported chain another one, and the first round longer, until it is a
+-- supported chain.
 use Rattle.std.proofs.Common.{◌≡◌, ℕ, ◌+◌, ◌-◌, ◌%◌, ◌<◌, ◌≤◌, ◌==◌, true, ◌&&◌, List, [], ◌∷◌, ◌++◌, ◌⊎◌, inl, inr, length, map, refl, sym, ◌∙◌, ap, subst, arith, length-append}
 use Rattle.std.specs.Prelude.{nat_lt, slice_set, Option, Some, None}
 use Rattle.std.specs.List.{slice_get}

@@ -1,4 +1,5 @@
--- Each challenge of a participant that is cleared raises the turn, and no turn is n past the last one that it signed: so at most n - 1 are.
+-- Each challenge of a participant that is cleared raises the turn, and no turn is n past the last one that it signed:
+-- so at most n - 1 are.
 use Rattle.std.proofs.Common.{◌≡◌, ℕ, suc, ◌+◌, ◌<◌, ◌≤◌, ◌==◌, max, Bool, true, false, cond, ◌&&◌, not, List, [], ◌∷◌, ◌++◌, ◌⊎◌, inl, inr, length, refl, sym, ◌∙◌, ap, subst, arith}
 use Rattle.std.specs.Prelude.{nat_le, Option, Some, None}
 use Rattle.std.specs.List.{slice_get}

@@ -1,4 +1,5 @@
--- A history and a journal in which all premises hold and a challenge runs out: A signs turn 0, B signs turn 1 and challenges with both, A looks, and time passes.
+-- A history and a journal in which all premises hold and a challenge runs out: A signs turn 0, B signs turn 1 and
+-- challenges with both, A looks, and time passes.
 use Rattle.std.proofs.Common.{◌≡◌, ℕ, zero, suc, ◌+◌, ◌-◌, ◌<◌, ◌≤◌, Bool, true, false, cond, ◌||◌, List, [], ◌∷◌, ◌++◌, ◌⊎◌, inl, inr, length, drop, replicate, refl, sym, ◌∙◌, ap, subst, arith}
 use Rattle.std.specs.Prelude.{Option, Some, None}
 use Rattle.std.specs.Str.{bytes_eq}
@@ -34,7 +35,8 @@ use Rattle.channel_safety.specs.SafetyWitness.{RunsOutSafely}
 use Rattle.channel_safety.proofs.Tests.{clash, some-eq, none-eq}
 use Rattle.channel_safety.proofs.Lists.{In-append_right}
 
--- ---- the rules: a signature is the key, a name repeats the nonce, a digest is the turn and the name, and nothing is final
+-- ---- the rules: a signature is the key, a name repeats the nonce, a digest is the turn and the name, and nothing is
+-- final
 
 abbrev rules : Rules
 rules =

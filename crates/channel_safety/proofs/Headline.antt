@@ -1,4 +1,5 @@
--- An outcome becomes final by a conclude or as a challenge runs out, and in neither case is it older than what was noted and shown.
+-- An outcome becomes final by a conclude or as a challenge runs out, and in neither case is it older than what was
+-- noted and shown.
 use Rattle.std.proofs.Common.{◌≡◌, ℕ, ◌+◌, ◌%◌, ◌<◌, ◌≤◌, Bool, true, false, List, [], ◌∷◌, ◌++◌, ◌⊎◌, inl, inr, length, refl, sym, ◌∙◌, ap, subst, arith}
 use Rattle.std.specs.Prelude.{nat_le, Option, Some, None}
 use Rattle.channel_values.specs.Parts.{FixedParts, StateParts}

@@ -1,4 +1,5 @@
--- A mark of an honest participant stands on a state of its own turn, so a shown chain has every step after the last state that it signed.
+-- A mark of an honest participant stands on a state of its own turn, so a shown chain has every step after the last
+-- state that it signed.
 use Rattle.std.proofs.Common.{◌≡◌, ℕ, ◌%◌, ◌<◌, ◌≤◌, true, List, [], ◌∷◌, ◌++◌, inl, inr, length, refl, sym, ◌∙◌, ap, subst, arith}
 use Rattle.std.specs.Prelude.{Some}
 use Rattle.channel_values.specs.Parts.{FixedParts, StateParts}

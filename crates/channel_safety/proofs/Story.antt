@@ -1,5 +1,5 @@
--- A race of two rounds. A signs turn 0, B shows it with turn 1, and A signs turn 2; B challenges with turns 0 and 1, A's look answers with turns 1 and 2,
--- B challenges with these, and time passes.
+-- A race of two rounds. A signs turn 0, B shows it with turn 1, and A signs turn 2. B challenges with turns 0 and 1,
+-- A's look answers with turns 1 and 2, B challenges with these, and time passes.
 use Rattle.std.proofs.Common.{◌≡◌, ℕ, ◌-◌, ◌≤◌, Bool, true, false, cond, ◌||◌, List, [], ◌∷◌, inl, inr, replicate, refl, sym, ap, subst, arith}
 use Rattle.std.specs.Prelude.{Some, None}
 use Rattle.std.specs.List.{AllByRecursion}
@@ -33,7 +33,8 @@ use Rattle.channel_safety.specs.Growing.{AreTimeless, HaveSeen, GainsRound}
 use Rattle.channel_safety.specs.RaceWitness.{Story, first_round, second_round, history, journal, PassesRounds, RacesCanPass}
 use Rattle.channel_safety.proofs.Grows.{begins, goes_on, round_ends}
 
--- ---- the rules: a signature is the key, a name repeats the nonce, a digest is the turn and the name, and nothing is final
+-- ---- the rules: a signature is the key, a name repeats the nonce, a digest is the turn and the name, and nothing is
+-- final
 
 abbrev pub rules : Rules
 rules =

@@ -1,4 +1,5 @@
--- Where names and digests are hashes and no two strings have one, names tell fixed parts, and digests states and outcomes.
+-- Where names and digests are hashes and no two strings have one, names determine fixed parts. Digests determine
+-- states and outcomes.
 use Rattle.std.proofs.Common.{◌≡◌, ℕ, List, ◌⊎◌, inl, inr, length, refl, sym, ap, subst, ◌∙◌}
 use Rattle.std.specs.Prelude.{Option, Some, map, flat_map}
 use Rattle.channel_values.specs.Parts.{FixedParts, StateParts, IsState}
@@ -123,7 +124,7 @@ outcome-of_op op o i = go (In-append_cases o (given_in op) (map (λ (s : StatePa
 outcome-there : (h : List Entry) (journal : List Line) (o : List AssetOutcome) → OccursOutcome h o → In (of_outcome o) (hashed h journal)
 outcome-there h journal o x = in-entry h journal x.0 (of_outcome o) x.1 (outcome-of_op x.0.op o x.2)
 
--- ---- what they tell
+-- ---- what they determine
 
 pub tells : StringsTell
 tells r h journal by valid none = record {

@@ -1,4 +1,4 @@
--- What tests and their answers tell.
+-- What tests and their answers mean.
 use Rattle.std.proofs.Common.{◌≡◌, ℕ, ◌<◌, ◌≤◌, Bool, true, false, cond, ◌&&◌, ◌||◌, not, ◌⊎◌, refl, arith}
 use Rattle.std.specs.Prelude.{nat_lt, nat_le, ◌==◌, Option, Some, None, Result, Ok, Err, is_ok, is_none}
 use Rattle.std.proofs.lemmas.Bool.Decides.{nat_tests}

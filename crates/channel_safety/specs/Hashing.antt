@@ -23,7 +23,7 @@ pub record Hashes (r : Rules) : Type 0 where
   pub digest : (channel : List ℕ) (s : StateParts) → r.digest channel s ≡ digest_of_state channel (state s)
   pub outcome_digest : (o : List AssetOutcome) → r.outcome_digest o ≡ digest_of_outcome (outcome o)
 
--- where none of the hashed strings collide, names tell fixed parts, and digests tell states and outcomes
+-- where none of the hashed strings collide, names determine fixed parts, and digests determine states and outcomes
 abbrev pub StringsTell : Type 0
 StringsTell =
     (r : Rules) (h : List Entry) (journal : List Line) → Hashes r → AreValid h journal → NoneCollide (hashed h journal)

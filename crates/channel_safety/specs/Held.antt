@@ -7,8 +7,8 @@ use Rattle.call_history.specs.Shown.{shown}
 use Rattle.call_history.specs.declared.entry.Entry.{Entry}
 use Rattle.channel_safety.specs.Journals.{Line, opens, noted_in}
 
--- None until the channel is in the plan; then the states of the first round as they come, each with its mover's mark,
--- and the held chain once that is supported
+-- None until the channel is in the plan. Then the states of the first round as they come, each with its mover's mark,
+-- and the held chain once that is supported.
 abbrev pub note : Rules → FixedParts → Line → Option Marked → Option Marked
 note r f x None = if opens r (r.named f) x then Some nothing else None
 note r f x (Some w) = Some (extended r f (noted_in (r.named f) x.deed) w)

@@ -1,4 +1,4 @@
--- Which values occur in a history and a journal: that names and digests tell them, and that they are valid.
+-- Which values occur in a history and a journal: that names and digests determine them, and that they are valid.
 use Rattle.std.specs.Prelude.{◌≡◌, ℕ, List, Some, ◌⊎◌}
 use Rattle.channel_values.specs.Parts.{FixedParts, StateParts, IsFixed, IsState}
 use Rattle.channel_values.specs.Outcomes.{IsName, IsOutcome}

@@ -60,8 +60,8 @@ pub record RunsOut (r : Rules) (channel : List ℕ) (e : Entry) (mid : List Entr
   pub ends : time_set e.op e.reply ≡ Some time
   pub late : now_of past + chain.fixed.duration ≤ time
 
--- One look that had seen the challenge and not its end, after every state of the channel that was noted before the end,
--- and whose calls for the channel were entered between what it had seen and the end.
+-- One look that had seen the challenge and not its end, after every state of the channel that was noted before the
+-- end. Its calls for the channel were entered between what it had seen and the end.
 pub record Looked (r : Rules) (channel : List ℕ) (journal : List Line) (mid : List Entry) (m : Entry)
     (past : List Entry) : Type 0 where
   pub newer : List Line

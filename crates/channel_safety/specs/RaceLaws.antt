@@ -15,7 +15,7 @@ RacesAreInTime =
     (r : Rules) (h : List Entry) (journal : List Line) (ends : List ℕ)
     → IsRaced h journal ends → StandForTwo r h journal → InTime r h journal
 
--- and they do where the opened channels have such durations and names tell them
+-- and they do where the opened channels have such durations and names determine them
 abbrev pub LastingChannelsStandForTwo : Type 0
 LastingChannelsStandForTwo =
     (r : Rules) (h : List Entry) (journal : List Line)

@@ -17,7 +17,8 @@ use Rattle.channel_safety.specs.Races.{IsRaced, StandForTwo, NotesLasting}
 pub record Story : Type 0 where
   pub rules : Rules
   pub fixed : FixedParts
-  -- before the first round; the other's challenge with old states, the answer, and the other's next challenge; the times
+  -- before the first round; the other's challenge with old states, the answer, and the other's next challenge; the
+  -- times
   pub before : List Entry
   pub attack : Entry
   pub answer : Entry
@@ -52,8 +53,8 @@ pub record Answers (s : Story) : Type 0 where
   pub looked : s.first_look.deed ≡ deeds.Watched 0 (Checkpoint chain ∷ [])
   pub entered : s.answer.op ≡ ops.Call (Checkpoint chain)
 
--- The other challenges and is answered, both in the first round; it challenges again, which the first look doesn't see
--- and the second leaves as it is, and that runs out at the second round's end.
+-- The other challenges and is answered, both in the first round. It challenges again, which the first look doesn't
+-- see. The second look leaves that as it is, and it runs out at the second round's end.
 pub record PassesRounds (s : Story) : Type 0 where
   pub legal : Legal s.rules (history s)
   pub raced : IsRaced (history s) (journal s) (length (second_round s) ∷ length (first_round s) ∷ [])

@@ -22,7 +22,7 @@ pub record IsChannelOf (key : List ℕ) (f : FixedParts) (journal : List Line) (
   pub me : ℕ
   pub mine : slice_get f.keys me ≡ Some key
 
--- A supported chain is held, as new as each state noted and each chain shown before; and each of these has a turn of at
+-- A supported chain is held, as new as each state noted and each chain shown before. Each of these has a turn of at
 -- most this one, or this outcome.
 pub record IsNotOlder (r : Rules) (f : FixedParts) (past : List Entry) (journal : List Line) (turn : ℕ)
     (outcome : List AssetOutcome) : Type 0 where

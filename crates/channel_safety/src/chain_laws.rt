@@ -2,8 +2,9 @@
 
 ghost use Rattle.channel_safety.specs.ChainLaws.{GoodChainsGrow};
 
-/// With a state that passes the tests, the first round so far, each state with its mover's mark, stays one or becomes a
-/// supported chain, and a supported chain stays one; its last state is the added one.
+/// A state that passes the tests is added to the first round so far, each state with its mover's mark, or to a
+/// supported chain. The first round stays one or becomes a supported chain, and a supported chain stays one. Its last
+/// state is the added one.
 pub fn good_chains_grow()
     ensures { GoodChainsGrow }
 {}

@@ -3,8 +3,8 @@
 
 ghost use Rattle.channel_safety.specs.Hashing.{StringsTell, HashedOutcomesAreNotOlder, HashedChainsHaveTheSteps, FewHashedChallengesAreCleared};
 
-/// Where none of the strings that a history and a journal hash collide, a name determines its fixed part, the digest of
-/// a state its channel and the state, and the digest of an outcome the outcome.
+/// Where no strings that a history and a journal hash collide, a name determines its fixed part. The digest of a
+/// state determines its channel and the state, and the digest of an outcome the outcome.
 pub fn strings_tell()
     ensures { StringsTell }
 {}

@@ -3,9 +3,10 @@
 ghost use Rattle.channel_safety.specs.Settled.{FinalOutcomesAreTold};
 ghost use Rattle.channel_safety.specs.SafetyLaws.{OutcomesAreNotOlder, HeldChainsAreSupported, ShownChainsHaveTheSteps, FewChallengesAreCleared, HonestTakePart};
 
-/// At the entry by which a channel of an honest participant becomes final, with watchers in time, nothing forged and no
-/// collision, its outcome isn't older than the newest supported state: each state that the participant noted and each
-/// supported chain that was shown by then has a turn of at most the recorded one, or that same outcome.
+/// At the entry by which a channel of an honest participant becomes final, its outcome isn't older than the newest
+/// supported state. So it is with watchers in time, nothing forged and no collision. Each state that the participant
+/// noted, and each supported chain that was shown by then, has a turn of at most the recorded one, or that same
+/// outcome.
 pub fn outcomes_are_not_older()
     ensures { OutcomesAreNotOlder }
 {}
@@ -21,14 +22,14 @@ pub fn shown_chains_have_the_steps()
     ensures { ShownChainsHaveTheSteps }
 {}
 
-/// Of the challenges that an honest participant signs in a channel of n, at most n - 1 are followed by another turning
-/// entry before they run out, a conclude not counted.
+/// Of an honest participant's challenges in a channel of n, at most n - 1 are followed by another entry that raises
+/// the turn before they run out. A conclude isn't counted.
 pub fn few_challenges_are_cleared()
     ensures { FewChallengesAreCleared }
 {}
 
-/// Where no digests collide, the digest of an outcome says what a final channel ended with: it has settled on an
-/// outcome of an entry, and whatever outcome a transfer or a claim gives that has the recorded digest is that one.
+/// Where no digests collide, the digest of an outcome says what a final channel ended with. It has settled on an
+/// outcome of an entry. Any outcome with the recorded digest that a transfer or a claim gives is that one.
 pub fn final_outcomes_are_told()
     ensures { FinalOutcomesAreTold }
 {}

@@ -1,4 +1,5 @@
--- What a change of one channel makes of the lists: where a list has one element of it before and after, that one changes.
+-- What a change of one channel makes of the lists: where a list has one element of it before and after, that one
+-- changes.
 use Rattle.std.proofs.Common.{◌≡◌, ℕ, zero, suc, ◌+◌, ◌-◌, ◌<◌, ◌≤◌, ◌==◌, Bool, true, false, cond, ◌&&◌, List, [], ◌∷◌, ◌++◌, Some, None, length, take, map, set, get_or, refl, sym, ◌∙◌, ap, subst, arith, length-append}
 use Rattle.std.specs.Prelude.{Option, slice_set, slice_index_or}
 use Rattle.std.specs.List.{flat_map}

@@ -19,12 +19,12 @@ refusal_at r next (Some k) = note_fault r k next
 abbrev pub refusal_of : Rules → List ℕ → Signed → List Kept → Option NoteFault
 refusal_of r channel next kept = refusal_at r next (kept_of channel kept)
 
--- the fault of a call: why it does nothing, or want of memory for what it would do
+-- the fault of a call: why it does nothing, or that memory ran out for what it would do
 abbrev pub fault_of : Option NoteFault → NoteFault
 fault_of None = faults.NoMemory
 fault_of (Some fault) = fault
 
--- the call did what was wanted, or told that fault and changed nothing
+-- the call did what was wanted, or answered that fault and changed nothing
 abbrev pub Notes : {A : Type 0} → Result A NoteFault → Option NoteFault → List Kept → List Kept → List Kept → Type 0
 Notes (Ok done) refusal wanted old new = (refusal ≡ None) × (new ≡ wanted)
 Notes (Err fault) refusal wanted old new = (fault ≡ fault_of refusal) × (new ≡ old)

@@ -247,8 +247,8 @@ fn put_place(places: &mut Vec<Place>, kept: &[Kept], place: usize, k: &Kept, new
 
 impl Lent {
     #[tactic(auto, using(crate::proofs::Lists::chains_alike, crate::proofs::Lists::known_alike))]
-    /// Changes what is lent of the channel at a place, of which a chain was lent before and is now, or neither, and so a
-    /// last state signed.
+    /// Changes what is lent of the channel at a place, of which a chain was lent before and is now, or neither, and
+    /// so a last state signed.
     pub(crate) fn put(&mut self, kept: &[Kept], place: usize, k: &Kept, one: LentOne)
         requires within { place < length kept.now }
         requires alike { are_alike (slice_index_or kept.now place k.now) k.now ≡ true }

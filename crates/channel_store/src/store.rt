@@ -103,7 +103,7 @@ impl Store {
         }
     }
 
-    /// Adds a channel that isn't there (`next_turn` is None), in which the participant has the position `me`.
+    /// Adds a channel that isn't kept yet (`next_turn` is None), in which the participant has the position `me`.
     pub fn add_channel(&mut self, fixed: Fixed, me: u8) -> Result<(), NoMemory>
         requires new { IsNone (kept_of (name_of_channel (spelled fixed)) self.old) }
         requires position { me < people fixed }
@@ -240,8 +240,9 @@ impl Store {
         }
     }
 
-    /// Adopts a chain that was shown of a channel, and says whether it did: where the channel is kept, the chain's
-    /// states and marks are supported with the channel's own fixed part, and no chain is held or the held one is older.
+    /// Adopts a chain that was shown of a channel, and says whether it did. It does where the channel is kept, and
+    /// the chain's states and marks are supported with the channel's own fixed part. Also no chain is held, or the
+    /// held one is older.
     #[tactic(auto, using(crate::proofs::Calls::adopts_nothing, crate::proofs::Calls::changes_nothing, crate::proofs::Calls::keeps, crate::proofs::Calls::adopts, std::proofs::lemmas::Option::slice_get_within))]
     pub fn adopt(&mut self, channel: &Name, mut shown: Chain) -> Result<bool, NoMemory>
         ensures { Adopts result (is_adopted real channel.now (marked_of shown) self.old)

@@ -18,8 +18,8 @@ pub fn lines_note_states()
     ensures { LinesNoteStates }
 {}
 
-/// What is kept of each channel is what is held of it, once a chain is adopted that an entry shows of a channel. Whether
-/// it is adopted is asked of the channel's own fixed part, so no two names need to differ.
+/// What is kept of each channel is what is held of it, once a chain is adopted that an entry shows of a channel. It
+/// is adopted or not by the channel's own fixed part, so no two names need to differ.
 pub fn adopting_is_held()
     ensures { AdoptingIsHeld }
 {}
@@ -35,7 +35,7 @@ pub fn adopting_is_alone()
 {}
 
 /// Under any rules what is kept of each channel stays its first round so far, each state with its mover's mark, or a
-/// supported chain; then each held chain is supported.
+/// supported chain. Then each held chain is supported.
 pub fn kept_are_good()
     ensures { KeptAreGood }
 {}

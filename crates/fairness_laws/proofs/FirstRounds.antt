@@ -215,16 +215,17 @@ no-payment (deeds.Called call) of command w e = absurd cc
 
 -- ---- what the tables say of a part and one of its channels
 
--- what is known at a place of the command that opened it: its fixed parts are those that are kept, its goal is the part's, and
--- the channel is no ledger of the part; and each channel is kept once
+-- What is known at a place of the command that opened it. Its fixed parts are those that are kept, its goal is the
+-- part's, and the channel is no ledger of the part. Each channel is kept once.
 pub record IsPlace (m : Mind) (command : Command) (p : Part) (f : FixedParts) : Type 0 where
   pub fixed : (x : FixedParts) → In x (opened_by command) → (k : Kept) → kept_of (real.named x) m.kept ≡ Some k → k.chain.fixed ≡ x
   pub goal : (g : Goal) → goal_in (facts_of m) (own_channel p) ≡ Some g → IsGoalOf command g
   pub apart : is_among (real.named f) (ledgers_of p) ≡ true → ⊥
   pub once : are_apart (names m.kept) ≡ true
 
--- The node is in the channel, which is kept so far where the part runs; it runs where it isn't unfinished and Close wasn't
--- commanded; and in the first round what is taken, and what is wanted while Close wasn't commanded, repeats an outcome.
+-- The node is in the channel, which is kept so far where the part runs. It runs where it isn't unfinished and Close
+-- wasn't commanded. In the first round what is taken, and what is wanted while Close wasn't commanded, repeats an
+-- outcome.
 pub record Starts (command : Command) (p : Part) (f : FixedParts) (opening : List AssetOutcome) (turn : ℕ) : Type 0 where
   pub own : is_among (real.named f) (joined_of p) ≡ true
   pub enough : people f ≤ turn + 1

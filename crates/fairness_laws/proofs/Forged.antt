@@ -1,4 +1,5 @@
--- B opens a channel with A, and a checkpoint shows a final state of turn 2 that neither signed: B's stage wants turn 3 of the set-up, which follows no final state.
+-- B opens a channel with A, and a checkpoint shows a final state of turn 2 that neither signed: B's stage wants turn
+-- 3 of the set-up, which follows no final state.
 use Rattle.std.proofs.Common.{◌≡◌, ℕ, Bool, true, false, ◌||◌, List, [], ◌∷◌, replicate, refl, sym, ◌∙◌, ap, subst, arith}
 use Rattle.std.specs.Prelude.{Some, None}
 use Rattle.std.specs.Str.{bytes_eq}

@@ -1,4 +1,5 @@
--- What the channels of a virtual channel open with, and what is signed in its guarantors, by the command that opened its part.
+-- What the channels of a virtual channel open with, and what is signed in its guarantors, by the command that opened
+-- its part.
 use Rattle.std.proofs.Common.{◌≡◌, ℕ, ◌+◌, ◌≤◌, Bool, true, false, cond, List, [], ◌∷◌, inl, inr, refl, sym, ◌∙◌, ap, subst, arith}
 use Rattle.std.specs.Prelude.{Some}
 use Rattle.channel_values.specs.Outcomes.{IsName}

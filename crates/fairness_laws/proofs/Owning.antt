@@ -51,7 +51,7 @@ plain-in [] all call i = absurd i
 plain-in (x ∷ calls) all call (inl e) = subst IsPlain (sym e) all.0
 plain-in (x ∷ calls) all call (inr i) = plain-in calls all.1 call i
 
--- who challenges is the place that is kept
+-- the challenger is the place that is kept
 who-is : (k : Kept) (c : OwnChallenge) (o : Option StateParts) → challenge_with k o ≡ Some c → c.who ≡ k.me
 who-is k c None e = absurd (none-eq c e)
 who-is k c (Some state) e = sym (ap (λ (z : OwnChallenge). z.who) (some-eq (record { chain = k.chain; state = state; who = k.me }) c e))

@@ -1,4 +1,5 @@
--- What a row of a root's table wants: a repeated state in the two rows of the set-up, and a final state in that of closing.
+-- What a row of a root's table wants: a repeated state in the two rows of the set-up, and a final state in that of
+-- closing.
 use Rattle.std.proofs.Common.{◌≡◌, ℕ, ◌*◌, ◌-◌, Bool, true, false, cond, ◌||◌, List, [], ◌∷◌, ◌⊎◌, inl, inr, refl}
 use Rattle.std.specs.Prelude.{◌==◌, not, ◌&&◌, Option, Some, None}
 use Rattle.std.specs.Str.{bytes_eq}
@@ -37,8 +38,8 @@ row-of name channel true true true true false l5 w0 w2 w4 c1 c5 c6 s e = (refl, 
 row-of name channel true true true true true false w0 w2 w4 c1 c5 c6 s e = absurd (none-eq s e)
 row-of name channel true true true true true true w0 w2 w4 c1 c5 c6 s e = absurd (none-eq s e)
 
--- what is wanted, by the stage: a repeated state of the set-up, or a final state where Close was commanded and the participant
--- didn't let go of it
+-- what is wanted, by the stage: a repeated state of the set-up, or a final state where Close was commanded and the
+-- participant didn't let go of it
 pub data IsWanted (d : Direct) (s : StateParts) : Type 0 where
   opens : (from until : ℕ) → (until ≡ people d) ⊎ (until ≡ 2 * people d) → repeats from until d.channel ≡ Some s → IsWanted d s
   closes : d.closing ≡ true → d.over ≡ false → d.channel.all_final ≡ false → final_state d.channel ≡ Some s → IsWanted d s

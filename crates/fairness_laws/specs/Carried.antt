@@ -26,8 +26,8 @@ IsRepeatedIfAny f opening None = Unit {0}
 IsRepeatedIfAny f opening (Some w) =
     (t : StateParts) → newest w.states ≡ Some t → t.turn < 2 * people f → is_repeated opening t ≡ true
 
--- At each place of a legal history and an honest journal, of which `front` is what was written so far, the latest state that is
--- held repeats it, while the set-up lasts.
+-- At each place of a legal history and an honest journal the latest state that is held repeats it, while the set-up
+-- lasts. `front` is what was written so far.
 abbrev pub SetUpsAreCarried : Type 0
 SetUpsAreCarried =
     (key : List ℕ) (h : List Entry) (journal : List Line) → Legal real h → Honest real key h journal

@@ -26,7 +26,7 @@ use Rattle.share_laws.specs.Places.{plan}
 use Rattle.support_rules.specs.Real.{real}
 use Rattle.fairness_laws.specs.Wanting.{WantsFairly, PaysInHeld}
 
--- whoever's parts want fairly, and who signs guarantees alone in its guarantors, plans fairly
+-- a node whose parts want fairly, and that signs guarantees alone in its guarantors, plans fairly
 abbrev pub WantingPlansFairly : Type 0
 WantingPlansFairly =
     (s : Signing) (h : List Entry) (journal : List Told) → IsFair s h journal
@@ -69,8 +69,8 @@ MiddlesWantFairly =
     (s : Signing) (h : List Entry) (journal : List Told) (v : Virtual) → IsFair s h journal
     → WantsFairly s h journal (Middle v)
 
--- what holds of each journal that a node's rules give over a legal history, where nothing is forged and no hashed strings collide,
--- those of its key and of all that its commands name among them
+-- What holds of each journal that a node's rules give over a legal history, where nothing is forged and no hashed
+-- strings collide. These are also those of its key and of all that its commands name.
 abbrev pub OfEachNode : (Signing → List Entry → List Told → Type 0) → Type 0
 OfEachNode P =
     (s : Signing) (h : List Entry) (journal : List Told) → SignsWell real s → Legal real h → Plays stages real s h journal
@@ -83,14 +83,14 @@ abbrev pub NodesPlanFairly : Type 0
 NodesPlanFairly =
     OfEachNode (λ s h journal. PlansFairly real (name_of_person s.key) (orders_of real s.key journal) h (lines_of s.key journal))
 
--- So what it signs lowers its person's share by no more than the payment that was commanded right before, and not at all where
--- none was and the plan is funded.
+-- So what it signs lowers its person's share by no more than the payment that was commanded right before. Where none
+-- was and the plan is funded, it doesn't lower it at all.
 abbrev pub NodesSignFairly : Type 0
 NodesSignFairly =
     OfEachNode (λ s h journal. SignaturesAreFair real (name_of_person s.key) (orders_of real s.key journal) h (lines_of s.key journal))
 
--- So nobody lowers the share of a node's person, and it can leave with it, where nothing is forged, no hashed strings collide,
--- those of its key and of all that its commands name among them, and its watchers are in time.
+-- So nobody lowers the share of a node's person, and it can leave with it. Nothing is forged, and no hashed strings
+-- collide, those of its key and of all that its commands name among them. Its watchers are in time.
 abbrev pub PlansKeepShares : Type 0
 PlansKeepShares =
     (s : Signing) (h : List Entry) (journal : List Told) → SignsWell real s → Legal real h → Plays stages real s h journal

@@ -12,8 +12,8 @@ use Rattle.channel_node.specs.Playing.{Signing, SignsWell, signings, Plays}
 use Rattle.channel_node.specs.Refusing.{wish, signs_in}
 use Rattle.fairness_laws.specs.Table.{stages}
 
--- Rules with the network's steps, a legal history, and a journal that they give, in which the node signed nothing: at its end
--- a stage wants a state that the node doesn't sign.
+-- Rules with the network's steps, a legal history, and a journal that they give, in which the node signed nothing. At
+-- its end a stage wants a state that the node doesn't sign.
 pub record GuardBites : Type 0 where
   pub rules : Rules
   pub steps : rules.step ≡ step_fault

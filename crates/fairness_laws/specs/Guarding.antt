@@ -14,8 +14,8 @@ use Rattle.stage_tables.specs.Stages.{stages}
 use Rattle.share_laws.specs.Places.{channels}
 use Rattle.support_rules.specs.Real.{real}
 
--- At each place of its journal it signs in each own channel what it wishes there while no payment waits: what the stage of the part
--- that is asked wants, unless it left or a live channel isn't open.
+-- At each place of its journal it signs in each own channel what it wishes there while no payment waits. That is what
+-- the stage of the part that is asked wants, unless it left or a live channel isn't open.
 abbrev pub PartsSignAtPlaces : Type 0
 PartsSignAtPlaces =
     (s : Signing) (h : List Entry) (journal : List Told) (past : List Entry) (front : List Told) → IsFair s h journal

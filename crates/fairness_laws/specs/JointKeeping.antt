@@ -39,9 +39,9 @@ pub record IsOver (p : End) (o : List AssetOutcome) : Type 0 where
 
 -- Of the joint channel at an end, by the state that the end signed last there.
 pub record EndKeeps (g : Goal) (p : End) : Type 0 where
-  -- who signed past its set-up, or was told to close, holds the set-up of all three channels
+  -- a participant that signed past its set-up, or was told to close, holds the set-up of all three channels
   pub set_up : (p.closing ≡ true) ⊎ (has_signed_past p.joint ≡ true) → ends.are_set_up p ≡ true
-  -- who signed past the payment channel's set-up, or was told to close, signed past this one's
+  -- a participant that signed past the payment channel's set-up, or was told to close, signed past this one's
   pub past : (p.closing ≡ true) ⊎ (has_signed_past p.channel ≡ true) → has_signed_past p.joint ≡ true
   -- in the set-up it pays the ends what they bring
   pub opens : (last : StateParts) → p.joint.own ≡ Some last → has_signed_past p.joint ≡ false → outcomes_of last ≡ apart p.terms g.amounts ∷ []

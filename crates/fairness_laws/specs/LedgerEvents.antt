@@ -30,7 +30,8 @@ PaymentsRun s h journal =
     × ((f : FixedParts) → In f (channels (lines_of s.key front)) → real.named f ≡ paid → f.app ≡ 1)
     × ((l : List ℕ) (k : Lent) → In (kinds.OnLedger l paid) (parts_at s past front) → lends_at s past front l (kinds.OnLedger l paid) ≡ Some k → k.is_up ≡ true)
 
--- what the set-up of a ledger wants repeats an outcome with which it could end, or is the first state, while nothing stands on it
+-- what the set-up of a ledger wants repeats an outcome with which it could end, or is the first state, while nothing
+-- stands on it
 abbrev pub SetUpsStart : Signing → (h : List Entry) → (journal : List Told) → Type 0
 SetUpsStart s h journal =
     (past : List Entry) (x : Told) (front : List Told) → ActsNext s h journal past x front

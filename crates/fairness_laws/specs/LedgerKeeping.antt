@@ -43,8 +43,8 @@ IsPending k last = ((k.closing ≡ false) × (k.done ≡ false)) ⊎ ((k.closing
 abbrev pub IsVoted : Lent → StateParts → Type 0
 IsVoted k last = ((k.closing ≡ false) × (k.is_up ≡ false)) ⊎ ((k.closing ≡ true) × (k.falls ≡ true) × (names k.child last.outcome ≡ true))
 
--- What can become of a ledger, where the participant signed this state last: it backs each part that stands on it; it names
--- children of such parts alone; and votes stand only for a part for which it goes up or down.
+-- What can become of a ledger, where the participant signed this state last. It backs each part that stands on it,
+-- and names children of such parts only. Votes stand only for a part for which it goes up or down.
 pub record LedgerKeeps (parts : List Part) (lends : Lends) (l : List ℕ) (last : StateParts) : Type 0 where
   pub backs : (p : Part) (k : Lent) (o : List AssetOutcome) → In p parts → lends l p ≡ Some k → In o (outcomes_of last) → Backs k last o
   pub known : (asset : ℕ) (x : List ℕ) (o : List AssetOutcome) → In o (outcomes_of last) → has (items_in asset o) (Channel x) ≡ true
@@ -93,8 +93,8 @@ pub record HasGoneUp (k : Lent) (last : StateParts) : Type 0 where
   pub alone : outcomes_of last ≡ last.outcome ∷ []
   pub named : names k.child last.outcome ≡ true
 
--- what is set aside for a part, later: the same child; where it went up or may go down it stays so, and where it has now gone
--- up the ledger says so
+-- What is set aside for a part, later: the same child. Where it went up or may go down it stays so, and where it has
+-- now gone up the ledger says so.
 pub record Later (k j : Lent) (own : Option StateParts) : Type 0 where
   pub child : j.child ≡ k.child
   pub closing : j.closing ≡ k.closing

@@ -35,7 +35,8 @@ pub record StandsOn (f : FactsOf) (l : List ℕ) (k : Lent) (last : StateParts) 
   pub up : HasGoneUp k last
   pub stays_open : (g : Goal) → goal_in f l ≡ Some g → g.closing ≡ false
 
--- so does each ledger on which a part stands that has gone up, while it isn't opened yet, or closes and the ledger may not go down
+-- so does each ledger on which a part stands that has gone up, while it isn't opened yet, or closes and the ledger
+-- may not go down
 abbrev pub LedgersStand : FactsOf → Type 0
 LedgersStand f =
     (p : Part) (l : List ℕ) (k : Lent) (last : StateParts) → In p f.plan.parts → lent f l p ≡ Some k → k.ledger.own ≡ Some last

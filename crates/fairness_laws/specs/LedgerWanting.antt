@@ -40,7 +40,8 @@ FundedWantsOn =
     (p : Funded) (s : StateParts) → bytes_eq p.channel.name p.ledger.name ≡ false → wanted_in p.ledger.name (on_ledger_rows p) ≡ Some s
     → WantsOn (of_funded p) s
 
--- an end, where, once it closes, a joint channel that is settled on amounts for the ends has no item for the payment channel
+-- an end, where, once it closes, a joint channel that is settled on amounts for the ends has no item for the payment
+-- channel
 abbrev pub EndWantsOn : Type 0
 EndWantsOn =
     (p : End) (s : StateParts) → bytes_eq p.channel.name p.ledger.name ≡ false → bytes_eq p.joint.name p.ledger.name ≡ false
@@ -60,8 +61,8 @@ MiddleWantsOn =
 
 -- ---- what is still to be done
 
--- a payment channel that a ledger funds and that isn't up isn't finished, where what holds its third turn was signed past the
--- set-up; nor is one that closes and isn't down
+-- A payment channel that a ledger funds and that isn't up isn't finished, where what holds its third turn was signed
+-- past the set-up. Nor is one that closes and isn't down.
 abbrev pub FundedUnfinished : Type 0
 FundedUnfinished =
     (p : Funded)

@@ -1,5 +1,5 @@
--- What a node keeps, whatever comes to it: it called its own challenges alone, and knows each channel by its name and by its
--- own place there.
+-- What a node keeps, whatever comes to it: it called its own challenges alone, and knows each channel by its name and
+-- by its own place there.
 use Rattle.std.specs.Prelude.{◌≡◌, ℕ, false, List, Some, slice_get}
 use Rattle.std.specs.List.{AllByRecursion}
 use Rattle.call_history.specs.declared.entry.Entry.{Entry}
@@ -33,7 +33,7 @@ pub record StandsOwning (h : List Entry) (p : Numbered) : Type 0 where
   pub placed : IsPlaced h p
   pub owning : p.node.is_lost ≡ false → Owns (key_of p.node.signer) p.node
 
--- Whatever a node is told, handed or shown of a legal history, it stands so.
+-- Whatever a node is commanded, handed or shown of a legal history, it stands so.
 abbrev pub NodesStandOwning : Type 0
 NodesStandOwning = AreKept ways StandsOwning
 

@@ -42,8 +42,8 @@ pub record IsShared (f : FixedParts) (asset all : ℕ) (o : List AssetOutcome) :
 abbrev pub HasShared : FixedParts → ℕ → ℕ → StateParts → Type 0
 HasShared f asset all t = IsShared f asset all t.outcome × (t.app_bytes ≡ [])
 
--- So are the latest state that is held and the one that the participant signed last; and where all states that are held are
--- final, so is that one, with the same outcome.
+-- So are the latest state that is held and the one that the participant signed last. Where all states that are held
+-- are final, so is that one, with the same outcome.
 pub record Shares (f : FixedParts) (asset all : ℕ) (c : Seat) : Type 0 where
   pub top : (t : StateParts) → c.top ≡ Some t → HasShared f asset all t
   pub own : (t : StateParts) → c.own ≡ Some t → HasShared f asset all t
@@ -70,7 +70,8 @@ pub record SharesOver (f : FixedParts) (asset all : ℕ) (c : Seat) : Type 0 whe
   pub top : (t : StateParts) → c.top ≡ Some t → IsShared f asset all t.outcome
   pub own : (t own : StateParts) → c.top ≡ Some t → c.own ≡ Some own → (own.outcome ≡ t.outcome) × (outcomes_of own ≡ own.outcome ∷ [])
 
--- So it is in the channel of an end, be that a payment channel or a ledger, once it closes and all that is held there is final.
+-- So it is in the channel of an end, whether that is a payment channel or a ledger, once it closes and all that is
+-- held there is final.
 abbrev pub EndsShareOver : Type 0
 EndsShareOver =
     (s : Signing) (h : List Entry) (journal : List Told) (past : List Entry) (front : List Told) → IsFair s h journal
@@ -79,8 +80,9 @@ EndsShareOver =
     → (e : EndIs s.key past (lines_of s.key front) (facts_of (mind_at real s.key past front)) v g) → e.end.closing ≡ true
     → e.end.channel.all_final ≡ true → SharesOver e.fixed v.asset v.total e.end.channel
 
--- Where all states that are held of a channel are final, the latest one and the last own one stay final, with the same outcomes.
--- All of them do with two people; with more a newer chain can begin with another state, that its mover signed besides.
+-- Where all states that are held of a channel are final, the latest one and the last own one stay final, with the
+-- same outcomes. All of them do with two people. With more a newer chain can begin with another state that its mover
+-- signed too.
 pub record StaysEnded (c d : Seat) : Type 0 where
   pub ended : length d.people ≡ 2 → d.all_final ≡ true
   pub top : (t u : StateParts) → c.top ≡ Some t → d.top ≡ Some u → (u.is_final ≡ true) × (u.outcome ≡ t.outcome)

@@ -21,8 +21,8 @@ use Rattle.channel_node.specs.Playing.{Signing, SignsWell, Plays}
 use Rattle.channel_node.specs.Refusing.{wish, signs_in}
 use Rattle.fairness_laws.specs.Table.{stages}
 
--- A place of a history and a journal, and a root that the journal opened, with its goal and what is kept of it there. No
--- event but a look had seen more.
+-- A place of a history and a journal, and a root that the journal opened, with its goal and what is kept of it there.
+-- No event but a look had seen more.
 pub record RootPlace (s : Signing) (h : List Entry) (journal : List Told) (f : FixedParts) (g : Goal) (k : Kept)
     : Type 0 where
   pub later : List Entry

@@ -33,8 +33,8 @@ PartsAreKnown =
     (s : Signing) (h : List Entry) (journal : List Told) (past : List Entry) (front : List Told) → IsNodes s h journal
     → IsFront h journal past front → (p : Part) → In p (mind_at real s.key past front).parts → PartAt s past front p
 
--- What a plan of a node's orders is: each channel stands once, each ledger is a root, or the channel of an end, that was opened
--- before, and no part rests on a payment channel.
+-- What a plan of a node's orders is. Each channel stands once, each ledger is a root, or the channel of an end, that
+-- was opened before, and no part rests on a payment channel.
 pub record PlanIs (s : Signing) (orders : ℕ → Order) (front : List Told) : Type 0 where
   pub whole : IsPlan (plan orders (lines_of s.key front))
   pub channels_differ : AreApart bytes_eq (names real (channels (lines_of s.key front)))

@@ -29,9 +29,9 @@ pub record HasRepeated (opening : List AssetOutcome) (states : List StateParts) 
   pub there : In state states
   pub repeated : is_repeated opening state ≡ true
 
--- What is kept of a channel sets up as was commanded: it is the first round so far or a supported chain; while the set-up of
--- twice as many turns as people lasts, one of its states repeats the opening outcome; and Close wasn't commanded before,
--- where the participant didn't let go of it.
+-- What is kept of a channel sets up as was commanded. It is the first round so far or a supported chain. The set-up
+-- has twice as many turns as people, and while it lasts one of its states repeats the opening outcome. Close wasn't
+-- commanded before, where the participant didn't let go of it.
 pub record SetsUp (g : Goal) (k : Kept) : Type 0 where
   pub good : IsGoodKept real k
   pub repeats : (s : StateParts) → newest k.chain.states ≡ Some s → s.turn + 1 < 2 * people k.chain.fixed
@@ -46,7 +46,8 @@ RootsSignWhatTheyWant =
     → kept_of channel m.kept ≡ Some k → SetsUp g k → wish stages None m channel k ≡ Some s
     → signs_in stages real None m channel ≡ Some s
 
--- In the first round what the stage of a root takes, and what it wants while Close wasn't commanded, repeats the opening outcome.
+-- In the first round what the stage of a root takes, and what it wants while Close wasn't commanded, repeats the
+-- opening outcome.
 abbrev pub RootsOpenAsCommanded : Type 0
 RootsOpenAsCommanded =
     (m : Mind) (channel : List ℕ) (g : Goal) (k : Kept) (s : StateParts) → stages.asked (facts_of m) channel ≡ Some (Root channel)

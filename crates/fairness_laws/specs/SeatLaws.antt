@@ -21,7 +21,8 @@ use Rattle.support_rules.specs.Real.{real}
 use Rattle.fairness_laws.specs.Carried.{IsRepeatedIfAny}
 use Rattle.fairness_laws.specs.SeatSitting.{Sits}
 
--- a repeated state of the set-up, where the latest state that is held repeats the opening outcome while the set-up lasts
+-- a repeated state of the set-up, where the latest state that is held repeats the opening outcome while the set-up
+-- lasts
 abbrev pub RepeatsAreFair : Type 0
 RepeatsAreFair =
     (key : List ℕ) (orders : ℕ → Order) (past : List Entry) (front : List Line) (f : FixedParts) (opening : List AssetOutcome)

@@ -1,4 +1,5 @@
--- The seat of a participant in a channel that isn't final: what is held of it ends in an outcome with which it could end.
+-- The seat of a participant in a channel that isn't final: what is held of it ends in an outcome with which it could
+-- end.
 use Rattle.std.specs.Prelude.{◌≡◌, ◌≢◌, ℕ, true, false, List, Some}
 use Rattle.channel_values.specs.Parts.{FixedParts}
 use Rattle.channel_values.specs.declared.chain.Signed.{Signed}

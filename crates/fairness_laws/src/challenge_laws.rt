@@ -2,8 +2,8 @@
 
 ghost use Rattle.fairness_laws.specs.Owning.{NodesStandOwning, NodesCallTheirOwn};
 
-/// Whatever comes to a node of a legal history, it stands for that history; and, unless memory failed it, each challenge that
-/// it called was signed right before, for the newest state of its chain, at its own place in the channel.
+/// Whatever comes to a node of a legal history, it stands for that history. Unless memory failed it, each challenge
+/// that it called was signed right before, for the newest state of its chain, at its own place in the channel.
 pub fn nodes_call_own_challenges()
     ensures keeps { NodesStandOwning }
     ensures calls { NodesCallTheirOwn }

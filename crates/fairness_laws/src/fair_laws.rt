@@ -1,5 +1,5 @@
-//! Laws alone: what the network's node signs keeps its person's share, and so nobody lowers it. Each function is empty: its
-//! contract is the law.
+//! Laws alone: what the network's node signs keeps its person's share, and so nobody lowers it. Each function is
+//! empty: its contract is the law.
 
 ghost use Rattle.fairness_laws.specs.Guarding.{PartsSignAtPlaces};
 ghost use Rattle.fairness_laws.specs.JointKeeping.{EndsKeep, EndsSplit, MiddlesKeep, MiddlesSplit};
@@ -16,19 +16,20 @@ ghost use Rattle.fairness_laws.specs.SeatLaws.{FinalsAreFair, MovesAreFair, Pass
 
 // ---- first rounds
 
-/// What a node signs of a channel on a ledger in the first round, and takes from a message, repeats the amounts of the command
-/// that opened it.
+/// What a node signs of a channel on a ledger in the first round, and takes from a message, repeats the amounts of
+/// the command that opened it.
 pub fn children_open_with()
     ensures { ChildrenOpenWith }
 {}
 
-/// At an end of a virtual channel so it is in its guarantor, which opens with the guarantee for that end, in the joint channel,
-/// which opens with the amounts for the ends and their total for the intermediary, and in the payment channel.
+/// At an end of a virtual channel it is so in its guarantor, which opens with the guarantee for that end. It is so in
+/// the joint channel, which opens with the amounts for the ends and their total for the intermediary. It is so in the
+/// payment channel.
 pub fn ends_open_with()
     ensures { EndsOpenWith }
 {}
 
-/// At the intermediary so it is in both guarantors and in the joint channel.
+/// At the intermediary it is so in both guarantors and in the joint channel.
 pub fn middles_open_with()
     ensures { MiddlesOpenWith }
 {}
@@ -45,20 +46,22 @@ pub fn middles_sign_guarantees()
 
 // ---- plans and parts
 
-/// At each place of a node's journal each part of its plan has the channels, people, applications and amounts of the command
-/// that opened it, and what the tables of stages know of its channels is what is held of them there.
+/// At each place of a node's journal each part of its plan has the channels, people, applications and amounts of the
+/// command that opened it. What the tables of stages know of its channels is what is held of them there.
 pub fn parts_are_known()
     ensures { PartsAreKnown }
 {}
 
-/// In its plan each channel stands once, each ledger is a root that was opened before, and no part rests on a payment channel.
+/// In its plan each channel stands once, each ledger is a root that was opened before, and no part rests on a payment
+/// channel.
 pub fn plans_are_whole()
     ensures { PlansAreWhole }
 {}
 
 // ---- seats
 
-/// A repeated state of the set-up keeps the share of who wants it, where what is held repeats the opening outcome too.
+/// A repeated state of the set-up keeps the share of the participant that wants it, where what is held repeats the
+/// opening outcome too.
 pub fn repeats_are_fair()
     ensures { RepeatsAreFair }
 {}
@@ -68,13 +71,13 @@ pub fn finals_are_fair()
     ensures { FinalsAreFair }
 {}
 
-/// A pass.
+/// So does a pass.
 pub fn passes_are_fair()
     ensures { PassesAreFair }
 {}
 
-/// And, outside payment channels, a move toward the outcome that stands, or toward one that moves an asset for a part of the
-/// plan.
+/// So does, outside payment channels, a move toward the present outcome, or toward one that moves an asset for a part
+/// of the plan.
 pub fn moves_are_fair()
     ensures { MovesAreFair }
 {}
@@ -96,28 +99,29 @@ pub fn ends_share()
     ensures { EndsShare }
 {}
 
-/// And, once it is over, the channel of a virtual channel at its ends, be it a payment channel or a ledger.
+/// So does, once it is over, the channel of a virtual channel at its ends, whether it is a payment channel or a
+/// ledger.
 pub fn ends_share_over()
     ensures { EndsShareOver }
 {}
 
-/// Where all that is held of a channel is final its latest state and the node's last one stay final, with the same outcomes; of
-/// two people all that is held does.
+/// Where all that is held of a channel is final, its latest state and the node's last one stay final, with the same
+/// outcomes. In a channel of two people all that is held does.
 pub fn ended_channels_stay()
     ensures { EndedChannelsStay }
 {}
 
 // ---- joint channels
 
-/// What the joint channel of a virtual channel can end with at an end, by the state that it signed last there: in the set-up it
-/// pays the ends what they bring, until Close that or all to the payment channel, and from Close on all to that, or the ends what
-/// it ended with.
+/// What the joint channel of a virtual channel can end with at an end, by the state that it signed last there. In the
+/// set-up it pays the ends what they bring. Until Close it pays them that, or all to the payment channel. From Close
+/// on it pays all to the payment channel, or to the ends what that ended with.
 pub fn ends_keep()
     ensures { EndsKeep }
 {}
 
-/// And at the intermediary, where from Close on it pays all to the payment channel, or the ends any amounts that make up the
-/// total.
+/// And at the intermediary, where from Close on it pays all to the payment channel, or the ends any amounts that make
+/// up the total.
 pub fn middles_keep()
     ensures { MiddlesKeep }
 {}
@@ -166,7 +170,7 @@ pub fn funded_wants_on()
     ensures { FundedWantsOn }
 {}
 
-/// So does an end, once it closes when the joint channel is settled on what goes back.
+/// So does an end, once it closes and the joint channel is settled on what goes back.
 pub fn end_wants_on()
     ensures { EndWantsOn }
 {}
@@ -233,15 +237,15 @@ pub fn known_ledgers_keep()
     ensures { KnownLedgersKeep }
 {}
 
-/// And a ledger that went up for a part stands: it sets the child aside without votes, and isn't commanded to close, while the
-/// part isn't opened yet, or closes and the ledger may not go down.
+/// And a ledger that went up for a part stands. It sets the child aside without votes, and isn't commanded to close.
+/// So it is while the part isn't opened yet, or closes and the ledger may not go down.
 pub fn ledgers_stand_at_places()
     ensures { LedgersStandAtPlaces }
 {}
 
 // ---- shares
 
-/// Whose parts want fairly, and who signs guarantees alone in its guarantors, plans fairly.
+/// A node whose parts want fairly, and that signs guarantees alone in its guarantors, plans fairly.
 pub fn wanting_plans_fairly()
     ensures { WantingPlansFairly }
 {}
@@ -251,7 +255,7 @@ pub fn pays_in_held()
     ensures { PaymentsAreHeld }
 {}
 
-/// Whose parts want fairly can leave with its share.
+/// A node whose parts want fairly can leave with its share.
 pub fn wanting_plans_leave()
     ensures { WantingPlansLeave }
 {}
@@ -281,8 +285,8 @@ pub fn nodes_plan_fairly()
     ensures { NodesPlanFairly }
 {}
 
-/// And nobody's own signatures lower its share there, but by a payment that was commanded right before, or where the plan isn't
-/// funded.
+/// And nobody's own signatures lower its share there, but by a payment that was commanded right before, or where the
+/// plan isn't funded.
 pub fn nodes_sign_fairly()
     ensures { NodesSignFairly }
 {}

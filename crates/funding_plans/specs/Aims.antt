@@ -1,4 +1,4 @@
--- Outcomes that are told and not yet built.
+-- Outcomes that are described and not yet built.
 use Rattle.std.specs.Prelude.{List}
 use Rattle.channel_values.specs.declared.value.AssetOutcome.{AssetOutcome}
 use Rattle.funding_plans.specs.declared.aim.AimKind.{AimKind}

@@ -1,4 +1,4 @@
--- Comparing bytes with a spelling that is never built: what is left of the bytes after each piece of it.
+-- Comparing bytes with a spelling that is never built: what remains of the bytes after each piece of it.
 use Rattle.std.specs.Prelude.{ℕ, ◌==◌, Bool, true, false, List, [], ◌∷◌, length, Option, Some, None, if◌then◌else◌}
 use Rattle.std.specs.Int.{w32, w64, to_be_bytes}
 use Rattle.channel_values.specs.declared.value.Dest.{Dest}

@@ -46,7 +46,7 @@ raised k i = record { to = i.to; amount = plus i.amount (part_of k i.to) }
 abbrev pub items_up : Child → List Item → List Item
 items_up k items = map (lowered k) items ++ record { to = Channel k.name; amount = plus k.a k.b } ∷ []
 
--- down: the child's item goes, and theirs rise
+-- down: the child's item is removed, and theirs rise
 abbrev pub items_down : Child → List Item → List Item
 items_down k items = map (raised k) (filter (λ i. not (is_item_of k i)) items)
 

@@ -11,8 +11,8 @@ use Rattle.funding_plans.specs.declared.child.Child.{Child}
 use Rattle.funding_plans.specs.Limits.{is_valid}
 use Rattle.funding_plans.specs.Outcomes.{up, down, names, amounts_in}
 
--- people in their order, the participant's place, the next turn, the outcome that the channel opens with, the latest state
--- of the held chain, whether the states of that are all final, and the state that the participant signed last
+-- People in their order, the participant's place, the next turn, and the outcome that the channel opens with. The
+-- latest state of the held chain, whether its states are all final, and the state that the participant signed last.
 pub record Seat : Type 0 where
   pub name : List ℕ
   pub people : List (List ℕ)
@@ -166,7 +166,8 @@ abbrev pub takes_ballot : (List ℕ → Bool) → Option Ballot → Bool
 takes_ballot is_target None = false
 takes_ballot is_target (Some b) = (b.votes == 0) || is_target b.proposal
 
--- in a consensus channel a final state, or one with the present outcome or a target that, where it has votes, proposes a target
+-- in a consensus channel a final state, or one with the present outcome or a target that, where it has votes,
+-- proposes a target
 abbrev pub takes_vote : (List ℕ → Bool) → Seat → StateParts → Bool
 takes_vote is_target c s =
     if nat_lt s.turn (length c.people) then is_opening c s

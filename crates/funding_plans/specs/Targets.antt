@@ -36,7 +36,8 @@ guarantee v joint end = only v.asset (Guarantee joint (Channel v.channel ∷ Per
 abbrev pub ends_in : Terms → List AssetOutcome → ℕ × ℕ
 ends_in v os = amounts_in v.asset v.first v.second os
 
--- ---- which amounts for the ends an outcome of the joint channel has, where it is such a one and they make up the total
+-- ---- which amounts for the ends an outcome of the joint channel has, where it is such a one and they make up the
+-- total
 
 abbrev pub amounts_if : Bool → ℕ × ℕ → Option (ℕ × ℕ)
 amounts_if true ab = Some ab

@@ -1,4 +1,4 @@
-//! An outcome that is told and not yet built.
+//! An outcome that is described and not yet built.
 
 ghost use Rattle.std.specs.Prelude.{◌≡◌, IfOk};
 ghost use Rattle.std.specs.Str.{bytes_eq};

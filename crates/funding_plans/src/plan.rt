@@ -36,15 +36,15 @@ pub enum Part {
     Middle(Virtual),
 }
 
-/// Whose plan it is, and its parts in the order in which they were opened.
+/// The plan's owner, and its parts in the order in which they were opened.
 #[derive(Drop)]
 pub struct Plan {
     pub me: Name,
     pub parts: Listed<Part>,
 }
 
-/// What was commanded of a part: its place in the plan, the outcome with which its channel opens, the amounts of its two
-/// people, whether it is to close, and whether the participant let go of it.
+/// What was commanded of a part. It has its place in the plan, the outcome with which its channel opens and the
+/// amounts of its two people. It says whether the part is to close, and whether the participant let go of it.
 #[derive(Drop)]
 pub struct Goal {
     pub part: u8,

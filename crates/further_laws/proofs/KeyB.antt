@@ -1,5 +1,5 @@
--- The key of B, and what it signs: each signature verifies. The numbers come from a signer outside; nothing rests on how
--- it makes them.
+-- The key of B, and what it signs: each signature verifies. The numbers come from a signer outside; nothing rests on
+-- how it makes them.
 use Rattle.std.proofs.Common.{◌≡◌, ℕ, ◌+◌, true, List, [], ◌∷◌, ◌++◌, take, drop, refl}
 use Rattle.std.specs.Str.{bytes_eq}
 use Rattle.byteorder.specs.Endian.{big_bytes}

@@ -1,4 +1,5 @@
--- What holds of what is kept of a channel, and stays as states are noted and chains adopted, is kept by each event and entry.
+-- What holds of what is kept of a channel, and stays as states are noted and chains adopted, is kept by each event
+-- and entry.
 use Rattle.std.proofs.Common.{◌≡◌, ℕ, Bool, true, false, cond, List, ◌++◌, refl, ◌∙◌, ap}
 use Rattle.std.specs.Prelude.{Option, Some, None, Result, Ok, Err, map}
 use Rattle.std.specs.List.{find}

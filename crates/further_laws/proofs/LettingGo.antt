@@ -364,7 +364,7 @@ module _ (d e : Direct) (same : SameDue d e) (settled rest : List AssetOutcome) 
       ap (λ (held : List (ℕ × ℕ)). not (aff (items_in o.asset rest) (held_of o.asset held) (Person d.who) == 0)) same.held
       ∙ ap (λ (who : List ℕ). not (aff (items_in o.asset rest) (held_of o.asset e.held) (Person who) == 0)) same.who
 
--- what a tick leaves as it was, besides
+-- what else a tick leaves as it was
 record After (name : List ℕ) (m next : Mind) : Type 0 where
   still : Still name next
   key : next.key ≡ m.key

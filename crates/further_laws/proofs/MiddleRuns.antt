@@ -1,4 +1,5 @@
--- What an independent model of the network says of the intermediary of a virtual channel, through whole runs, by computation.
+-- What an independent model of the network says of the intermediary of a virtual channel, through whole runs, by
+-- computation.
 use Rattle.std.proofs.Common.{refl}
 use Rattle.channel_values.specs.Reading.{dest_at, many_at, item_at, listed_at, count_at, allocation_at, guarantee_at, shape_at, asset_at, outcome_at, all_of}
 use Rattle.channel_values.specs.Spelling.{outcome}

@@ -1,4 +1,5 @@
--- A opens a channel with B, signs turn 0, takes B's turn 1 and signs turn 2; B challenges with turns 0 and 1, and A looks.
+-- A opens a channel with B, signs turn 0, takes B's turn 1 and signs turn 2; B challenges with turns 0 and 1, and A
+-- looks.
 use Rattle.std.proofs.Common.{◌≡◌, ℕ, zero, suc, ◌<◌, false, List, [], ◌∷◌, replicate, refl, sym, ◌∙◌, ap, subst, arith}
 use Rattle.std.specs.Prelude.{Option, Some, None, Result, Ok, take}
 use Rattle.std.specs.List.{flat_map}

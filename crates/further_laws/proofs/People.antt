@@ -17,7 +17,8 @@ use Rattle.step_meanings.specs.People.{SignedBy, has_name, keys_by, used_once, s
 use Rattle.step_meanings.specs.declared.people.Person.{Person}
 use Rattle.further_laws.proofs.Finding.{or_head, same_bytes, bytes_themselves, rest_false, head_false, any_push}
 
--- a person has no hand where the reader says that it has a node, and else one that signed no more often than the reader counts
+-- a person has no hand where the reader says that it has a node, and otherwise one that signed no more often than the
+-- reader counts
 abbrev pub IsHand : List (List ℕ) → KnownPerson → Option Signing → Type 0
 IsHand signers p None = p.node ≡ true
 IsHand signers p (Some hand) = (hand.h ≡ p.h) × (hand.used ≤ count_by (λ s. bytes_eq s p.name) signers)

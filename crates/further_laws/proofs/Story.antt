@@ -1,5 +1,6 @@
--- A opens a payment channel with B: 5 of A and 3 of B. Both sign turns 0 to 3, and deposit; A pays 2 at turn 4, B pays 1 back at turn 5, and A signs turn 6.
--- B challenges with turn 4; A answers with turn 6, challenges with it, and time passes.
+-- A opens a payment channel with B: 5 of A and 3 of B. Both sign turns 0 to 3, and deposit; A pays 2 at turn 4, B
+-- pays 1 back at turn 5, and A signs turn 6. B challenges with turn 4; A answers with turn 6, challenges with it, and
+-- time passes.
 use Rattle.std.proofs.Common.{◌≡◌, ℕ, ◌-◌, cond, List, [], ◌∷◌, ◌++◌, refl}
 use Rattle.std.specs.Prelude.{None, Ok, ◌==◌, slice_index_or}
 use Rattle.channel_values.specs.Parts.{FixedParts}

@@ -1,5 +1,5 @@
--- A payment channel of A and B over two intermediaries, after seven payments: what each of the four is worth, funded and
--- sound, and the exits of A and of the second intermediary.
+-- A payment channel of A and B over two intermediaries, after seven payments. What each of the four is worth, funded
+-- and sound, and the exits of A and of the second intermediary.
 use Rattle.std.specs.Prelude.{◌≡◌, ℕ, Bool, true, false, List, [], ◌∷◌, None, if◌then◌else◌}
 use Rattle.std.specs.Str.{bytes_eq}
 use Rattle.channel_values.specs.declared.value.Dest.{Dest}
@@ -112,8 +112,8 @@ pays n items = record { channel = n; outcome = record { asset = 0; shape = Alloc
 abbrev pub guarantees : List ℕ → List ℕ → List Dest → Counting
 guarantees n joint list = record { channel = n; outcome = record { asset = 0; shape = Guarantee joint list } ∷ []; proposal = None }
 
--- A brought 60 and the second 20 into the virtual ledger; of that A brought 40 into the payment channel, the second 10
--- into what it guarantees, and B 10; and A paid 7
+-- A brought 60 and the second 20 into the virtual ledger. Of that A brought 40 into the payment channel, and the
+-- second 10 into what it guarantees. B brought 10, and A paid 7.
 abbrev pub of_ledger_a : Counting
 of_ledger_a = pays ledger_a (item (Person a) 40 ∷ item (Person first) 80 ∷ item (Channel near_guarantor_a) 80 ∷ [])
 

@@ -1,5 +1,6 @@
--- Each step of a script that was read does happen: none is passed over for a name that stands for nothing, a state that
--- isn't valid or a key that is spent. A state that a step was to catch of a node may be missing, where the node didn't sign it.
+-- Each step of a script that was read happens. None is passed over for a name that stands for nothing, a state that
+-- isn't valid or a key that is spent. A state that a step was to catch of a node may be missing, where the node
+-- didn't sign it.
 use Rattle.std.specs.Prelude.{false, true, Bool, ℕ, List, ◌∷◌, ◌++◌, IsSome, ⊤, ◌≡◌}
 use Rattle.std.specs.List.{list_any}
 use Rattle.std.specs.Str.{bytes_eq}
@@ -22,7 +23,8 @@ catches name step = false
 abbrev pub IsCaught : Names → List Step → List ℕ → Type 0
 IsCaught n before name = list_any (catches name) before ≡ true → IsSome (state_by n.states name)
 
--- what the step names of the states that steps before it were to catch was caught, and is short enough for a message that it sends
+-- what the step names of the states that steps before it were to catch was caught, and is short enough for a message
+-- that it sends
 abbrev pub HasCaught : Names → List Step → Step → Type 0
 HasCaught n before (steps.Send to state) = list_any (catches state) before ≡ true → IsSome (message_by n.states state)
 HasCaught n before (steps.Respond k) = IsCaught n before k.from × IsCaught n before k.state

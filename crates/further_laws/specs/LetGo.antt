@@ -40,8 +40,8 @@ pub record IsOut (f : FactsOf) (name : List ℕ) : Type 0 where
   pub wants : (channel : List ℕ) → wanted_of f channel (Some (Root name)) ≡ None
   pub takes : (channel : List ℕ) (s : StateParts) → takes_of f channel s (Some (Root name)) ≡ false
 
--- The plan has the part, after these and before those: all that is asked of the parts of the plan is asked of those parts
--- alone. About another channel one of them is asked.
+-- The plan has the part, after these and before those: all that is asked of the parts of the plan is asked of those
+-- parts alone. About another channel one of them is asked.
 pub record AsWithout (f : FactsOf) (name : List ℕ) (before after : List Part) : Type 0 where
   pub opens : not_open stages f ≡ first_fault (not_open_part stages f) (before ++ after)
   pub done : unfinished stages f ≡ first_fault (unfinished_part stages f) (before ++ after)
@@ -60,8 +60,8 @@ abbrev pub own_transfer : Direct → (settled rest : List AssetOutcome) → Asse
 own_transfer d settled rest o =
     make_transfer d.channel.name settled o.asset (place_of (items_in o.asset rest) (Person d.who))
 
--- Once it is final the calls of the plan are those of the other parts and the transfers of what is due. So each of these
--- is called, and there is one where anything is due.
+-- Once it is final the calls of the plan are those of the other parts and the transfers of what is due. So each of
+-- these is called, and there is one where anything is due.
 pub record IsCalledFor (f : FactsOf) (name : List ℕ) (d : Direct) (before after : List Part) : Type 0 where
   pub own : called_of f (Root name) ≡ transfers d
   pub among : stages.calls f ≡ flat_map (called_of f) before ++ (transfers d ++ flat_map (called_of f) after)

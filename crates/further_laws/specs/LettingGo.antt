@@ -1,4 +1,4 @@
--- What a node let go of it let go of for good, and at each tick it calls for what is due to it there.
+-- What a node let go of stays so for good, and at each tick the node calls for what is due to it there.
 use Rattle.std.specs.Prelude.{◌≡◌, ℕ, true, false, List, Option, Some, None}
 use Rattle.channel_values.specs.declared.value.AssetOutcome.{AssetOutcome}
 use Rattle.call_history.specs.Mode.{is_final}
@@ -40,8 +40,8 @@ pub record StaysLetGo (name : List ℕ) (m : Mind) : Type 0 where
 abbrev pub LetGoStays : Type 0
 LetGoStays = (name : List ℕ) (m : Mind) → HasLetGo name m → StaysLetGo name m
 
--- Once the channel is final: at each tick of a node that didn't leave, its own transfer of each asset of which something
--- is due to it there, by what it knows of the channel.
+-- Once the channel is final, a node that didn't leave gives its own transfers at each tick. They are of each asset of
+-- which something is due to it there, by what it knows of the channel.
 abbrev pub TicksCallForIt : Type 0
 TicksCallForIt =
     (s : Signing) (n : NodeOf) (name : List ℕ) (h : HasLetGo name n.mind) (settled rest : List AssetOutcome)

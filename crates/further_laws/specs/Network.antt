@@ -41,8 +41,8 @@ RacedSharesAreKept h journal =
     → PlansFairly real (name_of_person key) orders h journal
     → SharesAreKept real (name_of_person key) orders h journal
 
--- An honest participant that leaves fairly is paid at least its share at a place where its channels are final, once the
--- calls of its exit stand after it, whatever others enter between.
+-- An honest participant that leaves fairly is paid at least its share at a place where its channels are final. That
+-- is so once the calls of its exit stand after it, whatever others enter between.
 abbrev pub RacedExitsPay : List Entry → List Line → Type 0
 RacedExitsPay h journal =
     (key : List ℕ) (orders : ℕ → Order) (ends : List ℕ) → Legal real h → Honest real key h journal

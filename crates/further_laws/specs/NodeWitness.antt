@@ -24,9 +24,9 @@ event seen deed command = record { seen = seen; deed = deed; command = command }
 abbrev pub signing_event : List ℕ → Signed → Told
 signing_event channel s = event 0 (deeds.Signed channel s.state s.signature) None
 
--- Rules, a signer, a legal history, and a node of the real stages that stands for it and kept its memory. Its journal, the
--- newest event first: a look that had seen an entry and gives a checkpoint, a signed state, a message that was taken, a
--- signed state, and a command to open that wasn't refused.
+-- Rules, a signer, a legal history, and a node of the real stages that stands for it and kept its memory. Its
+-- journal, the newest event first: a look that had seen an entry and gives a checkpoint, a signed state, and a
+-- message that was taken. Then a signed state, and a command to open that wasn't refused.
 pub record StandsWithJournal : Type 0 where
   pub rules : Rules
   pub signing : Signing

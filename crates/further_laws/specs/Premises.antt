@@ -51,7 +51,8 @@ pub record Story : Type 0 where
   pub other : List ℕ
   pub orders : ℕ → Order
   pub fixed : FixedParts
-  -- the deposits; the other's challenge with an old state, what answers it, and until the channel is final; the transfers
+  -- the deposits; the other's challenge with an old state, what answers it, and until the channel is final; the
+  -- transfers
   pub deposits : List Entry
   pub attack : Entry
   pub answer : Entry
@@ -87,8 +88,8 @@ journal s = s.closing ++ signed s
 abbrev pub share_at : Rules → Story → List Entry → List Line → ℕ
 share_at r s past front = share r s.me s.orders past front 0
 
--- In a channel of two people that holds 8 the person's share is 5; it pays 2, and is paid 1 back; the other challenges
--- with the state in between, whose 3 the person would get, but it is paid its 4.
+-- In a channel of two people that holds 8 the person's share is 5. It pays 2, and is paid 1 back. The other
+-- challenges with the state in between, whose 3 the person would get, but it is paid its 4.
 pub record PaysAndIsPaid (r : Rules) (s : Story) : Type 0 where
   pub all : AllHold r s.key s.me s.orders (history s) (journal s)
   pub person : s.me ≡ name_of_person s.key

@@ -11,8 +11,8 @@ use Rattle.stage_tables.specs.Stages.{stages}
 use Rattle.channel_node.specs.Races.{PlaysRace}
 use Rattle.further_laws.specs.NodeWitness.{StandsWithJournal}
 
--- The checkpoint of the look is entered and accepted, and then the round's time comes. With these two entries the history
--- is one of a race of one round, which the node plays, and names and digests tell.
+-- The checkpoint of the look is entered and accepted, and then the round's time comes. With these two entries the
+-- history is one of a race of one round, which the node plays, and names and digests determine what they name.
 pub record PlaysRound (w : StandsWithJournal) : Type 0 where
   pub answer : Entry
   pub time : Entry

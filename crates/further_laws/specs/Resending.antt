@@ -1,5 +1,5 @@
--- A payment whose message was lost is sent again: the same messages, no signature more, and no harm where the payee has
--- it already.
+-- A payment whose message was lost is sent again: the same messages, no further signature, and no harm where the
+-- payee has it already.
 use Rattle.std.specs.Prelude.{◌≡◌, ℕ, true, false, List, [], ◌∷◌, ◌++◌, map, Option, Some, None, is_some, Result, Ok}
 use Rattle.channel_values.specs.Parts.{StateParts}
 use Rattle.channel_values.specs.declared.chain.Signed.{Signed}
@@ -40,8 +40,8 @@ payment r s channel asset amount k n =
 abbrev pub sends_only : List (List ℕ × List ℕ) → Result Outs NodeFault
 sends_only sends = Ok (record { sends = sends; calls = []; spent = None })
 
--- After a payment that the node accepted, Resend gives the messages of the payment once more: its state, for each of the
--- channel's other people.
+-- After a payment that the node accepted, Resend gives the messages of the payment once more: its state, for each of
+-- the channel's other people.
 pub record IsSentAgain (t : Tables) (r : Rules) (s : Signing) (step later : ℕ) (channel : List ℕ) (asset amount : ℕ)
     (n : NodeOf) : Type 0 where
   pub k : Kept

@@ -116,7 +116,8 @@ final_at turn o = state_with turn true o []
 abbrev pub voting_at : ℕ → List AssetOutcome → (votes : ℕ) → (proposal : List AssetOutcome) → StateParts
 voting_at turn o votes proposal = state_with turn false o (votes ∷ outcome proposal)
 
--- ---- what a participant knows: its place, the next turn, the latest state, the one that it signed last, and in a payment
+-- ---- what a participant knows: its place, the next turn, the latest state, the one that it signed last, and in a
+-- payment
 -- channel whether the held states are all final
 
 abbrev pub in_ledger : (me next : ℕ) → (top own : Option StateParts) → Seat

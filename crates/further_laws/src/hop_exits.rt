@@ -8,8 +8,8 @@ use channel_exits::{ExitFault, exit_calls};
 use funding_plans::Plan;
 use std::alloc::Global;
 
-/// The calls of an exit, or the first channel of the plan that has a held chain and isn't final. A virtual ledger passes
-/// on what it is paid, to the channels of the plan that it names, before it pays the person.
+/// The calls of an exit, or the first channel of the plan that has a held chain and isn't final. A virtual ledger
+/// passes on what it is paid, to the channels of the plan that it names, before it pays the person.
 pub fn hop_exit(
     alloc: Global,
     plan: &Plan,

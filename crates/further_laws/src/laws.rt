@@ -10,8 +10,8 @@ ghost use Rattle.further_laws.specs.Network.{RacedWatchersAreInTime, RacedOutcom
 use call_history::{Entry, Event};
 use network::values_are_valid;
 
-/// In a race a participant's watchers are in time, where no hashed strings collide, and it notes states of channels
-/// alone that it opened with a duration of at least two.
+/// In a race a participant's watchers are in time, where no hashed strings collide. It notes states only of channels
+/// that it opened with a duration of at least two.
 pub fn raced_watchers_are_in_time(history: &[Entry], journal: &[Event])
     ensures { (adds : ℕ → List FixedParts) → AddsFixed adds
         → RacedWatchersAreInTime (newest_first history.now) (newest_lines journal.now adds) }

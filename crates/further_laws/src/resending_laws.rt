@@ -2,8 +2,8 @@
 
 ghost use Rattle.further_laws.specs.Resending.{MessagesAreTakenOnce, PaymentsAreSentAgain, RefusedMessagesDoNothing, ResendsSignNothing, ResendsStay, ResentPaymentsAreHeld};
 
-/// A payment that a node accepted is sent again by Resend exactly as it was, for as long as nothing more is signed in the
-/// channel.
+/// A payment that a node accepted is sent again by Resend exactly as it was, for as long as nothing more is signed in
+/// the channel.
 pub fn payments_are_sent_again()
     ensures again { PaymentsAreSentAgain }
     ensures stays { ResendsStay }

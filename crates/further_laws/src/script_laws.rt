@@ -7,9 +7,9 @@ ghost use Rattle.further_laws.specs.Happens.{EachHappens, HasOutcomes};
 
 use network::Party;
 
-/// Each step that the reader passes means something, by what names stand for in the play of the steps before it, whatever the
-/// nodes of its people do: no name stands for nothing, no state isn't valid, and no key is spent. Only a state that a step was
-/// to catch of a node may be missing.
+/// Each step that the reader passes means something, by what names stand for in the play of the steps before it. That
+/// is so whatever the nodes of its people do. Each name stands for something, each state is valid, and no key is
+/// spent. Only a state that a step was to catch of a node may be missing.
 pub fn every_passed_step_happens<P: Party>()
     ensures { (race : Bool) (steps : List Step) → AreChecked (start race) steps → All HasOutcomes steps
         → EachHappens P.ways steps }

@@ -143,7 +143,7 @@ challenged_before (Some d) now later le h = go (nat_le d later) refl h
 pub ended_now : (now : ℕ) → mode_at (Some now) now ≡ Final
 ended_now now = ap (λ (b : Bool). cond b Final Challenged) (reached now)
 
--- ---- what accepted calls tell
+-- ---- what accepted calls say
 
 -- the channel isn't final, and the chain has a state, and no more than there are people
 pub record Shows (r : Rules) (channel : List ℕ) (h : List Entry) (chain : Chain) : Type 0 where

@@ -152,8 +152,8 @@ same_dest (Channel channel) = bytes_eq_self channel
 all_of : (to : Dest) (asset n : ℕ) → cond (is_same to to) (cond (asset == asset) n 0) 0 ≡ n
 all_of to asset n = ap (λ (b : Bool). cond b (cond (asset == asset) n 0) 0) (same_dest to) ∙ ap (λ (b : Bool). cond b n 0) (eq-eqb asset asset refl)
 
--- Where views and balances say what the flows so far do, and with one flow more nothing is above the largest amount, there
--- is room for it.
+-- Where views and balances say what the flows so far do, and with one flow more nothing is above the largest amount,
+-- there is room for it.
 has_room : (flows : List Flow) (from : Option (List ℕ)) (to : Dest) (asset n : ℕ) (views : List ChannelView) (paid : List (List ℕ × ℕ × ℕ)) → AreCovered flows → HasSource flows from asset n
     → AreWithinAmounts (record { from = from; to = to; asset = asset; amount = n } ∷ flows)
     → ((channel : List ℕ) (kind : ℕ) → amount_of views channel kind ≡ held_in flows channel kind) → ((person : List ℕ) (kind : ℕ) → paid_amount paid person kind ≡ paid_in flows person kind)

@@ -1,5 +1,5 @@
--- What is left of a channel's outcome after one more entry: nothing was paid of it before it settled, and a payment lowers
--- its item.
+-- What is left of a channel's outcome after one more entry: nothing was paid of it before it settled, and a payment
+-- lowers its item.
 use Rattle.std.proofs.Common.{◌≡◌, ℕ, suc, ◌+◌, ◌-◌, List, [], ◌∷◌, Bool, true, false, cond, ◌&&◌, Some, None, Ok, Err, refl, sym, ◌∙◌, ap, subst, arith}
 use Rattle.std.proofs.lemmas.List.Sums.{sum_by-cons, sum_by-append}
 use Rattle.std.specs.Prelude.{◌==◌, Option, Result}

@@ -1,5 +1,5 @@
--- The newest shown chain: while a channel isn't final the recorded turn is its turn, and while it is challenged it is the
--- challenged one. So a view's shown chain is the newest one after one more entry.
+-- The newest shown chain: while a channel isn't final the recorded turn is its turn, and while it is challenged it is
+-- the challenged one. So a view's shown chain is the newest one after one more entry.
 use Rattle.std.proofs.Common.{◌≡◌, ℕ, zero, suc, ◌≤◌, Bool, true, false, cond, List, [], ◌∷◌, ◌++◌, length, drop, Some, None, refl, sym, ◌∙◌, ap, arith}
 use Rattle.std.specs.Prelude.{nat_lt, Option}
 use Rattle.std.specs.Option.{option_map}
@@ -83,8 +83,8 @@ has_newest (x ∷ xs) s h = some_of (length xs)
 
 -- ---- of the history
 
--- How a row at a time, the newest shown chain and the challenged one go together: the recorded turn is that of the newest
--- shown chain while the channel isn't final, and that is the challenged one while it is challenged.
+-- How a row at a time, the newest shown chain and the challenged one go together. The recorded turn is that of the
+-- newest shown chain while the channel isn't final, and that is the challenged one while it is challenged.
 pub record GoTogether (now : ℕ) (of : Row) (last : Option Marked) (open_one : Marked) : Type 0 where
   pub turn : is_final (mode_at of.deadline now) ≡ false → of.turn ≡ turn_shown last
   pub chain : is_challenged (mode_at of.deadline now) ≡ true → last ≡ Some open_one

@@ -69,7 +69,7 @@ new r h e w channel = cond (turning r channel e) (turned_view r channel h e (old
 
 -- ---- room for an answer
 
--- a chain to which an answer can be put, after an accepted call
+-- a chain to which an answer can be added, after an accepted call
 short_in : (r : Rules) (channel : List ℕ) (h : List Entry) (op : Op) (before : Marked) → is_named r channel (fixed_of op) ≡ true → Tells r channel h op → OfFew (fixed_of op)
     → length before.states ≤ 255 → length (challenge_in op before).states ≤ 255
 short_in r channel h (ops.Call (Challenge k)) before named t few short = let a = t.shows.few in omega arith

@@ -26,7 +26,7 @@ HaveRoom [] views paid = Unit {0}
 HaveRoom (flow ∷ flows) views paid =
     HasRoom flow.to flow.asset flow.amount (views_gave flow.from flow.asset flow.amount views) paid
 
--- an answer is put on a chain of at most 255 states, since a place is one byte
+-- an answer is added to a chain of at most 255 states, since a place is one byte
 abbrev pub is_short : Op → Option Chain → Bool
 is_short (ops.Call (Respond k)) (Some shown) = nat_le (length shown.states) 255
 is_short _ _ = true

@@ -35,8 +35,8 @@ abbrev pub IsChainOf : Rules → List ℕ → Marked → Option Chain → Type 0
 IsChainOf r channel w shown =
     (chain : Chain) × (shown ≡ Some chain) × (r.named chain.fixed ≡ channel) × (marked_of chain ≡ w)
 
--- what is known of a channel is so; and while it is challenged, the chain that is shown is the challenged one, to which
--- an answer can be put
+-- what is known of a channel is so; and while it is challenged, the chain that is shown is the challenged one, to
+-- which an answer can be added
 pub record KnowsChannel (r : Rules) (channel : List ℕ) (h : List Entry) (v : ChannelView) : Type 0 where
   pub turn : v.turn ≡ (row r channel h).turn
   pub deadline : v.deadline ≡ (row r channel h).deadline

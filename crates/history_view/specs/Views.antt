@@ -55,7 +55,7 @@ shown_after _ before = before
 
 -- ---- turning calls
 
--- of which the recorded turn and the deadline are told
+-- of which the recorded turn and the deadline are known
 abbrev pub channel_turned : Op → ℕ × Option ℕ → ChannelView → ChannelView
 channel_turned op told v =
     record v {

@@ -1,7 +1,7 @@
-//! `hostile_hop ROUTE..` plays a script as `nitro run` does, but that its virtual channels take these routes, in the order of
-//! the steps that open them: each is `plain`, `ledger` (the channel is a virtual ledger) or `onward` (it stands on one). Where no
-//! word is left a route is plain. So a script describes a play over two intermediaries in which people lie, stay silent
-//! or leave.
+//! `hostile_hop ROUTE..` plays a script as `nitro run` does, except that its virtual channels take these routes, in
+//! the order of the steps that open them. Each is `plain`, `ledger` (the channel is a virtual ledger) or `onward` (it
+//! stands on one). Where no argument is left a route is plain. So a script describes a play over two intermediaries
+//! in which people lie, stay silent or leave.
 #![tactic(auto)]
 
 mod playing;
@@ -17,7 +17,7 @@ use std::process::ExitCode;
 use std::rt::Env;
 use std::{env, io};
 
-/// The words after the program's name. Words that aren't text count as none.
+/// The arguments after the program's name. Arguments that aren't text count as none.
 fn words<R: Env + AllocGlobal>(rt: &R) -> Result<Vec<Label>, NoMemory> {
     let mut words = Vec::new(rt.alloc());
     let args = match env::args(rt) {

@@ -17,7 +17,7 @@ fn route_of(word: &str) -> Option<Route> {
     }
 }
 
-/// The routes that the words are, if each is one.
+/// The routes that the arguments are, if each is one.
 pub(crate) fn routes_of(alloc: Global, words: &[Label]) -> Result<Option<Vec<Route>>, NoMemory> {
     let mut routes = Vec::new(alloc);
     for word in words {
@@ -42,7 +42,8 @@ fn take_next(step: &mut Step, routes: &[Route], given: usize) -> usize
     }
 }
 
-/// Gives the virtual channels these routes, in the order of the steps that open them. Where no route is left a step keeps its own.
+/// Gives the virtual channels these routes, in the order of the steps that open them. Where no route is left a step
+/// keeps its own.
 #[tactic(auto, using(crate::proofs::Alike::set_alike))]
 pub(crate) fn take_routes(steps: &mut [Step], routes: &[Route])
     ensures { plainly steps.new ≡ plainly steps.old }

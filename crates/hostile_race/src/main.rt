@@ -1,6 +1,6 @@
-//! `hostile_race` plays a script as `nitro race` does, beside a replayer, an equivocator, somebody who begins a message and
-//! vanishes, and a flood; with one word, beside sixteen floods. After the text it prints how many messages the nodes
-//! refused as no message.
+//! `hostile_race` plays a script as `nitro race` does, beside a replayer, an equivocator, somebody who begins a
+//! message and vanishes, and a flood. With one argument it plays it beside sixteen floods. After the text it prints
+//! how many messages the nodes refused as no message.
 #![tactic(auto)]
 
 mod flood;
@@ -27,7 +27,7 @@ use std::sync::Wait;
 use std::thread::Threads;
 use vanisher::Vanisher;
 
-/// Whether a word stands after the program's name.
+/// Whether an argument stands after the program's name.
 fn has_word<R: Env + AllocGlobal>(rt: &R) -> bool {
     match env::args(rt) {
         Ok(args) => args.count() > 1,
@@ -133,7 +133,7 @@ fn beside_four<R: Threads + Wait + Sync, S: Source, K: Sink>(
     told(alloc, &ended, sink)
 }
 
-/// The word of a race.
+/// The argument that asks for a race.
 fn race(alloc: Global) -> Result<Vec<Label>, NoMemory> {
     let word = String::from_str(alloc, "race")?;
     Ok(vec![in alloc; Label::make(word)]?)

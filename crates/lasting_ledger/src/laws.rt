@@ -14,8 +14,8 @@ pub fn files_hold_legal_histories()
     ensures conserved { FilesConserve }
 {}
 
-/// Over any crashes and restarts, what each run wrote is a prefix of the answers of one ledger without crashes to
-/// the lines that are in the file in the end.
+/// Over any crashes and restarts, what each run wrote is a prefix of the answers of one ledger without crashes. Those
+/// answers are to the lines that are in the file in the end.
 pub fn one_ledger_story()
     ensures { OneStory ledger_ways }
 {

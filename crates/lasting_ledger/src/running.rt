@@ -19,7 +19,7 @@ use std::io::{Read, Write};
 /// The first words of a state file: the program, and the version of its rules.
 const TITLE: &str = "nitro-ledger 1";
 
-/// Over which file a service runs, and how it begins.
+/// The file that a service runs over, and how it begins.
 #[derive(Clone, Copy, Debug)]
 pub struct Start<'a> {
     /// The state file, which is made if it is missing.
@@ -145,17 +145,17 @@ fn without_run<W: Write + Drop>(status: Status) -> Ended<W>
     Ended { status, run: None }
 }
 
-/// Does all that a program does with its arguments: opens the state file, recovers it, writes the responses again
-/// that were asked for and the line `ready`, and serves the lines of the input to its end.
+/// Does all that a program does with its arguments. Opens the state file, recovers it, and writes the responses again
+/// that were asked for. Then writes the line `ready`, and serves the lines of the input to its end.
 pub fn run_ledger<R: Read + Drop, W: Write + Drop>(
     rt: &HostRuntime,
     start: &Start<'_>,
     input: R,
     output: W,
 ) -> Ended<W>
-    // At each moment, in the middle of a call too, whatever a crash leaves of the file explains all that was
-    // written: with the responses that were left out, it is a prefix of those that a ledger without crashes owes for
-    // the lines in the file.
+    // At each moment, in the middle of a call too, whatever a crash leaves of the file explains all that was written.
+    // With the responses that were left out, it is a prefix of those that a ledger without crashes owes for the lines
+    // in the file.
     ensures moments { IfSome result.run (λ run.
         IsExplained (last_left_out start.now.after) run.file.items run.outside.calls.events) }
 

@@ -1,4 +1,4 @@
--- What is said of an entry, put together; and a report.
+-- All that is said of an entry, and a report.
 use Rattle.std.proofs.Common.{◌≡◌, ℕ, Bool, List, [], ◌∷◌, ◌++◌, refl, sym, ◌∙◌, ap, subst}
 use Rattle.std.specs.Prelude.{IsTrue, ◌↔◌, Option}
 use Rattle.std.proofs.lemmas.List.{append_assoc}

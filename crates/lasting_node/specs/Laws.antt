@@ -52,8 +52,8 @@ pub record HasFollowed (h : List Entry) (l : Lookout) : Type 0 where
   pub count : l.seen ≡ length h
   pub stands : StandsFor real h l.watcher
 
--- The history is legal, and its entries keep the limits of their format. The node has this key, stands for the history and
--- has followed all of it, and memory didn't fail it. Its watcher has followed all of it too.
+-- The history is legal, and its entries keep the limits of their format. The node has this key, stands for the
+-- history and has followed all of it, and memory didn't fail it. Its watcher has followed all of it too.
 pub record IsStanding (key : List ℕ) (m : NodeMachine) : Type 0 where
   pub legal : Legal real m.ledger
   pub valid : AllByRecursion IsValidEntry m.ledger
@@ -73,10 +73,10 @@ IsSafeIf h key events =
     AreValid h (lines_of key events) → Unforged real key h (lines_of key events)
     → NoneCollide (hashed h (lines_of key events)) → InTime real h (lines_of key events) → StaysSafe h key events
 
--- The node's journal is honest and by the rules, and no index of the key signs twice in it. It called no challenge but one
--- that it signed right before, as itself, and what it sends again it has signed. Where its premises hold, no channel of its
--- person becomes final with an outcome older than its newest supported state, and the person keeps its share, is paid on its
--- exit, signs fairly and ends well.
+-- The node's journal is honest and by the rules, and no index of the key signs twice in it. It called no challenge
+-- but one that it signed right before, as itself, and what it sends again it has signed. Where its premises hold, no
+-- channel of its person becomes final with an outcome older than its newest supported state. The person keeps its
+-- share, is paid on its exit, signs fairly and ends well.
 pub record Keeps (m : NodeMachine) : Type 0 where
   pub honest : IsHonest m.ledger (ways.key m.node) (told m.node)
   pub challenges : CallsOwnChallenges (ways.key m.node) (told m.node)
@@ -158,9 +158,9 @@ IsSentIn made a = AllByRecursion (IsSent made) a.effects
 abbrev pub AreSent : List Signature → Response → Type 0
 AreSent made r = AllByRecursion (IsSentIn made) r.answers
 
--- What each run of a file wrote is a prefix of the responses to the lines that are in it in the end. Each message that is
--- sent in them spells a state that the journal of its machine signed, and each challenge that is called is one that it
--- signed; and there no two messages are signed with one index of the key.
+-- What each run of a file wrote is a prefix of the responses to the lines that are in it in the end. Each message
+-- that is sent in them spells a state that the journal of its machine signed. Each challenge that is called is one
+-- that it signed. There no two messages are signed with one index of the key.
 pub record SignsOnceOver (signer : Signing) (runs : List Run) (file : List ℕ) : Type 0 where
   pub story :
       AllByRecursion (λ run. IsPrefix (written run.before run.ops)

@@ -52,7 +52,8 @@ event_in (Ok (lines.Event event)) = Ok event
 abbrev pub unless : Bool → Why → Option NotTaken
 unless holds why = if holds then None else Some (Wrong why)
 
--- Why an event can't come now, if it can't. Of an entry the number comes next, and a tick comes while no call is in flight.
+-- Why an event can't come now, if it can't. Of an entry the number comes next, and a tick comes while no call is in
+-- flight.
 abbrev pub reason : NodeMachine → NodeEvent → Option NotTaken
 reason m (events.Entry e) = unless (e.number == length m.ledger + 1) whys.Number
 reason m (events.Message bytes) = option_map Refuses (ways.refuses bytes m.node)

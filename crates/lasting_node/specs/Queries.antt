@@ -66,7 +66,7 @@ balance_of p channel = balance_over (ways.key p) (find (is_of channel) (ways.cha
 abbrev pub journal_of : Numbered → Journal
 journal_of p = record { number = p.number; key = ways.key p; events = ways.journal p }
 
--- whether each premise holds, and what the person could get when it was told to exit
+-- whether each premise holds, and what the person could get when it was commanded to exit
 pub record IsReport (m : NodeMachine) (text : List ℕ) : Type 0 where
   pub unforged : Bool
   pub distinct : Bool
@@ -122,8 +122,8 @@ IsReply m Plan text = text ≡ plan_text (channels m.node.node.mind.parts)
 IsReply m Chains text = text ≡ chains_text (map (λ k. chain k.chain) (ways.chains m.node))
 IsReply m Resend text = text ≡ sends_text m.count (resent m.node)
 
--- An error, why the node refuses a message, or the answer to a query. A message that is refused has the number of the next
--- event.
+-- An error, why the node refuses a message, or the answer to a query. A message that is refused has the number of the
+-- next event.
 abbrev pub IsMessage : NodeMachine → NotTaken → List ℕ → Type 0
 IsMessage m (Wrong why) text = text ≡ error_text why
 IsMessage m (Refuses refusal) text = text ≡ flat_map (effect_text (number m)) (effects.Refused refusal ∷ [])

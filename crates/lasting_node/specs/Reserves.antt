@@ -17,8 +17,8 @@ abbrev pub signs_for : Command → ℕ
 signs_for (Pay channel asset amount) = 1
 signs_for command = 2 * length (opened_by command) + 2 * ledger_count command
 
--- And then three for each channel of the plan, with those that the command opens: two states to close it, or to take it
--- out of a ledger, and a challenge.
+-- And then three for each channel of the plan, with those that the command opens. These are for two states to close
+-- it, or to take it out of a ledger, and for a challenge.
 abbrev pub needed : Numbered → Command → ℕ
 needed p command = 3 * (length (channels p.node.mind.parts) + length (opened_by command)) + signs_for command
 

@@ -21,17 +21,17 @@ fn nodes_own_challenges<P: ReportedNode>()
     ensures owns { ChallengesAreOwn P.ways P.stands P.lost P.reported }
 {}
 
-/// Of each key that has signed nothing, whatever bytes its file holds: the history is legal, the node stands for it, and
-/// keeps what it promises its person. Over any crashes and restarts what each run wrote is a prefix of the responses to the
-/// lines that are in the file in the end. Each message that is sent in them, and each challenge that is called, is signed in
-/// one journal, in which no index of the key signs twice.
+/// Of each key that has signed nothing, whatever bytes its file holds: the history is legal, the node stands for it,
+/// and keeps what it promises its person. Over any crashes and restarts what each run wrote is a prefix of the
+/// responses to the lines that are in the file in the end. Each message that is sent in them, and each challenge that
+/// is called, is signed in one journal, in which no index of the key signs twice.
 pub fn nodes_last()
     ensures { NodesLast }
 {
     nodes_own_challenges::<Node>();
 }
 
-/// So of the key that a first line makes.
+/// The same holds of the key that a first line makes.
 pub(crate) fn started_nodes_last(start: &Start)
     requires { IsHeight start.now.h }
     ensures { Lasts (signer_of start.now) }

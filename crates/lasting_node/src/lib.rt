@@ -4,8 +4,8 @@
 //! of other people, commands, ticks, and word that a call was dropped. The answer to an event is its effects, of which
 //! each has the event's number, and then `{"effect":"done","n":N,"mark":"64 DIGITS"}`: the event is on the disk.
 //!
-//! A line that isn't taken is answered at once and isn't kept: by an error, by why the node refuses a message, or by the
-//! answer to a query.
+//! A line that isn't taken is answered at once and isn't kept: by an error, by why the node refuses a message, or by
+//! the answer to a query.
 //!
 //! A call that the node gave is in flight until an entry with that very call comes, or word that it was dropped. While
 //! one is, the node doesn't tick. A command that has states signed is taken only where the key keeps an index for a

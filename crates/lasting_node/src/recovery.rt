@@ -25,7 +25,7 @@ pub enum Stop {
     NoMemory,
     /// The file has as many records as numbers of 64 bits allow.
     Full,
-    /// So many bytes are records, and a torn one follows. Cut the file there, and begin anew.
+    /// So many bytes are records, and a torn one follows. Cut the file there, and begin again.
     Torn(usize),
     /// A record is wrong, and a later one follows it.
     Damaged,

@@ -178,7 +178,7 @@ fn sends_text(alloc: Global, number: u32, letters: &[Letter]) -> Result<Vec<u8>,
 }
 
 impl NodeMachine {
-    /// In each channel that a command opened the message of the last state that the node signed there, once more.
+    /// The message of the last state that the node signed, once more, in each channel that a command opened.
     pub(crate) fn resend(&self, alloc: Global) -> Result<Vec<u8>, NoMemory>
         ensures { IfOk result (λ text. text.items ≡ sends_text self.now.count (resent self.now.node)) }
     {

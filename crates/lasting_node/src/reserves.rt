@@ -67,7 +67,7 @@ fn channel_count(parts: &[Part]) -> u128
     }
 }
 
-/// How many indices have to be left before a command is told.
+/// How many indices have to be left before a command is given.
 fn needed(node: &Node, command: &Command) -> u128
     ensures value { result ≡ needed node.now command.now }
     ensures few { result < 2 ^ 100 }

@@ -28,7 +28,7 @@ use std::io::{Read, Write};
 /// The first words of a state file: the program, and the version of its rules. The public key follows.
 const TITLE: &str = "nitro-node 1";
 
-/// Over which file a service runs, and how it begins.
+/// The file that a service runs over, and how it begins.
 #[derive(Clone, Copy, Debug)]
 pub struct NodeStart<'a> {
     /// The state file, which is made if it is missing.
@@ -278,18 +278,18 @@ fn run_with<S: Source, W: Write + Drop>(
     }
 }
 
-/// Does all that a program does with its arguments: reads the key from the first line of the input, opens the state
-/// file, recovers it, writes the responses again that were asked for and the line `ready`, and serves the further
-/// lines of the input to its end.
+/// Does all that a program does with its arguments. Reads the key from the first line of the input, opens the state
+/// file, recovers it, and writes the responses again that were asked for. Then writes the line `ready`, and serves
+/// the further lines of the input to its end.
 pub fn run_node<R: Read + Drop, W: Write + Drop>(
     rt: &HostRuntime,
     start: &NodeStart<'_>,
     input: R,
     output: W,
 ) -> Ended<W>
-    // At each moment, in the middle of a call too, whatever a crash leaves of the file explains all that was
-    // written: with the responses that were left out, it is a prefix of those that a node without crashes owes for
-    // the lines in the file.
+    // At each moment, in the middle of a call too, whatever a crash leaves of the file explains all that was written.
+    // With the responses that were left out, it is a prefix of those that a node without crashes owes for the lines
+    // in the file.
     ensures moments { IfSome result.run (λ run. IsExplained (signer_of run.start)
         (last_left_out start.now.after) run.file.items run.outside.calls.events) }
 
@@ -309,8 +309,8 @@ pub fn run_node<R: Read + Drop, W: Write + Drop>(
     ensures valid { IfSome result.run (λ run.
         AreValid run.played.machine.ledger (ways.lines run.played.machine.node)) }
 
-    // Whatever a file of this key holds, the node stands for its history and keeps what it promises its person. Over any
-    // crashes and restarts of the file no index of the key signs two messages.
+    // Whatever a file of this key holds, the node stands for its history and keeps what it promises its person. Over
+    // any crashes and restarts of the file no index of the key signs two messages.
     ensures lasts { IfSome result.run (λ run. Lasts (signer_of run.start)) }
 {
     let mut source = ReaderLines::new(rt.alloc(), input);

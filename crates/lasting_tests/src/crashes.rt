@@ -121,7 +121,8 @@ pub fn run_from(alloc: Global, holding: Holding, file: &[u8], left: u32) -> Resu
     left_by(alloc, file, memory.calls())
 }
 
-/// How many bytes of records a run leaves that ends at a line of another story, the second; `None` where it ends otherwise.
+/// How many bytes of records a run leaves that ends at a line of another story, the second; `None` where it ends
+/// otherwise.
 pub fn left_at_foreign(alloc: Global, holding: Holding) -> Result<Option<usize>, Fault> {
     let mut memory = Memory::new(alloc, u32::MAX);
     let mut played = fresh();

@@ -1,5 +1,5 @@
-//! Tests of lines that last: a run fails at each call, and each file that a crash may leave is restarted. And what a node
-//! reads of lines.
+//! Tests of lines that last: a run fails at each call, and each file that a crash may leave is restarted. Also what a
+//! node reads in lines.
 #![tactic(auto)]
 
 mod crashes;

@@ -1,5 +1,5 @@
-//! A tiny machine: it answers each line with the number of bytes of all lines so far, and takes no empty line. The line `!`
-//! is of another story.
+//! A tiny machine: it answers each line with the number of bytes of all lines so far, and takes no empty line. The
+//! line `!` is of another story.
 
 ghost use Rattle.std.specs.Prelude.{◌≡◌, ◌+◌, ◌-◌, ◌^◌, ◌++◌, ◌∷◌, [], true, false, not, nat_lt};
 ghost use Rattle.std.specs.Prelude.{length, min, decimal, IfOk};

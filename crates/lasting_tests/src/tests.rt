@@ -3,8 +3,9 @@
 use crate::crashes::{Holding, are_restarted, found, left_at_foreign, run_from};
 use std::test::Fail;
 
-/// A source, and one more than the calls of a run on it: one for the responses that were asked for, three for each record,
-/// and one for the empty line. One at a time, four lines have a record each; all at once, two have one.
+/// A source, and one more than the calls of a run on it. These are one for the responses that were asked for, three
+/// for each record, and one for the empty line. One at a time, four lines have a record each; all at once, two have
+/// one.
 const SOURCES: [(Holding, u32); 2] = [(Holding::One, 15), (Holding::All, 9)];
 
 #[test]
@@ -46,8 +47,8 @@ fn a_line_of_another_story_ends_the_run(rt: HostRuntime) -> Result<(), Fail> {
     Ok(())
 }
 
-/// Records of 69, 70, 71 and 69 bytes. The file is damaged if a byte is another, but for the last record and the line feed
-/// before it: these count as torn.
+/// Records of 69, 70, 71 and 69 bytes. The file is damaged if a byte is another, but for the last record and the line
+/// feed before it: these count as torn.
 #[test]
 fn a_changed_byte_is_found(rt: HostRuntime) -> Result<(), Fail> {
     let alloc = rt.alloc();

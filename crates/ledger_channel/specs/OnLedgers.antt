@@ -47,7 +47,8 @@ on_ledger_rows p =
 abbrev pub on_ledger_stage : Funded → ℕ
 on_ledger_stage p = stage_in (on_ledger_rows p)
 
--- the target in the ledger now: up in the opening stages, down in the closing ones once the channel's latest state is final
+-- the target in the ledger now: up in the opening stages, down in the closing ones once the channel's latest state is
+-- final
 abbrev pub ledger_target : Funded → ℕ → Option (List AssetOutcome)
 ledger_target p stage =
     if not p.closing then (if nat_le stage 2 then target_up p else None)

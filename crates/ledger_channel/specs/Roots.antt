@@ -20,8 +20,9 @@ use Rattle.funding_plans.specs.Shapes.{items_in}
 use Rattle.funding_plans.specs.Seats.{Seat, holds, is_set_up, repeats, final_state, is_spelled, takes_payment, takes_vote}
 use Rattle.funding_plans.specs.Rows.{Row, ◌⊢◌, signing, calling, waiting}
 
--- the channel, its participant's name, whether Close was commanded, the participant let go of it and it is a payment channel, how it stands in the view,
--- what it holds by asset, what it settled on and what is left of that, and the held chain
+-- The channel and its participant's name. Whether Close was commanded, the participant let go of it, and it is a
+-- payment channel. How it stands in the view, what it holds by asset, what it settled on, what is left of that, and
+-- the held chain.
 pub record Direct : Type 0 where
   pub channel : Seat
   pub who : List ℕ

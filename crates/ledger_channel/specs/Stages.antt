@@ -1,5 +1,5 @@
--- What a participant's facts make of a channel that holds its own funds, or that a ledger funds: its stage, what that wants
--- and calls, and what is taken from others.
+-- What a participant's facts make of a channel that holds its own funds, or that a ledger funds. That is its stage,
+-- what the stage wants and calls, and what is taken from others.
 use Rattle.std.specs.Prelude.{ℕ, ◌==◌, Bool, false, ◌&&◌, List, [], ◌∷◌, Option, Some, None}
 use Rattle.std.specs.Str.{bytes_eq}
 use Rattle.channel_values.specs.declared.chain.Chain.{Chain}

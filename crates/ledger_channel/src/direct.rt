@@ -456,7 +456,7 @@ impl<'a> DirectView<'a> {
         !self.is_set_up() || !self.has_any_turn()
     }
 
-    /// It opens, isn't final, and the participant put nothing in.
+    /// It opens, isn't final, and the participant deposited nothing.
     pub(crate) fn abandons(&self) -> bool
         ensures { result ≡ roots.root_abandons self.now }
     {

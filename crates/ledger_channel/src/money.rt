@@ -23,7 +23,7 @@ pub(crate) fn held_of(held: &[(u32, u64)], asset: u32) -> u64
     }
 }
 
-/// The sum of the items ahead of a destination's.
+/// The sum of the items before a destination's.
 pub(crate) fn ahead_of(items: &[Item], to: &Dest) -> u64
     requires { total items.now < 2 ^ 64 }
     ensures bound { result ≤ total items.now }

@@ -1,8 +1,8 @@
 //! Measures signatures and the adjudicator's tables: `meters WORK COUNT`, where WORK is `step`, `key`, `key15`, `sign`,
 //! `verify`, `deposits` or `transfers`.
 //!
-//! The work is done COUNT times, and `WORK COUNT` is printed. The time that it took, with no preparation before it, is
-//! printed on the standard error.
+//! The work is done COUNT times, and `WORK COUNT` is printed. The time that it took, without the preparation, is
+//! printed on standard error.
 #![tactic(auto)]
 
 mod signatures;

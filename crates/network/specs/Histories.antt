@@ -25,7 +25,8 @@ RefusesAs refusal (Err NoMemory) = Unit {0}
 abbrev pub ComeNext : List Entry → List Entry → ℕ → Type 0
 ComeNext h entries seen = (later past : List Entry) × (h ≡ later ++ history_after past entries) × (length past ≡ seen)
 
--- the watcher stands for a front of the history in which these entries come next, and it will have seen no less than the node
+-- the watcher stands for a front of the history in which these entries come next, and it will have seen no less than
+-- the node
 pub record HasLooked (r : Rules) (h : List Entry) (seen : ℕ) (l : Lookout) (entries : List Entry) : Type 0 where
   pub later : List Entry
   pub past : List Entry

@@ -5,7 +5,7 @@ use Rattle.std.specs.Str.{bytes_eq}
 use Rattle.network.specs.Watching.{row_with}
 use Rattle.network.specs.declared.rows.Watched.{Watched}
 
--- what is told of a channel: a turn and a deadline
+-- what is recorded of a channel: a turn and a deadline
 abbrev pub Told : Type 0
 Told = ℕ × Option ℕ
 

@@ -20,8 +20,9 @@ use Rattle.network.specs.Standing.{AreKept, IsWorld}
 abbrev pub after : {P : Type 0} → Ways P → List Happening → WorldOf P → WorldOf P
 after ways events w = fold (λ now event. happened ways event now) w events
 
--- Of a person with a node, where nothing is forged of it, its hashed strings don't collide and its watchers are in time, no
--- channel becomes final with an outcome older than its newest supported state. Entries and lines are of values.
+-- Of a person with a node no channel becomes final with an outcome older than its newest supported state. So it is
+-- where nothing is forged of it, its hashed strings don't collide and its watchers are in time. Entries and lines are
+-- of values.
 abbrev pub IsSafeIn : {P : Type 0} → Ways P → WorldOf P → MemberOf P → Type 0
 IsSafeIn ways w m =
     AllByRecursion IsValidEntry w.history → AreValid w.history (ways.lines m.node)

@@ -16,8 +16,8 @@ use Rattle.network.specs.declared.lookout.Lookout.{Lookout}
 use Rattle.network.specs.Members.{MemberOf}
 use Rattle.network.specs.Worlds.{WorldOf}
 
--- What nodes of these rules keep: `stands h p` says that p has followed a front of h; over a history of values its journal is
--- honest.
+-- What nodes of these rules keep: `stands h p` says that p has followed a front of h; over a history of values its
+-- journal is honest.
 pub record AreKept {P : Type 0} (ways : Ways P) (stands : List Entry → P → Type 0) : Type 0 where
   pub fresh : (h : List Entry) (number : ℕ) (signer : Signing) → IsFresh signer → stands h (ways.fresh number signer)
   pub saw : (h entries : List Entry) (p : P) → Legal real h → ComeNext h entries (ways.seen p) → stands h p → stands h (ways.saw entries p)

@@ -10,7 +10,7 @@ ghost use Rattle.network.specs.Valid.{AddsFixed, newest_lines};
 use crate::validity::values_are_valid;
 use call_history::{Entry, Event};
 
-/// `network_outcomes_are_not_older` under any rules, where names tell fixed parts and digests tell states.
+/// `network_outcomes_are_not_older` under any rules, where names determine fixed parts and digests determine states.
 pub fn any_outcomes_are_not_older(history: &[Entry], journal: &[Event])
     ensures { (adds : ℕ → List FixedParts) → AddsFixed adds
         → AnyOutcomesAreNotOlder (newest_first history.now) (newest_lines journal.now adds) }

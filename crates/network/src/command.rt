@@ -5,7 +5,7 @@ ghost use Rattle.network.specs.declared.command.Command.TheVariants as commands;
 
 use channel_values::{Fixed, Name, NoMemory, Outcome};
 
-/// On what a channel of two people through an intermediary stands, and what it is.
+/// What a channel of two people through an intermediary stands on, and what it is.
 #[derive(Clone, Copy, Debug, PartialEq, Eq)]
 pub enum Route {
     /// A payment channel on roots.
@@ -21,7 +21,7 @@ pub enum Route {
 pub enum Release {
     /// It is final, and what is due in it is taken.
     Settle,
-    /// It isn't set up yet, and the participant put nothing in.
+    /// It isn't set up yet, and the participant deposited nothing.
     Abandon,
 }
 

@@ -17,7 +17,7 @@ pub trait Docket: Drop {
     fn make(alloc: Global) -> Self
         ensures { history result ≡ [] };
 
-    /// Enters an op, with the reply of the adjudicator; or, for want of memory, nothing.
+    /// Enters an op, with the reply of the adjudicator; or nothing when memory runs out.
     fn enter(&mut self, by: u32, op: Op) -> Result<(), NoMemory>
         requires { length (history self.old) < 2 ^ 32 - 1 }
         ensures entered { OnOk result (history self.new ≡ entered (history self.old) by op) }

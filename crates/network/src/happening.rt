@@ -13,7 +13,7 @@ pub enum Happening {
     Time(u64),
     /// A node follows what it hasn't followed.
     See(u32),
-    /// A node is told a command, of a step with this number.
+    /// A node is given a command, of a step with this number.
     Command(u32, u32, Command),
     /// A node is handed a message.
     Deliver(u32, Listed<u8>),

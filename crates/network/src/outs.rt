@@ -10,7 +10,7 @@ use std::alloc::Global;
 use std::error::Error;
 use std::fmt;
 
-/// Messages with the persons they are for, calls, and the used indices where a signature was wanted of a spent key.
+/// Messages with the persons they are for, calls, and the used indices where a spent key was asked for a signature.
 #[derive(Drop)]
 pub struct Outs {
     pub sends: Listed<(Name, Listed<u8>)>,

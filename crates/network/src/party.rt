@@ -20,8 +20,8 @@ use channel_values::{Key, NoMemory};
 use lms_signatures::Signer;
 use std::alloc::Global;
 
-/// A node: it follows the history, is told commands, handles messages, acts at each tick, and its watchers look. After want
-/// of memory it answers nothing else, and stays as it is.
+/// A node: it follows the history, is given commands, handles messages, acts at each tick, and its watchers look.
+/// Once memory ran out it answers nothing else, and stays as it is.
 pub trait Party: Drop {
     // What each call makes of it and answers, as functions of its value.
     ghost ways: { Ways Self };

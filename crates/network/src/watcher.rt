@@ -14,8 +14,9 @@ use indexmap::IndexMap;
 use std::alloc::Global;
 use std::marker::Model;
 
-/// A watcher, and the number of the last entry that it followed. A look takes time for new entries and for the chains,
-/// and none for older entries or other channels. After it answered once that memory is gone it answers nothing else.
+/// A watcher, and the number of the last entry that it followed. A look takes time for new entries and for the
+/// chains, and none for older entries or other channels. Once it answered that memory ran out, it answers nothing
+/// else.
 #[derive(Drop)]
 pub struct Watcher {
     time: u64,
@@ -54,14 +55,14 @@ impl Watcher {
         self.seen
     }
 
-    /// The time, as the entries that it has followed tell it.
+    /// The time, as the entries that it has followed say.
     pub fn now(&self) -> u64
         ensures { result ≡ self.now.time }
     {
         self.time
     }
 
-    /// What is recorded of a channel, as the entries that it has followed tell it.
+    /// What is recorded of a channel, as the entries that it has followed say.
     pub fn row(&self, channel: &Name) -> Watched
         ensures { result ≡ watched_row self.now.rows channel.now }
     {

@@ -7,8 +7,8 @@ pub fn unseeing_stands()
     ensures { UnseeingStands }
 {}
 
-/// A watcher that stands for a history stands for the longer one once it has followed the entries that come next, where
-/// that is legal and the rules name channels as this network does.
+/// A watcher that stands for a history stands for the longer one once it has followed the entries that come next. The
+/// longer history is legal, and the rules name channels as this network does.
 pub fn looks_are_kept()
     ensures { LooksAreKept }
 {}

@@ -24,7 +24,7 @@ use lms_signatures::Signer;
 use std::alloc::Global;
 use std::marker::Model;
 
-/// One history, and the nodes with their watchers. After want of memory it answers nothing else.
+/// One history, and the nodes with their watchers. Once memory ran out it answers nothing else.
 #[derive(Drop)]
 pub struct World<P: Party, D: Docket> {
     alloc: Global,

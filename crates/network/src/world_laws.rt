@@ -1,5 +1,5 @@
-//! Laws alone: whatever happens in a world, its history stays legal and its journals honest, and nothing old becomes final for
-//! its people with nodes.
+//! Laws alone: whatever happens in a world, its history stays legal and its journals honest, and nothing old becomes
+//! final for its people with nodes.
 
 ghost use Rattle.std.specs.Prelude.{List};
 ghost use Rattle.call_history.specs.declared.entry.Entry.{Entry};

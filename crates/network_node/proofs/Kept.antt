@@ -157,7 +157,7 @@ pub handle_refuses : {A : Type 0} (p : Numbered) (bytes copy : List ℕ) (new : 
 handle_refuses p bytes copy new result same answer =
     subst (λ (b : List ℕ). RefusesAs (ways.refuses b p) result) same (refuses-as p copy new result answer)
 
--- ---- want of memory outside
+-- ---- running out of memory outside
 
 -- the node is lost, with its journal as it was
 pub lose_keeps : (p : Numbered) (new : NodeOf) → new ≡ record p.node { is_lost = true } → (h : List Entry) → Legal real h → StandsOwning h p → StandsOwning h (record p { node = new })

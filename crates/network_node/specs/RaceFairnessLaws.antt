@@ -21,7 +21,7 @@ use Rattle.node_guarantees.specs.Ways.{Numbered, ways}
 use Rattle.node_guarantees.specs.Placed.{IsPlaced}
 use Rattle.channel_node.specs.Races.{OpensLasting, PlaysRace}
 
--- In a race nobody lowers the share of a node's person, and it can leave with it, where nothing is forged and no hashed
+-- In a race nobody lowers the share of a node's person, and it can leave with it. Nothing is forged and no hashed
 -- strings collide, those of its key and of all that its commands name among them.
 abbrev pub RacedPlansKeepShares : Type 0
 RacedPlansKeepShares =

@@ -1,4 +1,4 @@
--- What is told of a node: what its person can get, what it knows, and its events with their commands.
+-- What is reported of a node: what its person can get, what it knows, and its events with their commands.
 use Rattle.std.specs.Prelude.{ℕ, Bool, List, Option}
 use Rattle.funding_plans.specs.Known.{FactsOf}
 use Rattle.channel_node.specs.Minds.{facts_of}

@@ -105,7 +105,7 @@ fn looked_twice(
 }
 
 impl Node {
-    /// The commands that it was told, in their order, one for each of their events.
+    /// The commands that it was given, in their order, one for each of their events.
     pub fn commands(&self) -> &[Command]
         ensures { result.now ≡ self.now.node.commands }
     {
@@ -182,8 +182,8 @@ impl Node {
         }
     }
 
-    /// What is to be noted of a command to exit, where that wasn't noted before: what its person can get. The command itself
-    /// doesn't change that, and after it memory can't fail the note.
+    /// What is to be noted of a command to exit, where that wasn't noted before: what its person can get. The command
+    /// itself doesn't change that, and after it the note can't run out of memory.
     fn noted_for(&self, command: &Command) -> Result<Option<Listed<(u32, u128)>>, NoMemory>
         ensures { IfOk result (λ noted.
             noted ≡ note_if (leaves command.now) self.now.exits (shares_known self.now.node.mind)) }

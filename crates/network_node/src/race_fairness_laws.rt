@@ -4,7 +4,7 @@
 ghost use Rattle.network_node.specs.RaceFairnessLaws.{RacedPlansKeepShares, RacingNodesAreInTime, RacingNodesAreSafe, RacingNodesKeepShares};
 
 /// In a race nobody lowers the share of a node's person, its own signatures only as far as they may, and an exit pays
-/// it, where nothing is forged, no hashed strings collide, and its channels have durations of two or more.
+/// it. Nothing is forged, no hashed strings collide, and its channels have durations of two or more.
 pub fn raced_plans_keep_shares()
     ensures { RacedPlansKeepShares }
 {}

@@ -1,4 +1,4 @@
-//! What is told of a node.
+//! What is reported of a node.
 
 ghost use Rattle.std.specs.List.{AllByRecursion};
 ghost use Rattle.channel_values.specs.Parts.{IsFixed};

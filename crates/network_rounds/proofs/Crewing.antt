@@ -1,4 +1,4 @@
--- Crews taken apart into workers, and put together again.
+-- Crews that are split into workers and joined again.
 use Rattle.std.proofs.Common.{◌≡◌, Bool, true, false, cond, List, [], ◌∷◌, ◌++◌, map, refl, sym, ap, ◌∙◌, subst, append_assoc, append-nil}
 use Rattle.network.specs.Members.{MemberOf}
 use Rattle.network_rounds.specs.Members.{Letter}

@@ -1,4 +1,4 @@
--- A phase, put together from jobs that were dealt, what each did, and what was collected.
+-- A phase, assembled from jobs that were dealt, what each did, and what was collected.
 use Rattle.std.proofs.Common.{◌≡◌, ℕ, zero, suc, ◌+◌, ◌%◌, ◌<◌, List, [], ◌∷◌, ◌++◌, length, map, take, drop, get_or, refl, sym, ap, ◌∙◌, subst, arith, append_assoc}
 use Rattle.std.proofs.lemmas.List.{take-append-drop}
 use Rattle.std.specs.Prelude.{Result, Ok, Err, IfOk, All}

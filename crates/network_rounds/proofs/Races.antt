@@ -158,7 +158,7 @@ module _ {P : Type 0} (ways : Ways P) (stands : List Entry → P → Type 0) (lo
     };
   }
 
-  -- ---- a node is told a command
+  -- ---- a node is given a command
 
   in-middle : (x m m' : MemberOf P) (front back : List (MemberOf P)) → In x (front ++ m' ∷ back) → (x ≡ m') ⊎ In x (front ++ m ∷ back)
   in-middle x m m' [] back (inl e) = inl e

@@ -1,4 +1,5 @@
--- What the jobs of a phase have may cross threads. One search from a job runs out of steps, so it is put together here.
+-- What the jobs of a phase have may cross threads. One search from a job runs out of steps, so the parts are joined
+-- here.
 use mathlib.Core.List.{[], ◌∷◌}
 use denote.Builtin as builtin
 use denote.RattleType.{RattleType}

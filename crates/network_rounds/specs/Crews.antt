@@ -43,8 +43,8 @@ keys_of ways nodes = map (λ m. ways.key m.node) nodes
 abbrev pub cast_numbers : List Player → List ℕ
 cast_numbers cast = map (λ x. x.number) cast
 
--- Nodes stand in the order of their numbers, and actors in that of theirs; nobody has the number of another, and no node
--- the key of another.
+-- Nodes stand in the order of their numbers, and actors in that of theirs; nobody has the number of another, and no
+-- node the key of another.
 pub record IsOrdered {P : Type 0} (ways : Ways P) (crew : CrewOf P) : Type 0 where
   pub nodes : Rise (numbers_of ways crew.nodes)
   pub cast : Rise (cast_numbers crew.cast)

@@ -40,9 +40,9 @@ abbrev pub with_rest : {P : Type 0} → Stage P → List Player → List Letter 
 with_rest s cast post = record s { crew = record s.crew { cast = cast; post = post } }
 
 module _ {P : Type 0} (ways : Ways P) where
-  -- One step of a race. Its driver enters a call; or a node sees what the driver has seen, and may be told a command then; the
-  -- messages on their way change, and actors come or go, whose notes begin what it has seen; a new node joins, with so many
-  -- watchers; or there is a round, and after it the next time is entered.
+  -- One step of a race. Its driver enters a call, or a node sees what the driver has seen, and may be given a command
+  -- then. The messages on their way change, and actors come or go, whose notes begin what it has seen. A new node
+  -- joins, with so many watchers. Or there is a round, and after it the next time is entered.
   pub data Goes (s t : Stage P) : Type 0 where
     enters : (call : Call) → t ≡ record s { seen = entered_on s.seen (ops.Call call) } → Goes s t
     tells : (front back : List (MemberOf P)) (m : MemberOf P) (step : ℕ) (command : Command) → s.crew.nodes ≡ front ++ m ∷ back
@@ -66,7 +66,7 @@ module _ {P : Type 0} (ways : Ways P) where
     pub watched : 0 < length m.watchers
     pub raced : IsRaced (newest_first s.seen) (ways.lines m.node) s.ends
 
-  -- Whose nodes and watchers stand for its history, and race.
+  -- A race whose nodes and watchers stand for its history, and race.
   pub record IsRacing (stands : List Entry → P → Type 0) (lost : P → Bool) (s : Stage P) : Type 0 where
     pub crew : IsCrew stands s.seen s.crew
     pub ticks : IsRaced (newest_first s.seen) [] s.ends

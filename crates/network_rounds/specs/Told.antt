@@ -1,4 +1,4 @@
--- What a round did, told for each node and each actor. Histories are in the order of time here.
+-- What a round did, for each node and each actor. Histories are in the order of time here.
 use Rattle.std.specs.Prelude.{◌≡◌, ℕ, ◌+◌, true, false, List, [], ◌∷◌, ◌++◌, length}
 use Rattle.std.specs.List.{flat_map}
 use Rattle.call_history.specs.declared.entry.Entry.{Entry}
@@ -29,8 +29,8 @@ pub record StandOnce (h later : List Entry) (gave : List Given) : Type 0 where
   pub are : AreEntered later numbers gave
   pub each : (number : ℕ) → times number numbers + once number (length h) ≡ once number (length later)
 
--- A node in a round, from entries that the driver had seen to those that it has seen then: it followed what it looked up
--- itself, handled what came for it, and acted; then each of its watchers looked.
+-- A node in a round, from entries that the driver had seen to those that it has seen then. It followed what it looked
+-- up itself, handled what came for it, and acted. Then each of its watchers looked.
 pub record NodeRan {P : Type 0} (ways : Ways P) (post : List Letter) (h later : List Entry) (m after : MemberOf P) (sent : List Letter) (gave : List Given) : Type 0 where
   pub seen : List Entry
   pub looks : List (List Entry)
@@ -54,8 +54,8 @@ answer_gave number a = act_gave number (length a.notes) a.act
 abbrev pub answer_posts : Answer → List Letter
 answer_posts a = posts_of a.act
 
--- it was asked once and was done, or it was asked twice, the second time with all that it had been given the first, and maybe
--- more after that
+-- it was asked once and was done, or it was asked twice, the second time with all that it had been given the first,
+-- and maybe more after that
 abbrev pub AreAnswers : Player → List Answer → Type 0
 AreAnswers x [] = ⊥
 AreAnswers x (a ∷ []) = (is_done a.act ≡ true) × (x.done ≡ true) × (x.notes ≡ a.notes)

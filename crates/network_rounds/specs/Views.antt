@@ -34,7 +34,7 @@ module _ {D : Type 0} {V : D → Type 0} (tells : (d : D) × V d → Bool) (told
   abbrev pub players : List (Cast D V) → List Player
   players cast = map (player_of (λ b. tells (b.vtable, b.value)) (λ b. told (b.vtable, b.value))) cast
 
--- ---- whatever its actors tell
+-- ---- whatever its actors say
 
 module _ {P D : Type 0} {V : D → Type 0} where
   -- the workers of a crew of these nodes and these actors

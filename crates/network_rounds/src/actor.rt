@@ -1,4 +1,4 @@
-//! Actors that nobody knows: they look, and enter calls of their own.
+//! Actors of unknown behavior: they look, and enter calls of their own.
 
 ghost use Rattle.std.specs.Prelude.{◌≡◌, List, [], ◌∷◌, ◌++◌, Bool, true};
 ghost use Rattle.network_rounds.specs.Acts.{IsWithinLimits};
@@ -11,7 +11,7 @@ use channel_values::{Listed, Name};
 #[derive(Drop)]
 pub enum Act {
     Enter(Call),
-    /// Places a message on the way to a person.
+    /// Sends a message to a person.
     Post(Name, Listed<u8>),
     Rest,
     /// It isn't asked again.

@@ -56,7 +56,7 @@ fn asked(mut cast: Cast) -> (Cast, Act)
     (cast, act)
 }
 
-/// It looks and is asked once. Its call is entered under its number; what it posts is the answer.
+/// It looks and is asked once. Its call is entered under its number. The messages that it sends are the answer.
 pub(crate) fn play<R: Threads + Wait + Sync>(
     rt: &R,
     alloc: Global,

@@ -4,8 +4,8 @@ use crate::cast::Cast;
 use crate::member::Letter;
 use network::{Member, Party};
 
-/// The nodes with their watchers and the cast, both in the order of their numbers, and the messages on their way.
-/// Who makes it sees to it that nobody has the number of another, and no node the key of another; rounds leave it so.
+/// The nodes with their watchers and the cast, both in the order of their numbers, and the messages on their way. Its
+/// maker ensures that nobody has the number of another, and no node the key of another. Rounds keep it so.
 #[derive(Drop)]
 pub struct Crew<P: Party> {
     pub nodes: Vec<Member<P>>,

@@ -19,7 +19,7 @@ use std::thread::Threads;
 /// A message, with the person that it is for.
 pub type Letter = (Name, Listed<u8>);
 
-/// It is handed a message, if it is for this person. What it refuses stands in its journal.
+/// It is handed a message, if it is for this person. Its journal has what it refuses.
 fn hear<P: Party>(member: &mut Member<P>, who: &Name, letter: &Letter) -> Result<(), RoundFault>
     ensures { OnOk result (member.new ≡ heard P.ways who.now member.old letter.now) }
 {

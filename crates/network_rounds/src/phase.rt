@@ -19,7 +19,7 @@ use std::sync::Wait;
 use std::thread;
 use std::thread::Threads;
 
-/// What a job comes to, of each, in their order and side by side.
+/// The result of a job for each, in their order and side by side.
 fn map_jobs<R: Threads + Sync, J: Send + Drop, E: Send + Drop, F: Fn(J) -> Result<J, E> + Sync>(
     rt: &R,
     jobs: Vec<J>,

@@ -20,7 +20,7 @@ use std::mem;
 use std::sync::Wait;
 use std::thread::Threads;
 
-// Those who work, out of the crew. An actor that is done is dropped.
+// The workers of the crew. An actor that is done is dropped.
 fn take_workers<P: Party>(alloc: Global, crew: &mut Crew<P>) -> Result<Vec<Worker<P>>, NoMemory>
     ensures workers { IfOk result (λ ws. Taking crew.old.nodes.items crew.old.cast.items ws.items) }
     ensures post { OnOk result (crew.new.post.items ≡ crew.old.post.items) }
@@ -67,9 +67,10 @@ fn give_back<P: Party>(
     Ok(())
 }
 
-/// A round in threads. In the first phase each node looks, sees, handles what came for it, acts and enters its calls, beside
-/// actors that are asked once; in the second the watchers of each node look and their calls are entered, beside actors that
-/// are asked again. After a fault the crew and the seat aren't used again, and what was entered stays.
+/// A round in threads. In the first phase each node looks, sees, handles what came for it, acts and enters its calls,
+/// beside actors that are asked once. In the second the watchers of each node look and their calls are entered,
+/// beside actors that are asked again. After a fault the crew and the seat aren't used again, and what was entered
+/// stays.
 pub fn race_round<R: Threads + Wait + Sync, G: Gate + Sync, P: Party + Send>(
     rt: &R,
     alloc: Global,

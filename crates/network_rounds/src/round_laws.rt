@@ -1,11 +1,11 @@
-//! Laws alone: what runs is a round, as told for each node and each actor; after it the crew stands for the longer history;
-//! and rounds with a time entry after each make a race. Each function is empty: its contract is the law.
+//! Laws alone: what runs is a round, as described for each node and each actor. After it the crew stands for the
+//! longer history. Rounds with a time entry after each make a race. Each function is empty: its contract is the law.
 
 ghost use Rattle.network_rounds.specs.Laws.{RunsAreRounds, RoundsKeepCrews, CrewsAreHonest, RacesStay, RoundsKeepOrder};
 
 use network::Party;
 
-/// What two phases of workers did is a round: what each node and each actor did, and whose each new entry is.
+/// What two phases of workers did is a round: what each node and each actor did, and who made each new entry.
 pub fn runs_are_rounds<P: Party>()
     ensures { RunsAreRounds P }
 {}

@@ -1,4 +1,4 @@
-//! What is wrong with the keys of a step. It is only said on standard error, and nothing of it is proved.
+//! What is wrong with the keys of a step. It is only printed on standard error, and nothing of it is proved.
 
 use channel_values::NoMemory;
 use serde_json::Value;

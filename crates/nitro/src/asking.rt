@@ -1,4 +1,4 @@
-//! What the words of the program ask for.
+//! What the arguments of the program ask for.
 
 use crate::pages::Page;
 use crate::table::program;
@@ -21,8 +21,8 @@ pub enum Task {
     Lint,
 }
 
-/// What is asked for: a task, whether its text is written as JSON, the words that its call takes, the script that has the
-/// names of a record, if one is given, and the file that is read, if not standard input.
+/// What is asked for: a task, whether its text is written as JSON, and the arguments that its call takes. Also the
+/// script that has the names of a record, if one is given, and the file that is read, if not standard input.
 #[derive(Drop)]
 pub struct Request<'a> {
     pub task: Task,
@@ -41,7 +41,8 @@ pub struct StateRequest<'a> {
     pub is_moved: bool,
 }
 
-/// What words come to. Ledgers and nodes are served by `main`, since their files take the runtime of the system.
+/// The meaning of the arguments. Ledgers and nodes are served by `main`, since their files take the runtime of the
+/// system.
 #[derive(Drop)]
 pub enum Wanted<'a> {
     Ledger(StateRequest<'a>),
@@ -49,18 +50,18 @@ pub enum Wanted<'a> {
     Other(Asked<'a>),
 }
 
-/// What words come to that ask for no service.
+/// The meaning of arguments that ask for no service.
 #[derive(Drop)]
 pub enum Asked<'a> {
     Task(Request<'a>),
     Version,
     /// The manual page, or completions for a shell.
     Page(Page),
-    /// The words are wrong, or ask for help: the text says it.
+    /// The arguments are wrong, or ask for help: the text says it.
     Told(Error),
 }
 
-/// Adds a word.
+/// Adds an argument.
 fn push(alloc: Global, words: &mut Vec<Label>, word: &str) -> Result<(), NoMemory> {
     let text = String::from_str(alloc, word)?;
     words.push(Label::make(text))?;
@@ -109,7 +110,7 @@ fn task_of(name: &str) -> Option<Task> {
     }
 }
 
-/// The words that the call of a task takes.
+/// The arguments that the call of a task takes.
 fn words_of(alloc: Global, name: &str, matches: &ArgMatches) -> Result<Vec<Label>, NoMemory> {
     let mut words = Vec::new(alloc);
     if name != "route" && name != "lint" {
@@ -138,7 +139,7 @@ fn file_of<'a>(matches: &ArgMatches<'a>) -> Option<&'a str> {
     if file == "-" { None } else { Some(file) }
 }
 
-/// What the program is asked for by the words after its name.
+/// What the program is asked for by the arguments after its name.
 pub(crate) fn read_words<'a>(alloc: Global, words: &'a [&'a str]) -> Result<Wanted<'a>, NoMemory> {
     let matches = match program(alloc)?.try_get_matches_from(words) {
         Ok(matches) => matches,

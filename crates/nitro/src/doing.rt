@@ -50,7 +50,7 @@ impl Done {
         }
     }
 
-    /// The step at which a script is refused, if it is one.
+    /// The step at which a script is refused, if it is refused at one.
     pub(crate) fn broken_step(&self) -> Option<u32> {
         match self {
             Done::Played(ended) => match ended.status {
@@ -65,8 +65,8 @@ impl Done {
 }
 
 /// Does a task: hands the arguments, the source and the sink to the call that does it, whose contract has all that is
-/// promised. A picture takes labels too. In a race three act beside the nodes: one plays old challenges again, one
-/// answers a challenge in two ways, and one rests.
+/// promised. A picture takes labels too. In a race three actors act beside the nodes: one plays old challenges again,
+/// one answers a challenge in two ways, and one rests.
 pub(crate) fn perform<R: Threads + Wait + Sync, S: Source, K: Sink>(
     rt: &R,
     alloc: Global,

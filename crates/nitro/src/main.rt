@@ -1,5 +1,5 @@
-//! The program. It reads the words after its name, hands what they ask for to the one library call that does it, and ends with
-//! the status of that call. What is promised is in the contracts of those calls.
+//! The program. It reads the arguments after its name, hands what they ask for to the one library call that does it,
+//! and ends with the status of that call. What is promised is in the contracts of those calls.
 #![tactic(auto)]
 
 mod actors;
@@ -31,7 +31,7 @@ use std::thread::Threads;
 use std::{env, io};
 use table::{VERSION, program};
 
-/// The words after the program's name. Words that aren't text count as none.
+/// The arguments after the program's name. Arguments that aren't text count as none.
 fn words<R: Env + AllocGlobal>(rt: &R) -> Result<Vec<String>, NoMemory> {
     let mut words = Vec::new(rt.alloc());
     let args = match env::args(rt) {
@@ -45,7 +45,7 @@ fn words<R: Env + AllocGlobal>(rt: &R) -> Result<Vec<String>, NoMemory> {
     Ok(words)
 }
 
-/// Says what clap has to say: help, with status 0, or what is wrong with the words.
+/// Prints what clap has to say: help, with status 0, or what is wrong with the arguments.
 fn answer_told<R: Threads + Wait + Sync + Print + Eprint, S: Source + Drop, K: Sink>(
     rt: &R,
     alloc: Global,
@@ -79,7 +79,8 @@ fn print_page<R: Print>(rt: &R, alloc: Global, page: Page) -> Result<u8, NoMemor
     }
 }
 
-/// Serves a ledger over its state file, with standard input and standard output, and gives the status that it ends with.
+/// Serves a ledger over its state file, with standard input and standard output, and gives the status that it ends
+/// with.
 fn serve_ledger(rt: &HostRuntime, request: &StateRequest) -> u8 {
     let start = Start {
         path: request.state,
@@ -101,7 +102,7 @@ fn serve_node(rt: &HostRuntime, request: &StateRequest) -> u8 {
     ended.status.code()
 }
 
-/// Answers the words.
+/// Answers the arguments.
 fn answer<R: Threads + Wait + Sync + Files + Print + Eprint, S: Source + Drop, K: Sink>(
     rt: &R,
     alloc: Global,

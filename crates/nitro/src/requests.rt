@@ -102,7 +102,8 @@ fn do_labelled<R: Threads + Wait + Sync + Files + Eprint, S: Source + Drop, K: S
     }
 }
 
-/// The same, with the names of the script that was given for them. Where that can't be played, the status is that of its play.
+/// The same, with the names of the script that was given for them. Where that can't be played, the status is that of
+/// its play.
 pub(crate) fn do_request<R: Threads + Wait + Sync + Files + Eprint, S: Source + Drop, K: Sink>(
     rt: &R,
     alloc: Global,

@@ -1,4 +1,5 @@
-//! The commands and the options of the program, in one table. Help, errors, completions and the manual page are made from it.
+//! The commands and the options of the program, in one table. Help, errors, completions and the manual page are made
+//! from it.
 
 use clap::{Arg, ArgAction, Command, value_parser};
 use std::alloc::{AllocError, Global};
@@ -157,7 +158,7 @@ fn lint<'a>(alloc: Global) -> Result<Command<'a>, AllocError> {
         .arg(file(alloc, SCRIPT))
 }
 
-/// The lines that a service reads, by their words.
+/// The lines that a service reads, in words.
 pub(crate) fn lines_of(service: &str) -> Option<&'static str> {
     match service {
         "ledger" => Some(LEDGER_LINES),

@@ -1,4 +1,4 @@
-//! What is said on standard error of how a task ended, beside what its call writes. Nothing of it is proved.
+//! What is printed on standard error of how a task ended, besides what its call writes. Nothing of it is proved.
 
 use crate::doing::Done;
 use channel_values::ByteFault;

@@ -234,7 +234,7 @@ module _ (from to : Dest) (asset a : ℕ) where
     record { each = each_fits os h.1.each h.1.rising enough; rising = stays_apart is_unordered (moved_asset from to asset a) same_order os h.1.rising },
   )
 
--- ---- what is made fails for want of memory alone
+-- ---- what is made fails only when memory runs out
 
 pub first_within : (x : Item) (xs : List Item) → total (x ∷ xs) < 2 ^ 64 → x.amount < 2 ^ 64
 first_within x xs h = let more : total (x ∷ xs) ≡ x.amount + total xs = sum_by-cons (λ (item : Item). item.amount) x xs in omega arith

@@ -1,4 +1,4 @@
--- What tests and lines of a table tell.
+-- What tests and lines of a table mean.
 use Rattle.std.proofs.Common.{◌≡◌, Bool, true, false, refl}
 use Rattle.std.specs.Prelude.{Option, Some, None, not, ◌&&◌, ◌||◌}
 use Rattle.channel_values.specs.Words.{fault_if, ◌⊳◌}

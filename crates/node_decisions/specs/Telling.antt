@@ -11,7 +11,7 @@ use Rattle.channel_node.specs.Minds.{Mind, facts_of}
 use Rattle.channel_node.specs.Refusing.{has_left, stage_of}
 use Rattle.channel_node.specs.Tables.{Tables}
 
--- noting answers want of memory only where it does more than check
+-- noting answers that memory ran out only where it does more than check
 abbrev pub told : NoteFault → NodeRefusal
 told faults.Unknown = UnknownChannel
 told (faults.NotNext turn) = NotNext turn

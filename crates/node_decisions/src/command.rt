@@ -39,7 +39,8 @@ fn refusal_of(
     }
 }
 
-/// Why a command is refused, with a key that signs `limit` times and has signed `used` times. One that isn't can be taken up.
+/// Why a command is refused, with a key that signs `limit` times and has signed `used` times. One that isn't can be
+/// taken up.
 #[tactic(auto, using(crate::proofs::Taken::accepted_fits))]
 pub fn command_refusal(
     known: &Known,

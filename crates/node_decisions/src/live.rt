@@ -76,7 +76,7 @@ pub fn not_open(facts: &Facts) -> Option<NodeRefusal>
     not_open_parts(facts, facts.plan.parts.as_slice())
 }
 
-/// The line that nothing more is signed or taken once the node left.
+/// The refusal once the node left: nothing more is signed or taken.
 pub fn has_left(known: &Known) -> Option<NodeRefusal>
     ensures { result ≡ refusing.has_left known.now }
 {

@@ -21,7 +21,7 @@ use funding_plans::Facts;
 use node_knowledge::Known;
 use stage_tables::{accepts, asked_in};
 
-/// The refusal of a state that isn't noted. A check wants no memory.
+/// The refusal of a state that isn't noted. A check needs no memory.
 fn told(fault: NoteFault) -> NodeRefusal
     ensures { result ≡ telling.told fault }
 {

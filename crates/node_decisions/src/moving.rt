@@ -141,7 +141,7 @@ impl Payment {
         }
     }
 
-    /// The assets of an outcome after the payment. Where the amount is there, only memory can be wanting.
+    /// The assets of an outcome after the payment. Where the amount is there, it fails only when memory runs out.
     fn assets(
         &self,
         alloc: Global,
@@ -181,7 +181,8 @@ fn valid_of(outcome: Option<&Outcome>)
     }
 }
 
-/// The state of a turn that pays. Where the turn fits a state and the amount is there, only memory can be wanting.
+/// The state of a turn that pays. Where the turn fits a state and the amount is there, it fails only when memory runs
+/// out.
 #[tactic(auto, using(crate::proofs::Moved::assets_are_within, crate::proofs::Moved::outcome_is_made, crate::proofs::Moved::state_is_made))]
 pub fn state_of(
     alloc: Global,

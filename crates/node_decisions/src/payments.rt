@@ -80,8 +80,8 @@ fn payment_of(k: &Kept, asset: u32, amount: u64) -> Payment
     }
 }
 
-/// The next state, with the amount paid to the other. Where the turn fits a state and the amount is there, only memory can be
-/// wanting.
+/// The next state, with the amount paid to the other. Where the turn fits a state and the amount is there, it fails
+/// only when memory runs out.
 fn paid_state(
     known: &Known,
     channel: &Name,

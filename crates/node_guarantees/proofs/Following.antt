@@ -1,5 +1,5 @@
--- Entries that come next are followed one by one; and a look of a watcher that stands for a front of the history is one of the
--- node's.
+-- Entries that come next are followed one by one; and a look of a watcher that stands for a front of the history is
+-- one of the node's.
 use Rattle.std.proofs.Common.{◌≡◌, suc, ◌+◌, ◌≤◌, false, List, [], ◌∷◌, ◌++◌, length, reverse, sym, ◌∙◌, ap, subst, arith, length-append}
 use Rattle.std.proofs.lemmas.List.{length-reverse}
 use Rattle.std.specs.List.{flat_map}

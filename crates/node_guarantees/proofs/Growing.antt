@@ -40,8 +40,8 @@ use Rattle.node_guarantees.proofs.Keeping.{KeepsChannel, AllKeep, all-names, all
 abbrev pub channels_told : List ℕ → List Told → List FixedParts
 channels_told key front = places.channels (lines_of key front)
 
--- The parts are those that the commands opened; each channel is kept in the order of the openings, the names are apart, and
--- a state was signed only of these.
+-- The parts are those that the commands opened; each channel is kept in the order of the openings, the names are
+-- apart, and a state was signed only of these.
 pub record Grown (r : Rules) (key : List ℕ) (front : List Told) (own : List ℕ) (parts : List Part) (kept : List Kept) : Type 0 where
   pub mine : own ≡ key
   pub opened : parts ≡ parts_told r key front

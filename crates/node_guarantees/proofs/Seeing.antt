@@ -1,4 +1,4 @@
--- What a view and a store tell of each channel is what its place has, so they tell the share.
+-- What a view and a store say of each channel is what its place has, so they determine the share.
 use Rattle.std.proofs.Common.{◌≡◌, ℕ, Bool, true, false, cond, List, [], ◌∷◌, ◌++◌, refl, sym, ◌∙◌, ap}
 use Rattle.std.specs.Prelude.{Option, Some, None}
 use Rattle.std.specs.List.{flat_map}

@@ -1,4 +1,4 @@
--- What a node knows is what a view and a store tell at its place, so it determines the share.
+-- What a node knows is what a view and a store say at its place, so it determines the share.
 use Rattle.std.proofs.Common.{◌≡◌, ℕ, ◌≤◌, false, List, [], ◌∷◌, ◌++◌, inl, inr, length, refl, sym, ◌∙◌, ap, subst, arith}
 use Rattle.std.specs.Prelude.{Option, Some, None}
 use Rattle.channel_values.specs.Parts.{FixedParts}

@@ -11,7 +11,8 @@ use Rattle.channel_safety.specs.Journals.{In}
 use Rattle.channel_node.specs.Places.{Told}
 use Rattle.support_rules.specs.Real.{real}
 
--- A challenge that was signed: how many entries had been seen, its channel, its state and its challenger, and the signature.
+-- A challenge that was signed: how many entries had been seen, its channel, its state and its challenger, and the
+-- signature.
 pub record MadeChallenge : Type 0 where
   pub seen : ℕ
   pub channel : List ℕ
@@ -31,8 +32,8 @@ just_made [] = []
 just_made (x ∷ front) = made_then x.seen x.deed (just_made front)
 
 module _ (key : List ℕ) where
-  -- One of these was made, when so many entries had been seen, for the newest state of the chain in its own channel, at the
-  -- place there that is the key's, with the signature that is called with.
+  -- One of these was made, when so many entries had been seen, for the newest state of the chain in its own channel.
+  -- It was made at the key's place there, with the signature of the call.
   pub record IsMadeBy (made : List MadeChallenge) (seen : ℕ) (k : ChallengeCall) : Type 0 where
     pub it : MadeChallenge
     pub there : In it made
@@ -51,8 +52,8 @@ module _ (key : List ℕ) where
   IsOwnDeed made seen (deeds.Called call) = IsOwnCall made seen call
   IsOwnDeed made seen _ = Unit {0}
 
-  -- Each challenge that the person with this key calls was signed right before, with nothing but calls and other challenges
-  -- between, as itself. Events stand newest first.
+  -- Each challenge that the person with this key calls was signed right before, with nothing but calls and other
+  -- challenges between, as itself. Events stand newest first.
   abbrev pub CallsOwnChallenges : List Told → Type 0
   CallsOwnChallenges [] = Unit {0}
   CallsOwnChallenges (x ∷ front) = IsOwnDeed (just_made front) x.seen x.deed × CallsOwnChallenges front

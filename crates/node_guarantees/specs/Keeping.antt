@@ -10,8 +10,8 @@ use Rattle.share_laws.specs.Lines.{SignNothing}
 use Rattle.channel_exits.specs.Calls.{exit_calls}
 use Rattle.channel_exits.specs.Endings.{ended, AreFinal, Stand}
 
--- The person is paid at least the share that it had at a place after which it signed no state until its channels were final,
--- once the calls of its exit stand after that, whatever others enter between.
+-- The person is paid at least the share that it had at a place after which it signed no state until its channels were
+-- final. That is so once the calls of its exit stand after that, whatever others enter between.
 abbrev pub LeaversArePaid : (me : List ℕ) → (orders : ℕ → Order) → List Entry → List Line → Type 0
 LeaversArePaid me orders h journal =
     (past mid later : List Entry) (front newer : List Line) → IsPlace h journal past front

@@ -22,8 +22,8 @@ use Rattle.node_guarantees.specs.Telling.{KeepsIf}
 abbrev pub NoIndexSignsTwice : Type 0
 NoIndexSignsTwice = (h : List Entry) (key : List ℕ) (events : List Told) → IsByRules h key events → SignsOnce real events
 
--- after any happenings, in any order, each person with a node keeps its share, is paid on its exit, signs fairly and ends well,
--- where its premises hold
+-- after any happenings, in any order, each person with a node keeps its share, is paid on its exit, signs fairly and
+-- ends well, where its premises hold
 abbrev pub NobodyLowersAShare : {P : Type 0} → Ways P → (stands : List Entry → P → Type 0) → (told : P → List Told) → Type 0
 NobodyLowersAShare {P} ways stands told =
     (events : List Happening) (w : WorldOf P) → IsWorld stands w → (m : MemberOf P) → In m (after ways events w).members
@@ -58,8 +58,8 @@ module _ {P : Type 0} (ways : Ways P) (told : P → List Told) where
     pub there : In who w.members
     pub signed : HasSigned ways told key made who.node
 
-  -- of what happens, each message that is sent for it spells a state that somebody's journal has signed then, where memory
-  -- failed no node
+  -- of what happens, each message that is sent for it spells a state that somebody's journal has signed then, where
+  -- memory failed no node
   abbrev pub EveryMessageIsSigned : (lost : P → Bool) → Type 0
   EveryMessageIsSigned lost =
       (event : Happening) (w : WorldOf P) → ((m : MemberOf P) → In m w.members → lost m.node ≡ false)

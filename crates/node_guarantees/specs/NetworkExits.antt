@@ -16,8 +16,8 @@ use Rattle.channel_exits.specs.Endings.{ended, AreFinal, Stand}
 use Rattle.channel_exits.specs.Fair.{LeavesFairly}
 use Rattle.node_guarantees.specs.Keeping.{LeaversArePaid}
 
--- An honest participant that leaves fairly is paid at least its share at a place where its channels are final, once the
--- calls of its exit stand after it, whatever others enter between.
+-- An honest participant that leaves fairly is paid at least its share at a place where its channels are final. That
+-- is so once the calls of its exit stand after it, whatever others enter between.
 abbrev pub NetworkExitsPay : List Entry → List Line → Type 0
 NetworkExitsPay h journal =
     (key : List ℕ) (orders : ℕ → Order) → Legal real h

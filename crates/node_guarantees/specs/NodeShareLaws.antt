@@ -19,7 +19,7 @@ use Rattle.channel_node.specs.Nodes.{NodeOf, told_of}
 use Rattle.channel_node.specs.Standing.{Stands}
 use Rattle.node_guarantees.specs.Orders.{orders_of}
 
--- It has this key, the parts that the journal's commands opened, a view that stands for these entries; and it says
+-- It has this key, the parts that the journal's commands opened, and a view that stands for these entries. It says
 -- which channels count after the entries and events, the share in each asset, and whether the plan is funded. The
 -- orders are those of the whole journal.
 pub record KnowsShare (r : Rules) (key : List ℕ) (journal : List Told) (past : List Entry) (front : List Told) (m : Mind) : Type 0 where

@@ -33,8 +33,8 @@ AreCounted (x ∷ before) = (index_of x.bytes ≡ length before) × AreCounted b
 abbrev pub NoIndexTwice : List Signature → Type 0
 NoIndexTwice made = (x y : Signature) → In x made → In y made → index_of x.bytes ≡ index_of y.bytes → x ≡ y
 
--- Of the journal's signatures each carries the index that comes next, so no index signs two messages. Events stand newest
--- first.
+-- Of the journal's signatures each carries the index that comes next, so no index signs two messages. Events stand
+-- newest first.
 pub record SignsOnce (r : Rules) (events : List Told) : Type 0 where
   pub counted : AreCounted (signed_by r events)
   pub once : NoIndexTwice (signed_by r events)

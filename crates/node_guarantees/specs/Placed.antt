@@ -17,8 +17,8 @@ abbrev pub seen_at : List Told → ℕ
 seen_at [] = 0
 seen_at (x ∷ front) = x.seen
 
--- These shares are those that a node with this key knew at a place: after the entries `past`, as many as it had followed, and
--- these events.
+-- These shares are those that a node with this key knew at a place: after the entries `past`, as many as it had
+-- followed, and these events.
 pub record IsKnownAt (h : List Entry) (key : List ℕ) (amounts : List (ℕ × ℕ)) (front : List Told) : Type 0 where
   pub later : List Entry
   pub past : List Entry
@@ -32,8 +32,8 @@ IsNoted h key None None = Unit {0}
 IsNoted h key (Some amounts) (Some front) = IsKnownAt h key amounts front
 IsNoted h key _ _ = ⊥
 
--- It has followed no more than there is; and where no channel of the history has more people than values have, it stands for the
--- history, with a signer whose signatures verify, and, unless memory failed it, what it noted is right.
+-- It has followed no more than there is. Where no channel of the history has more people than values have, it stands
+-- for the history, with a signer whose signatures verify. Unless memory failed it, what it noted is right.
 pub record IsPlaced (h : List Entry) (p : Numbered) : Type 0 where
   pub sound : FitsSigner p.node.signer
   pub within : seen_of p.node ≤ length h

@@ -57,11 +57,11 @@ module _ (h : List Entry) (key : List ℕ) (events : List Told) where
 
   -- ---- honest
 
-  -- The journal is one of the network's own node, event for event: its key is the one of a seed, an identifier and a height,
-  -- and its signatures are those of this seed, which verify and take one index after another; each state, refusal, call and
-  -- look is the one that the node's rules and tables give at its place. No state is signed after an exit that was accepted,
-  -- and no challenge before one; and a state that no payment made is signed only while every channel is open of each part
-  -- that isn't closed.
+  -- The journal is one of the network's own node, event for event. Its key is the one of a seed, an identifier and a
+  -- height. Its signatures are those of this seed, which verify and take one index after another. Each state,
+  -- refusal, call and look is the one that the node's rules and tables give at its place. No state is signed after an
+  -- exit that was accepted, and no challenge before one. A state that no payment made is signed only while every
+  -- channel of each part that isn't closed is open.
   pub record IsByRules : Type 0 where
     pub signer : SignerOf
     pub fits : FitsSigner signer
@@ -92,8 +92,8 @@ module _ (h : List Entry) (key : List ℕ) (events : List Told) where
 
   -- ---- its share
 
-  -- a state that the person signs lowers its share by no more than the payment that was commanded right before, or, where none
-  -- was and its plan is funded, not at all
+  -- a state that the person signs lowers its share by no more than the payment that was commanded right before; where
+  -- none was and its plan is funded, not at all
   abbrev pub SignsFairly : Type 0
   SignsFairly = SignaturesAreFair real (name_of_person key) orders h lines
 
@@ -101,8 +101,8 @@ module _ (h : List Entry) (key : List ℕ) (events : List Told) where
   abbrev pub KeepsShare : Type 0
   KeepsShare = KeepsItsShare (name_of_person key) orders h lines
 
-  -- What it could get just after it was commanded to exit is paid to it, once its channels that count are final and the calls
-  -- of its exit stand after that, whatever others enter between.
+  -- What it could get just after it was commanded to exit is paid to it, whatever others enter between. That is so
+  -- once its channels that count are final and the calls of its exit stand after that.
   abbrev pub IsPaidOnExit : Type 0
   IsPaidOnExit =
       (front : List Told) → until_exit events ≡ Some front

@@ -1,4 +1,4 @@
--- What nodes tell of their journals and shares, and keep of what is promised of their people.
+-- What nodes say of their journals and shares, and keep of what is promised to their people.
 use Rattle.std.specs.Prelude.{◌≡◌, ◌==◌, ◌++◌, ℕ, Bool, false, List, [], ◌∷◌, length, flat_map, Option, Some, None, if◌then◌else◌}
 use Rattle.std.specs.List.{AllByRecursion}
 use Rattle.channel_values.specs.Parts.{IsFixed}
@@ -45,7 +45,7 @@ LinesAreTold {P} ways told = (p : P) → ways.lines p ≡ lines_of (ways.key p) 
 abbrev pub IsToldBy : {P : Type 0} → Ways P → (told : P → List Told) → (ℕ → Option Command) → P → Type 0
 IsToldBy ways told commands p = told p ≡ told_by commands (ways.journal p)
 
--- so of each node that is told the commands of the steps
+-- so of each node that is given the commands of the steps
 abbrev pub TellsCommands : {P : Type 0} → Ways P → (told : P → List Told) → Type 0
 TellsCommands {P} ways told = (commands : ℕ → Option Command) → FollowCommands ways commands (IsToldBy ways told commands)
 
@@ -85,8 +85,8 @@ ExitsAreReal {P} ways stands lost exits told =
     (h : List Entry) (p : P) → Legal real h → AllByRecursion IsValidEntry h → stands h p → lost p ≡ false
     → AreThose (share_after h (ways.key p) (told p)) (exits p) (until_exit (told p))
 
--- What a node knows, where memory didn't fail it and it followed the whole history, is what is known at the end by the history,
--- whose entries are in the order of time, and its own journal.
+-- What a node knows, where memory didn't fail it and it followed the whole history, is what is known at the end by
+-- the history and its own journal. The entries are in the order of time.
 abbrev pub FactsAreReal : {P : Type 0} → Ways P → (stands : List Entry → P → Type 0) → (lost : P → Bool) → (facts : P → FactsOf) → (told : P → List Told) → Type 0
 FactsAreReal {P} ways stands lost facts told =
     (history : List Entry) (p : P) → Legal real (newest_first history) → AllByRecursion IsValidEntry (newest_first history) → stands (newest_first history) p
@@ -99,8 +99,9 @@ abbrev pub JournalsAreByRules : {P : Type 0} → Ways P → (stands : List Entry
 JournalsAreByRules {P} ways stands told =
     (h : List Entry) (p : P) → Legal real h → AllByRecursion IsValidEntry h → stands h p → IsByRules h (ways.key p) (told p)
 
--- What a person keeps where nothing is forged and no hashed strings collide, those of its key and of the fixed parts that its
--- accepted commands name among them, and how it ends then; and what it keeps where moreover its watchers are in time.
+-- What a person keeps, and how it ends, where nothing is forged and no hashed strings collide. Among these are those
+-- of its key and of the fixed parts that its accepted commands name. Also what it keeps where its watchers are in
+-- time as well.
 pub record KeepsIf (h : List Entry) (key : List ℕ) (events : List Told) : Type 0 where
   pub fair :
       AreValid h (lines_of key events) → Unforged real key h (lines_of key events)

@@ -1,4 +1,4 @@
--- A view that stands for a history, and a store that keeps what is held, tell the share at a place.
+-- A view that stands for a history, and a store that keeps what is held, determine the share at a place.
 use Rattle.std.specs.Prelude.{◌≡◌, ℕ, List, [], ◌∷◌, Some}
 use Rattle.std.specs.List.{flat_map}
 use Rattle.std.specs.Option.{option_map}

@@ -22,7 +22,7 @@ pub record Numbered : Type 0 where
   pub node : NodeOf
   pub exits : Option (List (ℕ × ℕ))
 
--- of what a signer is made, however often it has signed
+-- what a signer is made of, however often it has signed
 abbrev pub made_of : Signing → SignerOf
 made_of s = record { seed = s.seed; id = s.id; h = s.h }
 

@@ -1,7 +1,7 @@
-//! An honest participant's exit pays its share.
-//! Over model lists, the newest first, whose parts carry no types, so that they are valid is a premise; and over histories
-//! and journals of values, in the order of time, where `adds` says which fixed parts the command of each event adds to the
-//! plan, by the number of events before it.
+//! An honest participant's exit pays its share. The laws are over model lists, the newest first. Their parts carry no
+//! types, so that they are valid is a premise. They are also over histories and journals of values, in the order of
+//! time. There `adds` says which fixed parts the command of each event adds to the plan, by the number of events
+//! before it.
 
 ghost use Rattle.std.specs.Prelude.{List, ℕ};
 ghost use Rattle.call_history.specs.declared.entry.Entry.{Entry};
@@ -26,7 +26,7 @@ pub fn leavers_of_models_are_paid()
 {}
 
 /// An honest participant that plans and leaves fairly is paid at least its share once its channels are final and the
-/// calls of its exit stand, with watchers in time, nothing forged and no collision among the strings that are hashed.
+/// calls of its exit stand. Its watchers are in time, nothing is forged, and no strings that are hashed collide.
 pub fn network_exits_pay(history: &[Entry], journal: &[Event])
     ensures { (adds : ℕ → List FixedParts) → AddsFixed adds
         → NetworkExitsPay (newest_first history.now) (newest_lines journal.now adds) }

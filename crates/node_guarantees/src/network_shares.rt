@@ -1,7 +1,7 @@
-//! Nobody lowers the share of an honest participant.
-//! Over model lists, the newest first, whose parts carry no types, so that they are valid is a premise; and over histories
-//! and journals of values, in the order of time, where `adds` says which fixed parts the command of each event adds to the
-//! plan, by the number of events before it.
+//! Nobody lowers the share of an honest participant. The laws are over model lists, the newest first. Their parts
+//! carry no types, so that they are valid is a premise. They are also over histories and journals of values, in the
+//! order of time. There `adds` says which fixed parts the command of each event adds to the plan, by the number of
+//! events before it.
 
 ghost use Rattle.std.specs.Prelude.{List, ℕ};
 ghost use Rattle.call_history.specs.declared.entry.Entry.{Entry};
@@ -26,8 +26,8 @@ pub fn shares_of_models_are_kept()
     ensures { (h : List Entry) (journal : List Line) → AreValid h journal → NetworkSharesAreKept h journal }
 {}
 
-/// Nobody lowers the share of an honest participant that plans fairly, and its own signatures only as far as they may,
-/// with watchers in time, nothing forged and no collision among the strings that are hashed.
+/// Nobody lowers the share of an honest participant that plans fairly, and its own signatures only as far as they
+/// may. Its watchers are in time, nothing is forged, and no strings that are hashed collide.
 pub fn network_shares_are_kept(history: &[Entry], journal: &[Event])
     ensures { (adds : ℕ → List FixedParts) → AddsFixed adds
         → NetworkSharesAreKept (newest_first history.now) (newest_lines journal.now adds) }

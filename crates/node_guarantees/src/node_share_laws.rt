@@ -2,8 +2,8 @@
 
 ghost use Rattle.node_guarantees.specs.NodeShareLaws.{NodesTellShares, PlacesTellShares, UnheldIsNothing};
 
-/// At each place of a legal history and of a journal that a node's rules give, what it knows there says which channels
-/// count, the share of its person in each asset, and whether the plan is funded.
+/// At each place of a legal history and of a journal that a node's rules give, what it knows there determines three
+/// things. They are which channels count, the share of its person in each asset, and whether the plan is funded.
 pub fn places_tell_shares()
     ensures { PlacesTellShares }
 {}

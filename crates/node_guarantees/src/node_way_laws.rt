@@ -4,7 +4,8 @@
 ghost use Rattle.node_guarantees.specs.Commanded.{NodesFollowCommands};
 ghost use Rattle.node_guarantees.specs.WayLaws.{NodesAreKept};
 
-/// Whatever a node is told, handed or shown of a legal history, it stands for that history, and its journal is honest.
+/// Whatever a node is commanded, handed or shown of a legal history, it stands for that history, and its journal is
+/// honest.
 pub fn nodes_are_kept()
     ensures { NodesAreKept }
 {}

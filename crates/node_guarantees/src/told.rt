@@ -1,4 +1,4 @@
-//! A node whose journal can be told.
+//! A node whose journal can be reported.
 
 ghost use Rattle.std.specs.Prelude.{◌≡◌, ℕ, List, Option, IfOk, reverse};
 ghost use Rattle.std.specs.Option.{option_map};
@@ -83,7 +83,7 @@ pub trait ReportedNode: Party {
     // Each event is what the rules and tables of the network's node give.
     ghost plays: { JournalsAreByRules Self.ways Self.stands reported };
 
-    // Its own signatures are fair, a checker finds no fault in how it ended, nobody lowers the share of its person, and it can
-    // leave with it, where its premises hold.
+    // Where its premises hold, its own signatures are fair, and a checker finds no fault in how it ended. Nobody
+    // lowers the share of its person, and it can leave with it.
     ghost holds: { KeepsShares Self.ways Self.stands reported };
 }

@@ -1,4 +1,4 @@
--- With what is challenged in a channel, by what the rules read.
+-- What is challenged with in a channel, by what the rules read.
 use Rattle.std.specs.Prelude.{ℕ, ◌&&◌, List, Option, Some, None, if◌then◌else◌}
 use Rattle.channel_values.specs.Rules.{newest}
 use Rattle.channel_store.specs.Keeping.{is_held}

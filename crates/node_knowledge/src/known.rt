@@ -38,7 +38,8 @@ use network::{Command, LedgerFunding, Release, VirtualFunding};
 use std::alloc::Global;
 use std::marker::Model;
 
-/// A node's key, what it opened and what was commanded of that, its view of the history, and its store; and whether it left.
+/// A node's key, what it opened and what was commanded of that, its view of the history, and its store; and whether
+/// it left.
 #[derive(Drop)]
 pub struct Known {
     key: Key,
@@ -351,7 +352,7 @@ impl Known {
         is_over(&self.facts())
     }
 
-    /// With what it challenges in a channel: once it left, with the chain that it holds of a channel that is open.
+    /// What it challenges with in a channel: once it left, the chain that it holds of a channel that is open.
     pub fn challenge(&self, channel: &Name) -> Option<Challenger<'_>>
         ensures { result ≡ challenge_in self.now channel.now }
     {
@@ -372,7 +373,7 @@ impl Known {
         Ok(names)
     }
 
-    /// A signed state as messages for the channel's other people.
+    /// The messages with a signed state for the channel's other people.
     pub fn messages(
         &self,
         channel: &Name,

@@ -73,7 +73,7 @@ fn challenge_with(k: &Kept) -> Option<Challenger<'_>>
     }
 }
 
-/// With what is challenged in a channel that is kept, and else nothing.
+/// What is challenged with in a channel that is kept, and nothing in others.
 pub(crate) fn challenge_of<'a>(
     facts: &Facts,
     channel: &Name,

@@ -1,5 +1,5 @@
-//! What a node knows: its plan, its view of the history and its store, as entries come, states are noted and commands are
-//! taken up.
+//! What a node knows: its plan, its view of the history and its store, as entries come, states are noted and commands
+//! are taken up.
 #![tactic(auto)]
 
 mod closing;

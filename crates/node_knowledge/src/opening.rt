@@ -78,7 +78,7 @@ pub(crate) fn join(store: &mut Store, key: &Key, fixed: &Fixed) -> Result<(), No
     join_store(store, key, fixed)
 }
 
-/// Adds those of the four channels of which the key is one.
+/// Adds those of the four channels that have the key.
 pub(crate) fn join_virtual(
     store: &mut Store,
     key: &Key,
@@ -163,8 +163,8 @@ fn virtual_of(key: &Key, funding: &VirtualFunding) -> Virtual
     }
 }
 
-/// The part of a virtual channel: an end where the key is one of the payment channel's, else the intermediary's. It is the
-/// same by each route.
+/// The part of a virtual channel: an end where the key is one of the payment channel's, else the intermediary's. It
+/// is the same by each route.
 pub(crate) fn part_of_virtual(key: &Key, funding: &VirtualFunding) -> Part
     requires { funding.now.amounts.0 + funding.now.amounts.1 < 2 ^ 64 }
     ensures { openings.parts_of real key.now (OpenVirtual funding.now) ≡ result ∷ [] }

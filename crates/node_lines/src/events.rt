@@ -31,7 +31,7 @@ pub enum NodeEvent {
     /// These bytes came from another participant.
     Message(Listed<u8>),
     Command(Command),
-    /// Time for what waits.
+    /// A tick: time for what waits.
     Tick,
     /// A call won't be entered.
     Dropped(CallNumber),

@@ -15,7 +15,7 @@ pub enum Invalid {
     Shape,
     /// A number, a channel or an outcome breaks a limit.
     Limit,
-    /// Digits aren't lower-case pairs, not as many as are wanted, or not the canonical bytes of anything.
+    /// Digits aren't lower-case pairs, not as many as are needed, or not the canonical bytes of anything.
     Bytes,
 }
 

@@ -1,5 +1,5 @@
-//! The first person's node, told and shown one thing after the other. The second has no node: its messages are signed by
-//! the tests.
+//! The first person's node, which is commanded and shown one thing after the other. The second has no node: its
+//! messages are signed by the tests.
 
 use crate::messages::{
     Brought, People, amounts, channel_of, fixed_of, key_of, message_of, open, outcome_of, state_of,

@@ -1,4 +1,4 @@
-//! What a person's node answers, step by step, and what a node signs that knows little.
+//! What a person's node answers, step by step, and what a node with little knowledge signs.
 #![tactic(auto)]
 
 #[cfg(test)]

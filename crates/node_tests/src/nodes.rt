@@ -94,8 +94,8 @@ const TOO_LATE: [(Step, Said); 5] = [
     (Step::Tick, Said::Deposits(0, 5)),
 ];
 
-/// The second challenges with the newest state and stays away. The first lets go once the channel is final, and calls for
-/// its item until it is paid.
+/// The second challenges with the newest state and stays away. The first lets go once the channel is final, and calls
+/// for its item until it is paid.
 const SETTLED: [(Step, Said); 14] = [
     (ABANDON, Said::No(NodeRefusal::NotWanted(3))),
     (Step::Pay(2), Said::Sends(4, 3, 5)),
@@ -194,8 +194,8 @@ fn a_final_channel_is_let_go(rt: HostRuntime) -> Result<(), Fail> {
     Ok(())
 }
 
-/// A new node: what it says of no bytes, whether it does nothing, how many entries it saw, and how many lines it has in its
-/// journal then.
+/// A new node: what it says of no bytes, whether it does nothing, how many entries it saw, and how many lines it has
+/// in its journal then.
 fn new_node(alloc: Global, number: u8) -> Result<(Option<NodeFault>, bool, u32, usize), Fail> {
     let mut node = node_of(alloc, number)?;
     let fault = node.handle(&[]).err();
@@ -254,7 +254,7 @@ fn sizes(node: &Node) -> (usize, usize, usize) {
     (parts, node.chains().len(), node.known().len())
 }
 
-/// Whether the node refuses each front of these bytes as no message.
+/// Whether the node refuses each prefix of these bytes as no message.
 fn refuses_fronts(node: &mut Node, bytes: &[u8]) -> bool {
     for length in 0..bytes.len() {
         if node.handle(&bytes[..length]).err() != BROKEN {
@@ -275,8 +275,8 @@ fn broken(node: &mut Node, mut message: Vec<u8>) -> Result<[Option<NodeFault>; 2
     Ok([longer, forged])
 }
 
-/// Whether fronts of a message are refused, what is said of the two broken ones, whether the node knows what it knew, whether
-/// its journal has a line more for each, and what is said of the message then.
+/// Whether prefixes of a message are refused, and what is said of the two broken ones. Whether the node knows what it
+/// knew, whether its journal has a line more for each, and what is said of the message then.
 fn broken_messages(
     alloc: Global,
 ) -> Result<(bool, [Option<NodeFault>; 2], bool, bool, Option<NodeFault>), Fail> {

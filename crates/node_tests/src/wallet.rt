@@ -20,7 +20,7 @@ const DURATION: u32 = 2;
 /// A message, with the person it is for.
 pub(crate) type Letter = (Name, Listed<u8>);
 
-/// What came of what a wallet was told.
+/// The result of what a wallet was told.
 #[derive(Clone, Copy, Debug, PartialEq, Eq)]
 pub(crate) enum Told {
     Done,

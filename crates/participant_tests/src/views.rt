@@ -8,7 +8,7 @@ use std::alloc::{AllocGlobal, Global};
 use std::process::Abort;
 use std::test::Fail;
 
-/// A channel's turn, its deadline, how many states are shown, the turn of the last one and how many are marked, and
+/// A channel's turn, its deadline, how many states are shown, the turn of the last one and how many are marked. Also
 /// what the two people have of asset 0 in the outcome and in the rest.
 type Row = (
     u64,

@@ -13,7 +13,7 @@ type Row = (u64, Act, Reply, &'static [(u64, u64)]);
 
 const SIXTH: &[(u64, u64)] = &[(1, 6)];
 
-/// What one holds who has the states of a channel from one turn to another.
+/// What a participant holds that has the states of a channel from one turn to another.
 fn held_of(alloc: Global, nonce: u64, first: u64, last: u64) -> Result<HeldChain, Fail> {
     let pair = pair_of(alloc, nonce);
     let channel = pair.channel()?;
@@ -59,7 +59,7 @@ fn answers(
     Ok(are_checkpoints(&calls, wanted))
 }
 
-/// One who holds these chains answers each entry as its row says.
+/// A watcher with these chains answers each entry as its row says.
 fn all_are_answered(
     rt: &(impl AllocGlobal + Abort),
     held: &[HeldChain],

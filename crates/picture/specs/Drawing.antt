@@ -1,4 +1,4 @@
--- What a drawing comes to.
+-- How a drawing ends.
 use Rattle.std.specs.Prelude.{◌≡◌, ◌≤◌, ◌<◌, ◌==◌, ℕ, List, [], ◌∷◌, length, Bool, true, false, Option, IsOk, Err, codes, ⊤}
 use Rattle.std.specs.Str.{bytes_eq}
 use Rattle.byte_streams.specs.OutsideSource.{Rose}

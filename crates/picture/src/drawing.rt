@@ -37,9 +37,9 @@ pub enum Status {
 #[derive(Clone, Copy, Debug, PartialEq, Eq)]
 pub enum Undrawn {
     NoMemory,
-    /// Those of a text.
+    /// Faults of a text.
     Line(LineFault),
-    /// Those of a record.
+    /// Faults of a record.
     Byte(ByteFault),
 }
 

@@ -1,4 +1,5 @@
--- What the books of an asset are read from, the reaches that are kept of a plan's channels, and the choices that are tried.
+-- What the books of an asset are read from, the reaches that are kept of a plan's channels, and the choices that are
+-- tried.
 use Rattle.std.specs.Prelude.{ℕ, ◌==◌, Bool, true, false, not, ◌&&◌, List, [], ◌∷◌, Option, Some, None, if◌then◌else◌}
 use Rattle.std.specs.Cmp.Lexicographic.{pointwise}
 use Rattle.channel_values.specs.Outcomes.{is_same}
@@ -65,7 +66,7 @@ differing asset [] = []
 differing asset (x ∷ xs) =
     if differs asset x.outcome x.proposal then x.channel ∷ differing asset xs else differing asset xs
 
--- the worth of a plan where these proposals are taken, and the least over the choices of these channels besides
+-- the worth of a plan where these proposals are taken, and the least over the choices of these channels too
 abbrev pub worth_at : Plan → Pages → List (List ℕ) → ℕ
 worth_at own p taken = worth_under own.me own.parts (held_seen p.view p.asset) p.counting p.asset taken
 

@@ -1,4 +1,4 @@
-//! What items are for a destination.
+//! Which items are for a destination.
 
 ghost use Rattle.std.specs.Prelude.{◌≡◌, ◌≤◌, ◌<◌, ◌^◌};
 ghost use Rattle.std.specs.Cmp.Lexicographic.{pointwise};

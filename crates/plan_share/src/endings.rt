@@ -21,7 +21,8 @@ use history_view::view_of;
 use std::alloc::Global;
 use std::marker::Model;
 
-/// A channel that counts: the outcome that it can end with, and the one that is proposed in place of it, if there is one.
+/// A channel that counts: the outcome that it can end with, and the one that is proposed in place of it, if there is
+/// one.
 #[derive(Drop)]
 pub(crate) struct Ending<'a> {
     channel: Name,

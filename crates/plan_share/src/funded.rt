@@ -59,8 +59,8 @@ impl<'a> Page<'a> {
             && self.reaches_person(person, ledger, channel, self.child(rows, ledger, channel))
     }
 
-    /// An end's guarantor reaches as far as the joint channel's items for the channel and the person, where its ledger has
-    /// an item for it.
+    /// An end's guarantor reaches as far as the joint channel's items for the channel and the person, where its
+    /// ledger has an item for it.
     fn is_claim_funded(&self, person: &Name, v: &Virtual, reach: u64) -> bool
         ensures { result ≡ funded.if_so
             (has ((books_of self.now).items (own_ledger v.now)) (Channel (own_guarantor v.now)))
@@ -189,7 +189,7 @@ fn is_funded_in(
     is_funded_at_each(alloc, plan, &page, endings)
 }
 
-/// Whether it is funded in each asset of an outcome.
+/// Whether the plan is funded in each asset of an outcome.
 fn is_funded_through(
     alloc: Global,
     plan: &Plan,
@@ -210,7 +210,7 @@ fn is_funded_through(
     }
 }
 
-/// Whether it is funded in each asset of both outcomes of a channel.
+/// Whether the plan is funded in each asset of both outcomes of a channel.
 fn is_funded_with(
     alloc: Global,
     plan: &Plan,
@@ -226,7 +226,7 @@ fn is_funded_with(
     is_funded_through(alloc, plan, view, endings, ending.proposal())
 }
 
-/// And of each of these channels.
+/// And in each asset of each of these channels.
 fn is_funded_among(
     alloc: Global,
     plan: &Plan,

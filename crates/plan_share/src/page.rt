@@ -14,7 +14,7 @@ use funding_plans::{amt, items_in, list_in};
 use history_view::held_amount;
 use std::marker::Model;
 
-/// The books of an asset: what the view says is held, and what the channels that count end with where the proposals of
+/// The books of an asset: what the view says is held, and what the channels that count end with. The proposals of
 /// these channels are taken.
 #[derive(Drop)]
 pub(crate) struct Page<'a> {

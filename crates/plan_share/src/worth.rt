@@ -90,7 +90,7 @@ pub(crate) fn with_taken(
     Ok(more)
 }
 
-/// The parts of a plan, of which memory has room for so many.
+/// The parts of a plan, as many as memory has room for.
 fn parts_of(plan: &Plan) -> &[Part]
     ensures value { result.now ≡ plan.now.parts }
     ensures few { length result.now < 2 ^ 62 }

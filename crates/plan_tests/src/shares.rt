@@ -56,14 +56,15 @@ const WHOLE: Body = Body::Items(&[(TO_I, 94), (TO_B, 96), (TO_GUARANTOR_B, 10)])
 
 const SHORT: Body = Body::Items(&[(TO_I, 91), (TO_B, 96), (TO_GUARANTOR_B, 3)]);
 
-/// Whose plan it is, what each ledger holds, the outcome for which B's ledger votes in the middle of a set-up, or that
-/// the plan is a ledger with a channel on it, the share, whether the plan is funded, and whether a share is owed.
+/// The plan's owner, and what each ledger holds. The outcome for which B's ledger votes in the middle of a set-up, or
+/// that the plan is a ledger with a channel on it. The share, whether the plan is funded, and whether a share is
+/// owed.
 const SHARES: [(Name, u64, Option<Body>, u128, bool, bool); 6] = [
     (A, 10, None, 9, true, true),
     (B, 10, None, 5, true, true),
     (B, 7, None, 2, false, true),
     (A, 0, None, 4, false, false),
-    // An intermediary gets the least of both outcomes.
+    // An intermediary gets the lower of both outcomes.
     (I, 200, Some(WHOLE), 196, true, true),
     (I, 200, Some(SHORT), 190, false, true),
 ];

@@ -24,8 +24,8 @@ enum Asked {
     Toward,
 }
 
-/// What is asked, the parts of the plan, for which of them there is a goal and whether that is to close, and the seats
-/// beside that in the payment channel.
+/// What is asked, the parts of the plan, which of them have a goal and whether that is to close, and the other seats
+/// than that in the payment channel.
 type Setting = (
     Asked,
     &'static [Part],

@@ -1,4 +1,4 @@
--- A report of the parts of a scene is made of what its nodes tell.
+-- A report of the parts of a scene is made of what its nodes say.
 use Rattle.std.proofs.Common.{◌≡◌, ℕ, Bool, List, length, ◌∙◌, ap, subst}
 use Rattle.std.specs.Prelude.{Option, map, flat_map}
 use Rattle.std.specs.List.{AllByRecursion}

@@ -1,4 +1,4 @@
--- A report that is made of what the nodes of a play tell, describes the play and keeps its promises.
+-- A report that is made of what the nodes of a play say describes the play and keeps its promises.
 use Rattle.std.proofs.Common.{◌≡◌, ℕ, Bool, true, false, cond, List, [], ◌∷◌, ◌++◌, map, flat_map, length, reverse, filter, refl, sym, ◌∙◌, ap, subst, ◌⊎◌, inl, inr}
 use Rattle.std.specs.Prelude.{All, Option, Some, None}
 use Rattle.std.specs.List.{AllByRecursion}

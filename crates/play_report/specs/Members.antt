@@ -1,4 +1,4 @@
--- The report of a scene, by what its nodes tell.
+-- The report of a scene, by what its nodes say.
 use Rattle.std.specs.Prelude.{◌≡◌, ℕ, Bool, List, map, flat_map, length, Option}
 use Rattle.std.specs.List.{AllByRecursion}
 use Rattle.call_history.specs.History.{flows_of, newest_first}
@@ -32,7 +32,7 @@ pub record ArePartsOf {P : Type 0} (names : Names) (rounds : List ℕ) (history 
   pub history_is : newest_first history ≡ s.world.history
   pub members_are : members ≡ s.world.members
 
--- The report is made of what the nodes of the scene tell, and its values are such as their types promise.
+-- The report is made of what the nodes of the scene say, and its values are such as their types promise.
 pub record IsMade {P : Type 0} (ways : Ways P) (lost : P → Bool) (can_get : P → ℕ → ℕ) (got : P → Option (List (ℕ × ℕ))) (facts : P → FactsOf) (load : Option Load)
     (r : Report) (s : SceneOf P) : Type 0 where
   pub history : newest_first r.history ≡ s.world.history

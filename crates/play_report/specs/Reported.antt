@@ -31,7 +31,7 @@ use Rattle.node_guarantees.specs.Promised.{Pairwise, share_at_end, share_after, 
 
 -- ---- premises
 
--- What is told of the person with this journal: each premise holds exactly where its definition does, whatever the
+-- What is said of the person with this journal: each premise holds exactly where its definition does, whatever the
 -- commands of the journal add to the plan.
 pub record IsJudged (h : List Entry) (journals : List Journal) (j : Journal) (p : Judged) : Type 0 where
   pub person : p.person ≡ name_of_person j.key
@@ -64,12 +64,12 @@ module _ (commands : ℕ → Option Command) where
   abbrev pub events : Journal → List Told
   events j = told_by commands j.events
 
-  -- ---- what is told
+  -- ---- what is said
 
-  -- The report is that of a scene, with a note of the load that its script was made of, if it was. Each share is told of each
-  -- person with a node, in each asset that was deposited: by the definition, over the whole history and its journal; and each
-  -- exit, just after the first command to exit that was accepted. The endings say what each of them knew at the end, with these
-  -- shares; and the sums are those of the history's flows.
+  -- The report is that of a scene, with a note of the load that its script was made of, if it was. It has each share
+  -- of each person with a node, in each asset that was deposited, by the definition over the whole history and its
+  -- journal. It has each exit, just after the first command to exit that was accepted. The endings say what each of
+  -- them knew at the end, with these shares; and the sums are those of the history's flows.
   pub record Tells {P : Type 0} (ways : Ways P) (load : Option Load) (r : Report) (s : SceneOf P) : Type 0 where
     pub history : newest_first r.history ≡ s.world.history
     pub journals : r.journals ≡ map (journal_of ways) s.world.members
@@ -87,8 +87,8 @@ module _ (commands : ℕ → Option Command) where
   -- ---- what is promised
 
   module _ (r : Report) where
-    -- no two of the strings that are hashed for the history and the journals collide, nor do those of the fixed parts that the
-    -- accepted commands of this journal name
+    -- no two of the strings that are hashed for the history and the journals collide, nor do those of the fixed parts
+    -- that the accepted commands of this journal name
     abbrev pub NoCollision : Journal → Type 0
     NoCollision j = DistinctWith r.history r.journals (flat_map of_fixed (named_in (events j)))
 
@@ -96,16 +96,17 @@ module _ (commands : ℕ → Option Command) where
     abbrev pub NoneOpenedCollide : Journal → Type 0
     NoneOpenedCollide j = DistinctWith r.history r.journals (strings_opened (lines_of j.key (events j)))
 
-    -- Where nothing of the person is told to be forged, its watchers are told to have been in time, and none of these strings
-    -- collide, it stays safe.
+    -- Where nothing of the person is said to be forged, its watchers are said to have been in time, and none of these
+    -- strings collide, it stays safe.
     abbrev pub IsSafeIf : Journal → Judged → Type 0
     IsSafeIf j p = p.unforged ≡ true → p.in_time ≡ true → NoneOpenedCollide j → StaysSafe (newest_first r.history) j.key (events j)
 
-    -- Where nothing of the person is told to be forged, and none of these strings collide, few of its challenges are cleared.
+    -- Where nothing of the person is said to be forged, and none of these strings collide, few of its challenges are
+    -- cleared.
     abbrev pub ClearsFewIf : Journal → Judged → Type 0
     ClearsFewIf j p = p.unforged ≡ true → NoneOpenedCollide j → FewChallengesAreCleared (newest_first r.history) j.key (events j)
 
-    -- Where nothing of the person is told to be forged, and no strings collide, its own signatures are fair.
+    -- Where nothing of the person is said to be forged, and no strings collide, its own signatures are fair.
     abbrev pub IsFairIf : Journal → Judged → Type 0
     IsFairIf j p = p.unforged ≡ true → NoCollision j → SignsFairly (newest_first r.history) j.key (events j)
 
@@ -113,18 +114,18 @@ module _ (commands : ℕ → Option Command) where
     abbrev pub EndsWellIf : Journal → Judged → Type 0
     EndsWellIf j p = p.unforged ≡ true → NoCollision j → EndsWell r.history j.key (events j)
 
-    -- Where no strings collide that its watchers tell apart, they are told to have been in time.
+    -- Where no strings collide that its watchers distinguish, they are said to have been in time.
     abbrev pub IsInTimeIf : Journal → Judged → Type 0
     IsInTimeIf j p = NoneOpenedCollide j → p.in_time ≡ true
 
-    -- Where moreover its watchers are told to have been in time, the person keeps this.
+    -- Where moreover its watchers are said to have been in time, the person keeps this.
     abbrev pub Premised : (List Entry → List ℕ → List Told → Type 0) → Journal → Judged → Type 0
     Premised Promise j p = p.unforged ≡ true → p.in_time ≡ true → NoCollision j → Promise (newest_first r.history) j.key (events j)
 
-    -- Each person with a node has an honest journal over the whole history, which signs with no index of its key twice, and
-    -- it called no challenge but one that it signed right before, as itself. Where its premises are told to hold it is safe,
-    -- few of its challenges are cleared, its own signatures are fair, a checker finds no fault in how it ended, nobody lowers
-    -- its share and it can leave with it; and what is told of its exit is paid to it.
+    -- Each person with a node has an honest journal over the whole history, which signs with no index of its key
+    -- twice. It called no challenge but one that it signed right before, as itself. Where its premises are said to
+    -- hold it is safe, few of its challenges are cleared and its own signatures are fair. A checker finds no fault in
+    -- how it ended. Nobody lowers its share and it can leave with it, and what is said of its exit is paid to it.
     pub record Promises : Type 0 where
       pub honest : (j : Journal) → In j r.journals → IsHonest (newest_first r.history) j.key (events j)
       pub challenges : (j : Journal) → In j r.journals → CallsOwnChallenges j.key (events j)

@@ -11,7 +11,7 @@ use premises::{Journal, distinct, is_in_time, is_unforged};
 use report_text::Judged;
 use std::alloc::Global;
 
-/// What is told of the person with this journal, where it is known whether all strings are distinct.
+/// What is said of the person with this journal, where it is known whether all strings are distinct.
 fn judge(
     alloc: Global,
     history: &[Entry],
@@ -31,7 +31,7 @@ fn judge(
     })
 }
 
-/// What is told of each person.
+/// What is said of each person.
 pub(crate) fn judge_all(
     alloc: Global,
     history: &[Entry],

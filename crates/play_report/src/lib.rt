@@ -1,4 +1,5 @@
-//! The report of a play: its history and journals, and whether the premises hold under which people with nodes are safe.
+//! The report of a play: its history and journals, and whether the premises hold under which people with nodes are
+//! safe.
 #![tactic(auto)]
 
 mod endings;

@@ -31,8 +31,8 @@ use script_steps::{STEP_LIMIT, Step};
 use std::alloc::Global;
 use step_meanings::Names;
 
-/// What is told of the people with nodes, in their order: their journals, what each can get of each asset, what it could
-/// when it was commanded to exit, and how it ended.
+/// What is said of the people with nodes, in their order: their journals, what each can get of each asset, and how it
+/// ended. Also what it could get when it was commanded to exit.
 #[derive(Drop)]
 struct Tales {
     journals: Vec<Journal>,
@@ -41,7 +41,7 @@ struct Tales {
     ends: Vec<Ending>,
 }
 
-/// What is told of people whose nodes have followed the whole history.
+/// What is said of people whose nodes have followed the whole history.
 fn tales_of<P: ReportedNode>(
     alloc: Global,
     history: &[Entry],
@@ -101,8 +101,8 @@ fn labels_of(names: Names) -> Listed<(Dest, Label)>
     labels
 }
 
-/// The report of these parts of a scene: what names stand for, how long the history was after each round, the entries in the
-/// order of time, and the nodes; with a note of the load that its script was made of, if it was.
+/// The report of these parts of a scene: what names stand for, how long the history was after each round, the entries
+/// in the order of time, and the nodes. It notes the load that its script was made of, if it was.
 pub fn report_of<P: ReportedNode>(
     alloc: Global,
     names: Names,

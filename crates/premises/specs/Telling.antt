@@ -29,9 +29,9 @@ CollisionIsTold = (strings : List (List ℕ)) → IsTrue (none_collide sha256 st
 abbrev pub strings_opened : List Line → List (List ℕ)
 strings_opened journal = flat_map (λ x. flat_map of_fixed (opened x)) journal
 
--- For each of the journals: where no strings collide, those of the channels that it opens among them, none do that the laws of
--- safety speak of; nor do those of its key and of more fixed parts, among which these channels are; and Distinct is enough where
--- it opens no new string.
+-- For each of the journals: no strings collide, those of the channels that it opens among them. Then none do that the
+-- laws of safety speak of. Nor do those of its key and of more fixed parts, among which these channels are. Distinct
+-- is enough where it opens no new string.
 pub record DistinctSuffices : Type 0 where
   pub with_commands :
       (h : List Entry) (journals : List Journal) (j : Journal) (adds : ℕ → List FixedParts) → In j journals

@@ -46,7 +46,7 @@ abbrev pub are_entered : Rules → List ℕ → List Entry → List Call → Boo
 are_entered r channel after calls = list_all (is_entered r channel after) calls
 
 -- A look that had seen the first `seen` entries, the challenge being the last of them, and at most all of `mid` after
--- them; and the calls of which for the channel are among those that it hadn't seen.
+-- them. Its calls for the channel are among those that it hadn't seen.
 abbrev pub looks_well : Rules → List ℕ → ℕ → List Entry → ℕ → Deed → Bool
 looks_well r channel seen mid place (deeds.Watched watcher calls) =
     (nat_le seen place && nat_le place (seen + length mid)) && are_entered r channel (drop (place - seen) mid) calls

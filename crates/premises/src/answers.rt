@@ -92,8 +92,8 @@ pub fn in_time(
     }
 }
 
-/// Whether no two different ones of the strings that are hashed for what the history and all journals name have one
-/// SHA-256.
+/// Whether no two different strings have one SHA-256, of those that are hashed for what the history and all journals
+/// name.
 pub fn distinct(alloc: Global, history: &[Entry], journals: &[Journal]) -> Result<bool, NoMemory>
     ensures { IfOk result (λ b. IsTrue b ↔ Distinct history.now journals.now) }
 {

@@ -1,4 +1,4 @@
--- What the words and the source of a program come to that answers a record.
+-- How a program that answers a record ends, by its words and its source.
 use Rattle.std.specs.Prelude.{◌≡◌, ◌≢◌, ◌≤◌, ◌<◌, ℕ, List, [], ◌∷◌, length, Bool, true, false, Option, Some, Ok, Err, codes}
 use Rattle.std.specs.Str.{bytes_eq}
 use Rattle.std.specs.Io.KnownBytes.{Keeps, Consumes, IsAtEnd}

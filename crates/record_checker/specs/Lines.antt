@@ -1,4 +1,4 @@
--- The lines in which a fault of bytes, and what is wrong with a record, are told.
+-- The lines that report a fault of bytes, and what is wrong with a record.
 use Rattle.std.specs.Prelude.{ℕ, List, [], codes}
 use Rattle.std.specs.Fmt.{decimal}
 use Rattle.channel_values.specs.declared.fault.ByteFault.{ByteFault}

@@ -1,5 +1,5 @@
--- What a checker keeps of a history, the newest entry first, beside its adjudicator: of each channel what is left of the
--- outcome that it settled on.
+-- What a checker keeps of a history, the newest entry first, beside its adjudicator: of each channel what is left of
+-- the outcome that it settled on.
 use Rattle.std.specs.Prelude.{◌≡◌, ◌-◌, ℕ, List, [], ◌∷◌, Option, Some, None, unwrap_or, if◌then◌else◌}
 use Rattle.std.specs.Map.{lookup}
 use Rattle.std.specs.Str.{bytes_eq}

@@ -1,4 +1,4 @@
--- What the conditions of plans and the shares are told by, after a history, the newest entry first.
+-- What determines the conditions of plans and the shares after a history, the newest entry first.
 use Rattle.std.specs.Prelude.{◌≡◌, ℕ, ◌==◌, Bool, true, not, ◌&&◌, nat_le, count_by, List, [], ◌∷◌, ◌++◌, map, None}
 use Rattle.std.specs.List.{flat_map, list_all, list_any}
 use Rattle.channel_values.specs.declared.value.AssetOutcome.{AssetOutcome}

@@ -1,4 +1,4 @@
--- What a showing comes to: bytes are read as a record, and its text is written, whether the record is sound or not.
+-- How a showing ends: bytes are read as a record, and its text is written, whether the record is sound or not.
 use Rattle.std.specs.Prelude.{◌≡◌, ◌≢◌, ◌≤◌, ◌<◌, ◌⊎◌, ℕ, List, [], ◌∷◌, length, Bool, true, false, Option, Some, Ok, Err, codes}
 use Rattle.std.specs.Str.{bytes_eq}
 use Rattle.std.specs.Io.KnownBytes.{Keeps, Appends}
@@ -52,7 +52,7 @@ EndsAs g NoMemory text = ⊥
 EndsAs g (Unsound verdict) text = ⊥
 EndsAs g WriteFault text = ⊥
 
--- the words are the one word, and the source tells these bytes, which are short enough, and doesn't fail
+-- the words are the one word, and the source has these bytes, which are short enough, and doesn't fail
 pub record Tells (bytes : List ℕ) (g : Given) : Type 0 where
   pub asks_it : asks g.words ≡ true
   pub told : g.before ≡ Some bytes

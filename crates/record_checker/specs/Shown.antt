@@ -1,4 +1,5 @@
--- The text of a record: what it says, whether that is sound or not. Names are their digits, since a record has no others.
+-- The text of a record: what it says, whether that is sound or not. Names are their digits, since a record has no
+-- others.
 use Rattle.std.specs.Prelude.{ℕ, List, [], ◌++◌, Bool, true, false, length, flat_map, codes}
 use Rattle.std.specs.Fmt.{decimal}
 use Rattle.hex.specs.Hex.{encode_lower}

@@ -26,7 +26,7 @@ abbrev pub Walks : Option ℕ → List Entry → Standing → Rests → List Flo
 Walks None history a rests flows = WalksTo history a rests flows
 Walks (Some k) history a rests flows = IsFirstWrong history k
 
--- what is told of the whole history
+-- what is said of the whole history
 abbrev pub Ends : List Entry → Walked → Type 0
 Ends history (Whole past flows) = IsLegal history × (past ≡ newest_first history) × (flows.items ≡ flows_of history)
 Ends history (Wrong number) = IsFirstWrong history number

@@ -13,7 +13,7 @@ pub trait Answering {
     /// Its word, and the text of its answer.
     ghost asked: { Asked };
 
-    /// What its answer needs besides, as that threads may share its runtime.
+    /// What else its answer needs, for example that threads may share its runtime.
     ghost ready: { Self → Type 0 };
 
     fn word(&self) -> &'static str

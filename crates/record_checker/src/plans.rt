@@ -1,4 +1,4 @@
-//! Whether the share of a plan can be told.
+//! Whether the share of a plan can be determined.
 
 ghost use Rattle.std.specs.Prelude.{◌≡◌, ◌++◌, ◌∷◌, [], IfOk, OnOk, count_by, option_copied};
 ghost use Rattle.std.specs.Result.{result_ok};
@@ -173,7 +173,7 @@ fn copy_known(known: &Known) -> Result<Known, NoMemory>
     })
 }
 
-/// Adds of each of these channels the first known state.
+/// Adds the first known state of each of these channels.
 fn put_firsts(
     alloc: Global,
     all: &mut Vec<Known>,
@@ -196,7 +196,7 @@ fn put_firsts(
     }
 }
 
-/// Of each channel of a plan in which its person is a participant the first known state.
+/// The first known state of each channel of a plan in which its person is a participant.
 pub(crate) fn firsts(alloc: Global, plan: &Plan, known: &[Known]) -> Result<Vec<Known>, NoMemory>
     ensures { IfOk result (λ all. all.items ≡ plans.firsts (plans.joined plan.now.parts) known.now) }
 {

@@ -22,7 +22,7 @@ struct Ended {
     text: Vec<u8>,
 }
 
-/// The bytes of a line that is told as it is.
+/// The bytes of a line that is written as it is.
 pub(crate) fn bytes_of(alloc: Global, line: &str) -> Result<Vec<u8>, NoMemory>
     ensures { IfOk result (λ bytes. bytes.items ≡ line.now) }
 {
@@ -30,7 +30,7 @@ pub(crate) fn bytes_of(alloc: Global, line: &str) -> Result<Vec<u8>, NoMemory>
     Ok(line.into_bytes())
 }
 
-/// What a record comes to that some bytes spell.
+/// The end of a run on the record that some bytes spell.
 #[tactic(auto, using(crate::proofs::Ending::sound_end, crate::proofs::Ending::unsound_end))]
 fn end_of_record<A: Answering>(
     alloc: Global,
@@ -57,7 +57,7 @@ fn end_of_record<A: Answering>(
     }
 }
 
-/// What bytes come to.
+/// The end of a run on these bytes.
 #[tactic(auto, using(crate::proofs::Ending::unspelled_end))]
 fn end_of_bytes<A: Answering>(alloc: Global, answering: &A, bytes: &[u8]) -> Result<Ended, NoMemory>
     requires { A.ready answering.now }
@@ -87,7 +87,7 @@ fn asks<A: Answering>(answering: &A, words: &[Label]) -> bool
     }
 }
 
-/// What the words and the source come to.
+/// The end of a run on the words and the source.
 #[tactic(auto, using(byte_streams::proofs::Known::keeps_all))]
 fn work<A: Answering, S: Source>(
     alloc: Global,

@@ -21,7 +21,7 @@ struct Ended {
     text: Vec<u8>,
 }
 
-/// What bytes come to.
+/// The end of a showing of these bytes.
 #[tactic(auto, using(crate::proofs::ShowEnds::shown_end, crate::proofs::ShowEnds::unspelled_end))]
 fn end_of_bytes(alloc: Global, bytes: &[u8]) -> Result<Ended, NoMemory>
     ensures { (g : Given) → asks g.words ≡ true → IsReadTo g bytes.now
@@ -56,7 +56,7 @@ fn asks(words: &[Label]) -> bool
     }
 }
 
-/// What the words and the source come to.
+/// The end of a showing by the words and the source.
 #[tactic(auto, using(byte_streams::proofs::Known::keeps_all))]
 fn work<S: Source>(alloc: Global, words: &[Label], source: &mut S) -> Result<Ended, NoMemory>
     ensures { IfOk result (λ ended.

@@ -1,4 +1,4 @@
-//! The lines in which a fault of bytes, and what is wrong with a record, are told.
+//! The lines that report a fault of bytes, and what is wrong with a record.
 
 ghost use Rattle.std.specs.Prelude.{◌≡◌, IfOk, string_bytes};
 ghost use Rattle.record_checker.specs.Lines.{fault_text, fault_line, verdict_text, verdict_line};

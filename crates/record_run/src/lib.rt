@@ -1,5 +1,5 @@
-//! The run that a record describes, for a picture: as the printed lines would describe it, and whom each payment
-//! goes to.
+//! The run that a record describes, for a picture: as the printed lines would describe it, and who each payment goes
+//! to.
 #![tactic(auto)]
 
 mod told;

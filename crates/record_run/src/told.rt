@@ -14,7 +14,7 @@ pub struct Told {
     pub(crate) persons: Vec<String>,
 }
 
-/// Whom an entry pays, ` to person NAME` or ` to channel NAME`; nothing where it doesn't pay.
+/// Who an entry pays, ` to person NAME` or ` to channel NAME`; nothing where it doesn't pay.
 fn payee_text(
     alloc: Global,
     labels: &[(Dest, Label)],
@@ -35,7 +35,7 @@ fn payee_text(
     }
 }
 
-/// The line of an entry with no line feed, and whom it pays.
+/// The line of an entry with no line feed, and who it pays.
 fn line_of(alloc: Global, labels: &[(Dest, Label)], entry: &Entry) -> Result<String, AllocError> {
     let mut line = entry_line(alloc, labels, entry)?;
     let _ = line.pop();
@@ -91,8 +91,8 @@ fn person_names(
     Ok(names)
 }
 
-/// What a record says, in words. A record has no names: people and channels are called what they were declared with, or else
-/// by their digits.
+/// What a record says, in words. A record has no names: people and channels are called what they were declared with,
+/// or else by their digits.
 pub fn told_of(
     alloc: Global,
     labels: &[(Dest, Label)],

@@ -1,4 +1,5 @@
-//! From a record and its words to the run that they tell. Nothing is checked: what the record says is taken as it is.
+//! From a record and its words to the run that they describe. Nothing is checked: what the record says is taken as it
+//! is.
 
 use crate::told::Told;
 use call_history::{Entry as Entered, time_after};
@@ -35,7 +36,7 @@ fn total_of(totals: &BTreeMap<u32, u64>, asset: u32) -> u64 {
     }
 }
 
-/// What the sums of a kind come to of each asset: those of one name, or all.
+/// The totals of the sums of a kind by asset: those of one name, or all.
 fn totals_of(
     alloc: Global,
     sums: &[Sum],
@@ -127,7 +128,7 @@ fn persons_of<'a>(
     Ok(persons)
 }
 
-/// The run that a record and its words tell.
+/// The run that a record and its words describe.
 pub fn run_of<'a>(alloc: Global, value: &Record, told: &'a Told) -> Result<Run<'a>, AllocError> {
     let history = value.history.as_slice();
     let sums = value.sums.as_slice();

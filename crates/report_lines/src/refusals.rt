@@ -1,4 +1,4 @@
-//! How the refusals of commands are told.
+//! How the refusals of commands are printed.
 
 ghost use Rattle.std.specs.Prelude.{◌≡◌, IfOk, string_bytes};
 ghost use Rattle.report_lines.specs.Text.{mode_text, node_refusal_text};
@@ -18,7 +18,7 @@ fn mode_text(mode: &Standing) -> &'static str
     }
 }
 
-/// The number, the name and the value of what a node refuses a command for.
+/// The number, the name and the value of a node's reason to refuse a command.
 pub fn node_refusal_text(
     alloc: Global,
     labels: &[(Dest, Label)],

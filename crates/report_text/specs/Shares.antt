@@ -1,5 +1,5 @@
--- The lines of a person with a node: its premises, what it was paid and what it can get of each asset, and what it could
--- when it was commanded to exit.
+-- The lines of a person with a node: its premises, and what it was paid and can get of each asset. Also what it could
+-- get when it was commanded to exit.
 use Rattle.std.specs.Prelude.{ℕ, List, [], ◌++◌, if◌then◌else◌, flat_map, codes}
 use Rattle.std.specs.Fmt.{decimal}
 use Rattle.std.specs.Str.{bytes_eq}

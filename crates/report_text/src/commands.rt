@@ -10,7 +10,7 @@ use report_lines::{node_refusal_text, person_text};
 use std::alloc::{AllocError, Global};
 use std::collections::BTreeSet;
 
-/// A refused command: of the step of this number, told to this person.
+/// A refused command: of the step of this number, given to this person.
 #[derive(Clone, Copy, Debug, Drop)]
 pub struct Refused {
     pub step: u32,

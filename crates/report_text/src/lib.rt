@@ -1,5 +1,6 @@
-//! The printed text of a run, from its report: the entries, the refused commands, the balances, and for each person with
-//! a node whether the premises of safety hold, what it was paid and can get, and what it could at its exit.
+//! The printed text of a run, from its report: the entries, the refused commands and the balances. For each person
+//! with a node it says whether the premises of safety hold, what it was paid and can get, and what it could get at
+//! its exit.
 #![tactic(auto)]
 
 mod commands;

@@ -35,11 +35,12 @@ pub struct Load {
     pub count: u32,
 }
 
-/// What a run made: its history, in the order of time; the journals of the people with nodes, in the order of their
-/// declaration; how long the history was after each round; the names of the declared people and channels, in the order
-/// of declaration; for each journal whether the premises of its person's safety hold; the shares of those people at the
-/// end; those just after they were commanded to exit; how each of them ended; the sums of the flows of the history; and, where
-/// it is of a load, what that was made from. No text is made of the endings and the sums.
+/// What a run made: its history, in the order of time, and how long that was after each round. It has the journals of
+/// the people with nodes, in the order of their declaration. It has the names of the declared people and channels, in
+/// the order of declaration. For each journal it says whether the premises of its person's safety hold. It has the
+/// shares of those people at the end, those just after they were commanded to exit, and how each of them ended. It
+/// has the sums of the flows of the history, and what a load was made from, where it is of one. No text is made of
+/// the endings and the sums.
 #[derive(Drop)]
 pub struct Report {
     pub history: Listed<Entry>,
@@ -63,7 +64,7 @@ pub fn text_of(report: &Report) -> Result<Vec<u8>, NoMemory>
     Ok(text.into_bytes())
 }
 
-/// What stands in the text of a report after the entries and the refused commands.
+/// The text of a report after the entries and the refused commands.
 pub fn tail_of(report: &Report) -> Result<Vec<u8>, NoMemory>
     requires { Legal real (newest_first report.now.history) }
     ensures { IfOk result (λ text. text.items ≡ tail_of report.now) }

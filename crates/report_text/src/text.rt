@@ -132,7 +132,7 @@ pub fn balances_of(alloc: Global, history: &[Entry]) -> Result<Balances, NoMemor
     Balances::of(alloc, flows)
 }
 
-/// What balances tell, and the lines of the people with nodes, which tell some of it again.
+/// What balances say, and the lines of the people with nodes, which repeat some of it.
 fn append_told(
     alloc: Global,
     text: &mut String,

@@ -1,4 +1,4 @@
--- The numbers by which records tell sums apart.
+-- The numbers by which records distinguish sums.
 use Rattle.std.specs.Prelude.{ℕ, ◌==◌, Option, Some, None, if◌then◌else◌}
 use Rattle.run_record.specs.declared.run_record.SumOf.{SumOf}
 use Rattle.run_record.specs.declared.run_record.SumOf.TheVariants as sums

@@ -1,4 +1,4 @@
--- When the share of a plan can be told, and what it is after a history, the newest entry first.
+-- When the share of a plan can be determined, and what it is after a history, the newest entry first.
 use Rattle.std.specs.Prelude.{◌≡◌, ◌≤◌, ℕ, Bool, true, false, not, ◌&&◌, count_by, List, [], ◌∷◌, ◌++◌, map, Option, Some, None, if◌then◌else◌}
 use Rattle.std.specs.List.{filter, flat_map, list_all}
 use Rattle.std.specs.Str.{bytes_eq}

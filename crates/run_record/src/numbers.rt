@@ -1,4 +1,4 @@
-//! The numbers by which records tell sums apart.
+//! The numbers by which records distinguish sums.
 
 ghost use Rattle.std.specs.Prelude.{◌≡◌};
 ghost use Rattle.run_record.specs.Numbers as numbers;

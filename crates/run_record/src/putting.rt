@@ -1,4 +1,4 @@
-//! The canonical bytes of the parts of a record. Where there is no memory, some of them may stay.
+//! The canonical bytes of the parts of a record. When memory runs out, some of them may stay.
 
 ghost use Rattle.std.specs.Prelude.{◌≡◌, ◌≤◌, ◌<◌, ◌^◌, ◌++◌, ◌∷◌, length, OnOk};
 ghost use Rattle.std.specs.Int.{w32, w64, to_be_bytes};

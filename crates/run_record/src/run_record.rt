@@ -1,4 +1,4 @@
-//! What a run came to, for somebody who checks it.
+//! How a run ended, for somebody who checks it.
 
 use call_history::{Entry, HeldChain, Known};
 use channel_values::{Listed, Name};
@@ -21,8 +21,8 @@ pub struct Sum {
     pub amount: u64,
 }
 
-/// How a person with a node ended: its plan, the states that it signed last, the chains that it holds, and by asset what
-/// it can get.
+/// How a person with a node ended: its plan, the states that it signed last, the chains that it holds, and what it
+/// can get of each asset.
 #[derive(Drop)]
 pub struct Ending {
     pub person: Name,
@@ -32,7 +32,8 @@ pub struct Ending {
     pub shares: Listed<(u32, u128)>,
 }
 
-/// What a run came to: its history in the order of time, the sums of its flows, and the ending of each person with a node.
+/// How a run ended: its history in the order of time, the sums of its flows, and the ending of each person with a
+/// node.
 #[derive(Drop)]
 pub struct Record {
     pub history: Listed<Entry>,

@@ -1,5 +1,5 @@
-//! What comes of sources and sinks that fail, and of sources that are long. Whole scripts with their texts are files, in
-//! `examples`.
+//! What comes of sources and sinks that fail, and of sources that are long. Whole scripts with their texts are files,
+//! in `examples`.
 
 use byte_streams::{ListSink, ListSource};
 use channel_values::Label;

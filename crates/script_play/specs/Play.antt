@@ -19,8 +19,8 @@ use Rattle.step_meanings.specs.declared.names.Names.{Names}
 use Rattle.script_steps.specs.declared.step.Step.{Step}
 use Rattle.script_play.specs.Rounds.{Letter, Mailed, round, seen_by}
 
--- What a run has come to: what names stand for, the world, the messages on their way, and how long the history was after
--- each round.
+-- What a run has come to: what names stand for, the world, the messages on their way, and how long the history was
+-- after each round.
 pub record SceneOf (P : Type 0) : Type 0 where
   pub names : Names
   pub world : WorldOf P
@@ -65,7 +65,7 @@ module _ {P : Type 0} (ways : Ways P) where
 
   -- ---- what is done
 
-  -- a node sees, and is told the command of a step; what it sends is on its way
+  -- a node sees, and is given the command of a step; what it sends is on its way
   abbrev pub told : ℕ → Command → SceneOf P → ℕ → SceneOf P
   told step command s number =
       record s {

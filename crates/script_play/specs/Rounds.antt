@@ -18,7 +18,8 @@ pub record Mailed (P : Type 0) : Type 0 where
   pub world : WorldOf P
   pub post : List Letter
 
--- a round makes at most so many entries: each of sixteen nodes gives at most 32768 calls, and each of its four watchers 64
+-- a round makes at most so many entries: each of sixteen nodes gives at most 32768 calls, and each of its four
+-- watchers 64
 abbrev pub most_in_round : ℕ
 most_in_round = 16 * (32768 + 4 * 64)
 
@@ -60,7 +61,8 @@ module _ {P : Type 0} (ways : Ways P) where
   abbrev pub watched : WorldOf P → Person → WorldOf P
   watched w p = if has_node p then looked p.number 4 w else w
 
-  -- The nodes act in the order of their declaration, with what was on its way to them; what they send is on its way then.
+  -- The nodes act in the order of their declaration, with what was on its way to them; what they send is on its way
+  -- then.
   abbrev pub first_half : List Person → Mailed P → Mailed P
   first_half people s = fold (acted s.post) (record { world = s.world; post = [] }) people
 

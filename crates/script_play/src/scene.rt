@@ -94,8 +94,8 @@ impl<P: Party, D: Docket> Scene<P, D> {
         self.world.history()
     }
 
-    /// What names stand for at the end, how long the history was after each round, the entries in the order of time, and the
-    /// nodes with their watchers.
+    /// What names stand for at the end, how long the history was after each round, the entries in the order of time,
+    /// and the nodes with their watchers.
     pub fn into_parts(self) -> (Names, Listed<u32>, Vec<Entry>, Vec<Member<P>>)
         ensures names { result.0 ≡ self.names }
         ensures rounds { result.1 ≡ self.rounds }
@@ -132,7 +132,7 @@ impl<P: Party, D: Docket> Scene<P, D> {
         Ok(())
     }
 
-    /// A node sees, and is told a command.
+    /// A node sees, and is given a command.
     fn tell(&mut self, step: u32, number: &u32, command: &Command) -> Result<(), NoMemory>
         requires { length self.old.world.history + 32768 < 2 ^ 32 }
         ensures told { OnOk result (self.new ≡ told P.ways step command.now self.old number.now) }

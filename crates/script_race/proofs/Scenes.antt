@@ -30,7 +30,7 @@ use Rattle.support_rules.specs.Real.{real}
 use Rattle.script_play.specs.Rounds.{seen_by}
 
 module _ {P : Type 0} (ways : Ways P) where
-  -- a node sees, and is told the command of a step
+  -- a node sees, and is given the command of a step
   pub tells_one : (step : ℕ) (command copied : Command) (number : ℕ) (names : Names) (h h' : List Entry) (before between after : List (MemberOf P)) (post post' : List Letter) (ends : List ℕ) (outs : Outs)
       → copied ≡ command → h' ≡ h
       → world_of h between ≡ happened ways (happenings.See number) (world_of h before)

@@ -9,8 +9,8 @@ use Rattle.script_play.specs.Play.{at_end}
 use Rattle.network.specs.Standing.{AreKept}
 use Rattle.script_race.specs.Races.{RaceOf, stage_of, FitsRace, Does}
 
--- A race stays one, whatever the steps of a script do in it, and after its nodes have seen the end, where nodes keep what they
--- must and write their journals.
+-- A race stays one, whatever the steps of a script do in it, and after its nodes have seen the end. Nodes keep what
+-- they must and write their journals.
 pub record StepsKeepRaces {P : Type 0} (ways : Ways P) (stands : List Entry → P → Type 0) (lost : P → Bool) : Type 0 where
   pub does : (step : ℕ) (effect : Effect) (s t : RaceOf P) → FitsRace effect → IsRacing ways stands lost (stage_of s) → Does ways step effect s t
       → IsRacing ways stands lost (stage_of t)

@@ -18,13 +18,13 @@ use Rattle.script_steps.specs.declared.step.Step.{Step}
 use Rattle.support_rules.specs.Real.{real}
 use Rattle.node_guarantees.specs.Promised.{Pairwise}
 
--- in a race the watchers of a node whose channels last are in time, where no strings collide that they tell apart
+-- in a race the watchers of a node whose channels last are in time, where no strings collide that they distinguish
 abbrev pub RacersAreInTime : {P : Type 0} → Ways P → (stands : List Entry → P → Type 0) → Type 0
 RacersAreInTime {P} ways stands =
     (h : List Entry) (p : P) (ends : List ℕ) → Legal real h → stands h p → IsRaced h (ways.lines p) ends → OpensLasting (ways.lines p)
     → AreValid h (ways.lines p) → NoneCollide (hashed h (ways.lines p)) → InTime real h (ways.lines p)
 
--- The report is that of a race of these steps with this cast: it describes what the race came to and keeps its
+-- The report is that of a race of these steps with this cast. It describes what the race came to and keeps its
 -- promises, and the watchers of each person with a node were in time.
 pub record IsOfRace {P : Type 0} (ways : Ways P) (cast : List Player) (r : Report) (steps : List Step) : Type 0 where
   pub race : RaceOf P

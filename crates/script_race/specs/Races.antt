@@ -1,5 +1,5 @@
--- What the steps of a script do in a race, over nodes whose rules are given: as in a run, but that a round is any that its
--- threads make, beside a cast, and that a time follows on it.
+-- What the steps of a script do in a race, over nodes whose rules are given. It is as in a run, except that a round
+-- is any that its threads make, beside a cast, and that a time follows it.
 use Rattle.std.specs.Prelude.{◌≡◌, ℕ, zero, suc, ◌+◌, ◌<◌, ◌^◌, List, [], ◌∷◌, ◌++◌, length, reverse}
 use Rattle.call_history.specs.History.{newest_first, now_of}
 use Rattle.call_history.specs.declared.call.Op.TheVariants as ops

@@ -155,7 +155,7 @@ pub(crate) fn see_all<R: Wait, P: Party>(
     Ok(())
 }
 
-/// The node of this number is told the command of a step. What it gives is nothing where it refuses.
+/// The node of this number is given the command of a step. It gives nothing where it refuses.
 pub(crate) fn command<P: Party>(
     alloc: Global,
     nodes: &mut Vec<Member<P>>,

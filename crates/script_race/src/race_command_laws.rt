@@ -1,5 +1,5 @@
-//! A law alone: the channels that the commands of a race open stand open for two at least. The function is empty: its contract
-//! is the law.
+//! A law alone: challenges of the channels that the commands of a race open stand open for at least two. The function
+//! is empty: its contract is the law.
 
 ghost use Rattle.script_race.specs.CommandLaws.{CommandsOpenLasting};
 

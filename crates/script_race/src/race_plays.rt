@@ -1,5 +1,5 @@
-//! Definitions of what the steps of a script do in a race, and a law alone: a race stays one. The function is empty: its
-//! contract is the law.
+//! Definitions of what the steps of a script do in a race, and a law alone: a race stays one. The function is empty:
+//! its contract is the law.
 
 ghost use Rattle.script_race.specs.PlayLaws.{RacesOfScriptsStay};
 

@@ -32,8 +32,8 @@ use std::sync::Wait;
 use std::thread::Threads;
 use step_meanings::{Effect, Names, meet};
 
-/// What names stand for; the shared adjudicator with the driver's seat; the nodes, the cast and the messages on their way;
-/// how long the history was after each round; and the time.
+/// What names stand for, the shared adjudicator with the driver's seat, and the time. It has the nodes, the cast and
+/// the messages on their way, and how long the history was after each round.
 #[derive(Drop)]
 pub struct Race<P: Party> {
     names: Names,
@@ -125,7 +125,7 @@ impl<P: Party + Send> Race<P> {
         Ok(())
     }
 
-    /// A node sees what the driver has seen, and is told the command of a step.
+    /// A node sees what the driver has seen, and is given the command of a step.
     fn tell<R: Wait>(
         &mut self,
         rt: &R,
@@ -327,8 +327,8 @@ impl<P: Party + Send> Race<P> {
         self.crew.nodes.as_slice()
     }
 
-    /// What names stand for at the end, how long the history was after each round, the entries in the order of time, and the
-    /// nodes with their watchers.
+    /// What names stand for at the end, how long the history was after each round, the entries in the order of time,
+    /// and the nodes with their watchers.
     pub fn into_parts(self) -> (Names, Listed<u32>, Vec<Entry>, Vec<Member<P>>)
         requires seated { IsSeated self }
         ensures names { result.0 ≡ (race_of tells told self).scene.names }

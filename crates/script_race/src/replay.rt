@@ -30,8 +30,8 @@ fn signer_for(step: &Step, signers: &mut VecDeque<Signer>) -> Option<Signer>
     }
 }
 
-/// Plays the steps with this cast, whose notes are empty, each on what those before it made, and lets each node see. The
-/// signers are those of the people that the steps declare.
+/// Plays the steps with this cast, whose notes are empty, each on what those before it made, and lets each node see.
+/// The signers are those of the people that the steps declare.
 pub fn race<R: Threads + Wait + Sync, P: Party + Send>(
     rt: &R,
     alloc: Global,

@@ -117,8 +117,8 @@ enough-turns n limit h = omega arith
 last-turns : (n limit : ℕ) → 6 + n < limit → 3 + n + 3 < limit
 last-turns n limit h = omega arith
 
--- Both have just been told to open: eight rounds, payments that are covered, each followed by a round, and Close with three
--- rounds pay both exactly.
+-- Both have just been told to open: eight rounds, payments that are covered, each followed by a round, and Close with
+-- three rounds pay both exactly.
 pub two_finish : (p : Pair) (sa sb : SignerOf) (names : Names) (ua ub step last : ℕ) (amounts : List ℕ) (s : SceneOf Numbered) → Fits p sa sb → AreTwo p names.people
     → Enough sa sb ua ub amounts → all_covered true p.a p.b amounts → 0 < first_has true p.a p.b amounts → 0 < second_has true p.a p.b amounts
     → At names [] (both p sa sb ua ub (mind real p 0 p.key_a false unseen [] [] None) (mind real p 1 p.key_b false unseen [] [] None)) [] s

@@ -51,8 +51,8 @@ both_told p sa sb names ua ub opening s w start =
     scene_told_b names [] (both p sa sb ua ub (mind real p 0 p.key_a false unseen [] [] None) (fresh p.key_b)) [] [] (told ways opening (Open (fixed p) (split p p.a p.b)) s 1) opening (Open (fixed p) (split p p.a p.b))
     (mind real p 1 p.key_b false unseen [] [] None) ub t1 (obeys_open_b p sa sb ub w)
 
--- From two nodes that know nothing: they are told to open, eight rounds follow, then payments that are covered, each followed
--- by a round, and they are told to close; after six more rounds both are paid exactly.
+-- From two nodes that know nothing. They are told to open, eight rounds follow, then payments that are covered, each
+-- followed by a round, and they are told to close. After six more rounds both are paid exactly.
 pub honest_two_finish : (p : Pair) (sa sb : SignerOf) (names : Names) (opening step last : ℕ) (amounts : List ℕ) (s : SceneOf Numbered) → Fits p sa sb → AreTwo p names.people
     → Enough sa sb 0 0 amounts → all_covered true p.a p.b amounts → 0 < first_has true p.a p.b amounts → 0 < second_has true p.a p.b amounts
     → At names [] (both p sa sb 0 0 (fresh p.key_a) (fresh p.key_b)) [] s

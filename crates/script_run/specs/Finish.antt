@@ -110,9 +110,9 @@ pub record Enough (sa sb : SignerOf) (ua ub : ℕ) (amounts : List ℕ) : Type 0
 
 -- ---- the end
 
--- The two finished, with so much for each: the history is two deposits, a conclusion and two transfers, of one asset; the two
--- were paid this, and no channel holds anything. Both followed the whole history, refused no command, and know that they can
--- get what they were paid.
+-- The two finished, with so much for each. The history is two deposits, a conclusion and two transfers, of one asset.
+-- The two were paid this, and no channel holds anything. Both followed the whole history, refused no command, and
+-- know that they can get what they were paid.
 pub record Finishes (p : Pair) (sa sb : SignerOf) (names : Names) (x y : ℕ) (s : SceneOf Numbered) : Type 0 where
   pub history : List Entry
   pub knowing : Pairing
@@ -138,8 +138,8 @@ told_both p step s = told ways step (Open (fixed p) (split p p.a p.b)) (told way
 abbrev pub asked_both : Pair → ℕ → SceneOf Numbered → SceneOf Numbered
 asked_both p step s = told ways step (Close (name real p)) (told ways step (Close (name real p)) s 1) 2
 
--- Both are told to open, eight rounds follow, then payments in turn, each covered and with a round, and both are told to
--- close: six rounds later the two were paid what they have then, and the channel holds nothing.
+-- Both are told to open, eight rounds follow, then payments in turn, each covered and with a round, and both are told
+-- to close. Six rounds later the two were paid what they have then, and the channel holds nothing.
 abbrev pub HonestTwoFinish : Type 0
 HonestTwoFinish =
     (p : Pair) (sa sb : SignerOf) (names : Names) (opening step last : ℕ) (amounts : List ℕ) (s : SceneOf Numbered)

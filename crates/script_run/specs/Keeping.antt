@@ -1,4 +1,4 @@
--- What a report promises of each person with a node: how its journal stands in the history, what is told of its
+-- What a report promises of each person with a node: how its journal stands in the history, what is said of its
 -- premises, and what it keeps where they hold. The rules of the node, scripts and what is printed are no part of it.
 use Rattle.std.specs.Prelude.{ℕ, Option}
 use Rattle.call_history.specs.History.{newest_first}
@@ -17,7 +17,7 @@ use Rattle.support_rules.specs.Real.{real}
 -- `commands` says what each step commands.
 module _ (commands : ℕ → Option Command) (r : Report) where
   pub record Keeps : Type 0 where
-    -- each of the three premises is told exactly where it holds
+    -- each of the three premises is said to hold exactly where it does
     pub judged : AreJudged r.history r.journals r.premises
     -- the journal is honest over the whole history, in terms of channels alone
     pub honest : (j : Journal) → In j r.journals

@@ -17,8 +17,8 @@ use Rattle.script_play.specs.Play.{SceneOf}
 use Rattle.script_steps.specs.declared.step.Step.{Step}
 use Rattle.support_rules.specs.Real.{real}
 
--- Of each person with a node nothing is told to be forged, and none of these strings collide. `commands` says what each step
--- commands.
+-- Of each person with a node nothing is said to be forged, and none of these strings collide. `commands` says what
+-- each step commands.
 abbrev pub IsPremised : (commands : ℕ → Option Command) → Report → Type 0
 IsPremised commands r = Pairwise (λ j p. (p.unforged ≡ true) × NoCollision commands r j) r.journals r.premises
 

@@ -1,4 +1,4 @@
--- The words in which faults are told.
+-- The words in which faults are printed.
 use Rattle.std.specs.Prelude.{ℕ, List, codes}
 use Rattle.script_run.specs.declared.fault.LoadFault.{LoadFault}
 use Rattle.script_run.specs.declared.fault.LoadFault.TheVariants as faults

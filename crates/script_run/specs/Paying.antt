@@ -1,4 +1,4 @@
--- What a load comes to: both of its people finish, and are paid what they have after its payments.
+-- How a load ends: both of its people finish, and are paid what they have after its payments.
 use Rattle.std.specs.Prelude.{◌≡◌, ◌+◌, ◌-◌, ℕ, zero, suc, List, [], ◌∷◌, codes, if◌then◌else◌}
 use Rattle.std.specs.Str.{bytes_eq}
 use Rattle.call_history.specs.History.{newest_first, paid_to, held_of}
@@ -42,8 +42,9 @@ second_has seed count = has (codes "B") (codes "A") seed count
 abbrev pub share : (letter seed amount : ℕ) → Share
 share letter seed amount = record { person = digest_of letter seed; asset = 0; amount = amount }
 
--- A load paid what it says: its history is two deposits, a conclusion and two transfers; each of the two was paid what it has
--- after the payments, and no channel holds anything; no command was refused; and the shares that are told are what was paid.
+-- A load paid what it says. Its history is two deposits, a conclusion and two transfers. Each of the two was paid
+-- what it has after the payments, and no channel holds anything. No command was refused, and the shares that are
+-- reported are what was paid.
 pub record Pays (load : Load) (r : Report) : Type 0 where
   pub whole : IsWhole (pair_of load.seed) r.history
   pub first : paid_to (newest_first r.history) (digest_of 65 load.seed) 0 ≡ first_has load.seed load.count

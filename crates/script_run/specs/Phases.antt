@@ -1,5 +1,6 @@
--- Two people with nodes run a direct payment channel, of which no message is dropped: it opens in eight rounds, a payment that
--- isn't refused is held by both after one, rounds in which nothing is told change nothing, and it is closed in six.
+-- Two people with nodes run a direct payment channel, of which no message is dropped. It opens in eight rounds, and
+-- is closed in six. A payment that isn't refused is held by both after one round. Rounds in which nothing is
+-- commanded change nothing.
 use Rattle.std.specs.Prelude.{◌≡◌, ℕ, suc, ◌+◌, ◌-◌, ◌<◌, ◌^◌, Bool, true, false, not, [], None}
 use Rattle.network.specs.declared.command.Command.TheVariants.{Pay}
 use Rattle.channel_node.specs.Minds.{Mind, fresh}
@@ -16,8 +17,8 @@ use Rattle.script_run.specs.Finish.{AreMade, AreTwo, At, Finishes, both, told_bo
 use Rattle.script_run.specs.Rounds.{ways}
 use Rattle.script_run.specs.Standing.{Standing, a_runs, b_runs, marks_by}
 
--- From two nodes that know nothing, and may have signed before: both are told to open, and after eight rounds the channel runs,
--- with what each deposited. The keys sign twice more.
+-- From two nodes that know nothing, and may have signed before: both are told to open, and after eight rounds the
+-- channel runs, with what each deposited. The keys sign twice more.
 abbrev pub TwoOpen : Type 0
 TwoOpen =
     (p : Pair) (sa sb : SignerOf) (names : Names) (ua ub opening : ℕ) (s : SceneOf Numbered) → AreMade p sa sb → AreTwo p names.people
@@ -45,7 +46,7 @@ PaymentsAreHeld =
     × (command_refusal stages real (signing_of sb).limit ub (second_mind st) (Pay (name real p) p.asset amount) ≡ None
     → Standing p sa sb names (not next_a) (turn + 1) (x + amount) (y - amount) ua (suc ub) (play_round ways (told ways step (Pay (name real p) p.asset amount) s 2)))
 
--- a round in which nothing was told changes nothing
+-- a round in which nothing was commanded changes nothing
 abbrev pub RoundsRest : Type 0
 RoundsRest =
     (p : Pair) (sa sb : SignerOf) (names : Names) (next_a : Bool) (turn x y ua ub : ℕ) (s : SceneOf Numbered) → AreMade p sa sb → AreTwo p names.people
@@ -53,7 +54,8 @@ RoundsRest =
 
 -- ---- the end
 
--- Both are told to close, and after six rounds both were paid what they had, where each had something. Each key signs once more.
+-- Both are told to close, and after six rounds both were paid what they had, where each had something. Each key signs
+-- once more.
 abbrev pub TwoClose : Type 0
 TwoClose =
     (p : Pair) (sa sb : SignerOf) (names : Names) (next_a : Bool) (turn x y ua ub step : ℕ) (s : SceneOf Numbered) → AreMade p sa sb → AreTwo p names.people

@@ -58,22 +58,23 @@ module _ {P : Type 0} (ways : Ways P) where
     pub conserved : IfSome report (λ r. AreConserved (flows_of r.history))
     -- What each step commands, of which the next two speak.
     pub commands : ℕ → Option Command
-    -- Each premise is told exactly where it holds. Each person with a node has an honest journal, which signs with no
-    -- index twice. Where its premises are told to hold, and the strings of the fixed parts that its accepted commands
-    -- name don't collide with others: no channel of it becomes final with an outcome older than its newest supported
-    -- state; nobody lowers its share, its own signatures by no more than the payment that was commanded right before,
-    -- or, where none was and its plan is funded, not at all (for these its watchers needn't be in time); it can leave
-    -- with its share; and once its channels are final and the calls of its exit stand after that, what it could get
-    -- just after it was commanded to exit is paid to it, whatever others enter between.
+    -- Each premise is said to hold exactly where it does. Each person with a node has an honest journal, which signs
+    -- with no index twice. The rest holds where its premises are said to hold, and the strings of the fixed parts
+    -- that its accepted commands name don't collide with others. No channel of it becomes final with an outcome older
+    -- than its newest supported state. Nobody lowers its share, and it can leave with it. Its own signatures lower it
+    -- by no more than the payment that was commanded right before, or, where none was and its plan is funded, not at
+    -- all. For these its watchers needn't be in time. Once its channels are final and the calls of its exit stand
+    -- after that, it is paid what it could get just after it was commanded to exit. That is so whatever others enter
+    -- between.
     pub keeps : IfSome report (Keeps commands)
-    -- The words ask for what comes to the report, which describes the play of the script, whose steps command this.
-    -- Each printed share is what the person can get by the definition, over the whole history and its journal; each
-    -- exit, just after its node's first accepted command to exit. Each journal is by the rules of the node. In a race
-    -- the watchers were in time.
+    -- The words ask for what the report describes: the play of the script, whose steps command this. Each printed
+    -- share is what the person can get by the definition, over the whole history and its journal. Each exit is that
+    -- just after its node's first accepted command to exit. Each journal is by the rules of the node. In a race the
+    -- watchers were in time.
     pub tells : IfSome report (λ r. TellsOf ways commands r cast g)
-    -- A load pays what it says: its history is two deposits, a conclusion and two transfers; both people were paid
-    -- what they have after its payments, and no channel holds anything; no command was refused, and the shares that
-    -- are told are what was paid.
+    -- A load pays what it says. Its history is two deposits, a conclusion and two transfers. Both people were paid
+    -- what they have after its payments, and no channel holds anything. No command was refused, and the shares that
+    -- are reported are what was paid.
     pub pays : IfSome report PaysItsLoad
     -- A sound script runs to its end, and so does a load, unless memory runs out, or a race's history is full.
     pub complete : IsRunnable g → ¬ (Rose k.faults_before k.faults_after)
@@ -81,9 +82,9 @@ module _ {P : Type 0} (ways : Ways P) where
 
   -- What `run_record` promises of how it ended.
   pub record IsRecording (cast : List Player) (g : Given) (k : Sunk) (status : Recorded) : Type 0 where
-    -- Every status but out of memory and a fault of the sink has its cause, and its bytes were written whole: of what
-    -- was played the spelling of its record, whose history is legal and conserved; and it is sound where of each person
-    -- with a node nothing is told to be forged and no strings collide.
+    -- Every status but out of memory and a fault of the sink has its cause, and its bytes were written whole. They
+    -- are the spelling of the record of what was played, whose history is legal and conserved. The record is sound
+    -- where of each person with a node nothing is said to be forged and no strings collide.
     pub ended : status ≢ Ran NoMemory → status ≢ Ran WriteFault
         → (bytes : List ℕ) × recordings.EndsAs ways cast g status bytes × Appends k.before k.after bytes
     -- At a fault of the sink a part was written of what another end owes.
@@ -92,8 +93,8 @@ module _ {P : Type 0} (ways : Ways P) where
         × AppendsPart k.before k.after bytes)
     -- Out of memory nothing was written.
     pub no_memory : status ≡ Ran NoMemory → Untouched k.before k.after
-    -- A sound script is played and its record written, unless it is past the format's limits, memory runs out or a
-    -- race's history is full, where neither source nor sink fails.
+    -- Where neither source nor sink fails, a sound script is played and its record written. Exceptions are a record
+    -- past the format's limits, running out of memory, and a full history of a race.
     pub complete : recordings.IsRecordable g → ¬ (Rose k.faults_before k.faults_after)
         → (status ≡ Ran Done) ⊎ (status ≡ PastLimits) ⊎ (status ≡ Ran NoMemory) ⊎ recordings.IsFullRace g status
 

@@ -1,4 +1,4 @@
--- What a recording comes to.
+-- How a recording ends.
 use Rattle.std.specs.Prelude.{◌≡◌, ◌⊎◌, ◌&&◌, ◌||◌, ℕ, List, [], ◌∷◌, Bool, false, Option, Some, None, codes, if◌then◌else◌}
 use Rattle.std.specs.Str.{bytes_eq}
 use Rattle.call_history.specs.Flows.{AreConserved}
@@ -51,14 +51,15 @@ module _ {P : Type 0} (ways : Ways P) (cast : List Player) where
   abbrev pub RunEnds : Given → RanAs → Option Report → Type 0
   RunEnds g status report = (words : List (List ℕ)) × (asked_of g.words ≡ Some words) × runs.EndsAs ways cast (record g { words = words }) status report
 
-  -- The record of what was played is sound where of each person with a node nothing is told to be forged and no strings collide.
+  -- The record of what was played is sound where of each person with a node nothing is said to be forged and no
+  -- strings collide.
   abbrev pub IsSoundIf : Report → Type 0
   IsSoundIf r =
       (steps : List Step) → IsPlayed ways None r steps ⊎ IsOfRace ways cast r steps → IsPremised (command_of steps) r
       → IsSound (record_from r)
 
-  -- What was played, and what is true of its record: with no premise, its history is legal and conserved, and its sums are those of
-  -- its flows.
+  -- What was played, and what is true of its record: with no premise, its history is legal and conserved, and its
+  -- sums are those of its flows.
   pub record IsRecorded (g : Given) (r : Report) : Type 0 where
     pub ran : RunEnds g Done (Some r)
     pub sums : HasSums (record_from r)

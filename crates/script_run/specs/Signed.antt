@@ -1,4 +1,5 @@
--- What the one whose turn it is signs of a direct payment channel of two people, at each stage, over any rules of channels.
+-- What the one whose turn it is signs of a direct payment channel of two people, at each stage, over any rules of
+-- channels.
 use Rattle.std.specs.Prelude.{◌≡◌, ℕ, ◌+◌, ◌%◌, ◌<◌, ◌^◌, nat_lt, Bool, true, false, List, [], ◌∷◌, Option, Some, None}
 use Rattle.std.specs.Str.{bytes_eq}
 use Rattle.channel_values.specs.Parts.{StateParts}
@@ -20,8 +21,8 @@ pub record Begins (r : Rules) (p : Pair) : Type 0 where
   pub some_a : 0 < p.a
   pub some_b : 0 < p.b
 
--- While the channel opens each of the two signs its two states of the set-up: the first round at once, the second once both
--- deposits are seen. Then the channel runs.
+-- While the channel opens each of the two signs its two states of the set-up: the first round at once, the second
+-- once both deposits are seen. Then the channel runs.
 pub record PairsOpen (r : Rules) (p : Pair) : Type 0 where
   pub first : (last : Option StateParts) → signs_in stages r None (mind r p 0 p.key_a false unseen [] [] last) (name r p) ≡ Some (state p 0 false p.a p.b)
   pub second : (last : Option StateParts) (ga : List ℕ) → signs_in stages r None (mind r p 1 p.key_b false unseen (state p 0 false p.a p.b ∷ []) (mark 0 ga ∷ []) last) (name r p) ≡ Some (state p 1 false p.a p.b)

@@ -27,8 +27,8 @@ marks_by next_a ga gb = cond next_a (marks_b ga gb) (marks_a ga gb)
 abbrev pub parity : Bool → ℕ
 parity next_a = cond next_a 0 1
 
--- Both hold the same two states, of which the latest has this turn and these amounts; the history is the two deposits, and no
--- message is on its way.
+-- Both hold the same two states, of which the latest has this turn and these amounts; the history is the two
+-- deposits, and no message is on its way.
 pub record Standing (p : Pair) (sa sb : SignerOf) (names : Names) (next_a : Bool) (turn x y ua ub : ℕ) (s : SceneOf Numbered) : Type 0 where
   pub before : ℕ
   pub u : ℕ

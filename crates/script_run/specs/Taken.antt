@@ -1,5 +1,5 @@
--- What one node wants in a channel, the table of its partner takes, where both know the same of it. This is stated for parts of
--- all four kinds; `RootsTake`, for channels that hold their own funds, is proved.
+-- The table of a node's partner takes what the node wants in a channel, where both know the same of it. This is
+-- stated for parts of all four kinds; `RootsTake`, for channels that hold their own funds, is proved.
 use Rattle.std.specs.Prelude.{◌≡◌, ℕ, ◌+◌, ◌*◌, ◌<◌, ◌≤◌, Bool, true, false, ◌||◌, List, length, Some, ◌⊎◌}
 use Rattle.std.specs.Str.{bytes_eq}
 use Rattle.channel_values.specs.Parts.{StateParts}
@@ -16,8 +16,9 @@ use Rattle.virtual_channel.specs.Ends.{End, end_rows, end_stage, end_takes}
 use Rattle.virtual_channel.specs.Middles.{Middle, middle_rows, middle_stage, middle_takes}
 use Rattle.script_run.specs.Table.{stages}
 
--- Two of a channel's people know the same of it: its name and people, the outcome that it opens with, the next turn, and the
--- latest state that is held. That has the opening outcome while the second round lasts, and Close comes after the first.
+-- Two of a channel's people know the same of it: its name and people, the outcome that it opens with, the next turn,
+-- and the latest state that is held. That has the opening outcome while the second round lasts, and Close comes after
+-- the first.
 pub record OneChannel (c d : Seat) (closing : Bool) : Type 0 where
   pub named : d.name ≡ c.name
   pub people : d.people ≡ c.people

@@ -17,7 +17,8 @@ use Rattle.script_run.specs.Run.{Given, Asks, Comes}
 use Rattle.script_steps.specs.declared.step.Step.{Step}
 use Rattle.step_meanings.specs.Commands.{command_of}
 
--- Each journal of the report is one of the network's own node, event for event. `commands` says what each step commands.
+-- Each journal of the report is one of the network's own node, event for event. `commands` says what each step
+-- commands.
 abbrev pub AreByRules : (commands : ℕ → Option Command) → Report → Type 0
 AreByRules commands r =
     (j : Journal) → In j r.journals → IsByRules (newest_first r.history) j.key (events commands j)

@@ -11,7 +11,7 @@ use std::fmt;
 #[derive(Clone, Copy, Debug, PartialEq, Eq)]
 pub enum LoadFault {
     NoMemory,
-    /// The keys of the two people have one digest, so that a script could not tell them apart.
+    /// The keys of the two people have one digest, so that a script could not distinguish them.
     OneName,
 }
 

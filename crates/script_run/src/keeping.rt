@@ -10,7 +10,7 @@ use call_history::{Call, Entry, HeldChain, Op};
 use channel_values::{Chain, MOST_MARKS, MOST_SIGNATURE_BYTES, MOST_STATES, Mark, Signed};
 use run_record::{Ending, MOST_CHAINS, MOST_ENDS, MOST_KNOWN, MOST_PARTS, Record};
 
-/// What four bytes count.
+/// The largest number of four bytes.
 const MOST_COUNTED: usize = 4_294_967_295;
 
 fn keeps_mark(mark: &Mark) -> bool

@@ -26,8 +26,8 @@ fn push_ending(alloc: Global, steps: &mut Listed<Step>) -> Result<(), NoMemory>
     steps.push(Step::Rounds { count: 6 })
 }
 
-/// The script of a load of `count` payments, and the signers of its two people, none of which has signed. Its steps keep
-/// the rules of a script.
+/// The script of a load of `count` payments, and the signers of its two people, none of which has signed. Its steps
+/// keep the rules of a script.
 pub fn load_script(alloc: Global, seed: u64, count: u32) -> Result<(Script, Vec<Signer>), LoadFault>
     requires some { 1 ≤ count }
     requires few { count ≤ 1000 }
@@ -41,7 +41,7 @@ pub fn load_script(alloc: Global, seed: u64, count: u32) -> Result<(Script, Vec<
     ensures people { IfOk result (λ r. persons_of r.0.steps ≤ 16) }
     ensures rounds { IfOk result (λ r. rounds_of r.0.steps ≤ 4096) }
 
-    // There is none exactly where both people would have one name, unless memory runs out.
+    // There is no script exactly where both people would have one name, unless memory runs out.
     ensures two { OnOk result (IsTrue (are_two seed)) }
     ensures one_name { result ≡ Err faults.OneName → are_two seed ≡ false }
 {

@@ -20,7 +20,7 @@ pub fn payments_are_held()
     ensures { PaymentsAreHeld }
 {}
 
-/// A round in which nothing was told changes nothing of what both hold.
+/// A round in which nothing was commanded changes nothing of what both hold.
 pub fn rounds_rest()
     ensures { RoundsRest }
 {}
@@ -30,7 +30,8 @@ pub fn two_close()
     ensures { TwoClose }
 {}
 
-/// Two nodes that are told to open a channel, to pay in turn what they have, and to close it finish, and are paid exactly.
+/// Two nodes that are told to open a channel, to pay in turn what they have, and to close it finish, and are paid
+/// exactly.
 pub fn honest_two_finish()
     ensures { HonestTwoFinish }
 {}

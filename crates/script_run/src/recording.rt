@@ -53,7 +53,7 @@ fn asked_of(words: &[Label]) -> Option<&[Label]>
     }
 }
 
-/// What a run comes to that was played.
+/// The end of a run that was played.
 #[tactic(auto, using(crate::proofs::RecordEnds::recorded_end))]
 fn recorded(alloc: Global, report: Report) -> Result<Ended, NoMemory>
     requires { IsLegalIn report }
@@ -78,7 +78,7 @@ fn recorded(alloc: Global, report: Report) -> Result<Ended, NoMemory>
     })
 }
 
-/// What comes to an end without a record.
+/// An end without a record.
 fn lined(alloc: Global, status: Ran) -> Result<Ended, NoMemory>
     ensures { IfOk result (λ ended. (ended.status ≡ Status.Ran status) × (ended.bytes.items ≡ owed status None)) }
 {
@@ -89,7 +89,7 @@ fn lined(alloc: Global, status: Ran) -> Result<Ended, NoMemory>
     })
 }
 
-/// What the end of a run of the words after `record` comes to.
+/// The end of a recording, from the end of a run of the words after `record`.
 #[tactic(auto, using(crate::proofs::RecordEnds::played_end, crate::proofs::RecordEnds::lined_end))]
 fn end_of_run(alloc: Global, end: Result<RunEnded, NoMemory>) -> Result<Ended, NoMemory>
     requires { IfOk end (λ ended. IfSome ended.report IsLegalIn) }

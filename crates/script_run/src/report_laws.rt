@@ -11,8 +11,8 @@ pub fn records_have_sums<P: Party>()
     ensures { RecordsHaveSums P.ways }
 {}
 
-/// A checker finds no fault in the record of a play, where of each person with a node nothing is told to be forged and no strings
-/// collide. Its watchers needn't be in time.
+/// A checker finds no fault in the record of a play, where nothing of each person with a node is said to be forged
+/// and no strings collide. Its watchers needn't be in time.
 pub fn plays_have_sound_records<P: Party>()
     ensures { PlaysHaveSoundRecords P.ways }
 {}

@@ -86,7 +86,7 @@ fn usage(alloc: Global) -> Result<Routed, NoMemory>
     })
 }
 
-/// What a route comes to.
+/// The end of a route.
 #[tactic(auto, using(crate::proofs::RouteEnds::wanted_none, crate::proofs::RouteEnds::ends_played))]
 fn played(alloc: Global, ending: Ending, count: u32) -> Result<Routed, NoMemory>
     requires few { count ≤ 40 }
@@ -110,7 +110,7 @@ fn played(alloc: Global, ending: Ending, count: u32) -> Result<Routed, NoMemory>
     }
 }
 
-/// What the words come to.
+/// The end of the route that the words ask for.
 #[tactic(auto, using(crate::proofs::RouteEnds::nothing_wanted))]
 fn work(alloc: Global, words: &[Label]) -> Result<Routed, NoMemory>
     ensures ends { IfOk result (λ h. EndsAs ways words.now h.ended.status h.ended.report h.text.items) }

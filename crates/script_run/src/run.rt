@@ -83,7 +83,7 @@ fn without_report(status: Status) -> Ended
     }
 }
 
-/// What a script comes to that was read whole.
+/// The end of a script that was read whole.
 #[tactic(auto, using(crate::proofs::Ends::breaks_in_run, crate::proofs::Ends::plays_in_run))]
 fn run_script<P: ReportedNode>(alloc: Global, bytes: &[u8]) -> Result<Ended, NoMemory>
     ensures ends { (cast : List Player) (given : Given) → wanted given.words ≡ Some Asked.Run
@@ -105,7 +105,7 @@ fn run_script<P: ReportedNode>(alloc: Global, bytes: &[u8]) -> Result<Ended, NoM
     }
 }
 
-/// What a script comes to in a race with this cast.
+/// The end of a script in a race with this cast.
 #[tactic(auto, using(script_reader::proofs::Bounds::all_may_race, crate::proofs::Ends::breaks_in_race, crate::proofs::Ends::plays_in_race, crate::proofs::Ends::full_in_race))]
 fn race_script<R: Threads + Wait + Sync, P: ReportedNode + Send>(
     rt: &R,
@@ -138,7 +138,7 @@ fn race_script<R: Threads + Wait + Sync, P: ReportedNode + Send>(
     }
 }
 
-/// What comes of a script that the source has.
+/// The end of the script that the source has.
 #[tactic(auto, using(crate::proofs::Ends::fails_in_run, crate::proofs::Ends::long_in_run))]
 fn run_source<P: ReportedNode, S: Source>(alloc: Global, source: &mut S) -> Result<Ended, NoMemory>
     ensures ends { (words : List (List ℕ)) (cast : List Player) → wanted words ≡ Some Asked.Run
@@ -154,7 +154,7 @@ fn run_source<P: ReportedNode, S: Source>(alloc: Global, source: &mut S) -> Resu
     }
 }
 
-/// What comes of a script that the source has, in a race.
+/// The end of the script that the source has, in a race.
 #[tactic(auto, using(crate::proofs::Ends::fails_in_race, crate::proofs::Ends::long_in_race))]
 fn race_source<R: Threads + Wait + Sync, P: ReportedNode + Send, S: Source>(
     rt: &R,
@@ -178,7 +178,7 @@ fn race_source<R: Threads + Wait + Sync, P: ReportedNode + Send, S: Source>(
     }
 }
 
-/// What a load comes to. Nothing is read for it.
+/// The end of a load. Nothing is read for it.
 #[tactic(auto, using(crate::proofs::Counts::wanted_load, crate::proofs::Counts::wanted_no_load))]
 fn run_load<P: ReportedNode>(alloc: Global, seed: u64, count: u32) -> Result<Ended, NoMemory>
     requires some { 1 ≤ count }
@@ -202,7 +202,8 @@ fn run_load<P: ReportedNode>(alloc: Global, seed: u64, count: u32) -> Result<End
     }
 }
 
-/// What the words and the source come to with nodes of this type, in one thread. It is nothing where they ask for a race.
+/// The end of a run of the words and the source with nodes of this type, in one thread. There is none where they ask
+/// for a race.
 #[tactic(auto, using(byte_streams::proofs::Known::keeps_all, crate::proofs::Counts::some_payments, crate::proofs::Counts::few_payments, crate::proofs::Counts::wanted_none, crate::proofs::Counts::wanted_run, crate::proofs::Counts::wanted_race))]
 pub(crate) fn end_in_one_thread<P: ReportedNode, S: Source>(
     alloc: Global,
@@ -226,7 +227,7 @@ pub(crate) fn end_in_one_thread<P: ReportedNode, S: Source>(
     }
 }
 
-/// What a race of the script comes to that the source has, between the nodes of the network and this cast.
+/// The end of a race of the script that the source has, between the nodes of the network and this cast.
 pub(crate) fn end_in_race<R: Threads + Wait + Sync, S: Source>(
     rt: &R,
     alloc: Global,
@@ -314,7 +315,8 @@ fn put_end<P: ReportedNode, K: Sink>(
 }
 
 /// Plays the script that it reads or that of a load, and writes the text of its report. It starts no thread and waits
-/// for nobody, so it returns. It answers nothing where the words ask for a race: then nothing was read and nothing written.
+/// for nobody, so it returns. It answers nothing where the words ask for a race: then nothing was read and nothing
+/// written.
 pub fn run_in_one_thread<S: Source, K: Sink>(
     alloc: Global,
     words: &[Label],
@@ -334,7 +336,8 @@ pub fn run_in_one_thread<S: Source, K: Sink>(
 /// thread. In a race the cast, of at most 16 actors that have seen nothing, acts beside the nodes.
 ///
 /// What it promises stands in the record `IsRun`, clause by clause:
-/// - `ended`, `write_fault`, `no_memory`: each status has its cause, and what it owes was written: whole, in part, not at all.
+/// - `ended`, `write_fault`, `no_memory`: each status has its cause, and what it owes was written: whole, in part,
+///   not at all.
 /// - `legal`: each reply of the history is the sequential adjudicator's at its place.
 /// - `conserved`: of each asset, what was deposited is what the channels hold and what the persons were paid.
 /// - `keeps`: each person with a node keeps its share and is paid on its exit, where its premises hold.

@@ -115,7 +115,8 @@ module _ (me : List ℕ) (ps : List Part) (held : List ℕ → ℕ) (asset : ℕ
   now-here : (s : List (List ℕ)) → outcome_in ls s was.channel ≡ one_of now.proposal (is_among was.channel s) now.outcome
   now-here s = outcome_in-by ls s (is_among was.channel s) was.channel (λ h. refl) ∙ now-by was now e ks ls f (is_among was.channel s)
 
-  -- the share falls by no more than k where, under each choice, what this channel comes to end with is worth no more than k less
+  -- the share falls by no more than k where, under each choice, what this channel comes to end with is worth no more
+  -- than k less
   pub becomes-shares : (k paid : ℕ)
       → ((o : List AssetOutcome) → CanEnd now o → (from : List AssetOutcome) × CanEnd was from × (list_in asset o ≡ list_in asset from)
       × ((taken : List (List ℕ)) → Takes [] (varying ks) taken → outcome_in ks taken was.channel ≡ from → (after : List ℕ → List Item)

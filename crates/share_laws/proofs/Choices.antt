@@ -8,7 +8,7 @@ use Rattle.share_laws.specs.Books.{Counting, one_of, outcome_in, varying}
 use Rattle.channel_values.specs.declared.value.AssetOutcome.{AssetOutcome}
 use Rattle.share_laws.proofs.Least.{Takes, skips, takes}
 
--- the choice that takes those of cs that pass the test, put before t
+-- the choice that takes those of cs that pass the test, before t
 abbrev pub choose : (List ℕ → Bool) → (cs t : List (List ℕ)) → List (List ℕ)
 choose p [] t = t
 choose p (c ∷ cs) t = cond (p c) (choose p cs (c ∷ t)) (choose p cs t)

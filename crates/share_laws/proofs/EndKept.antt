@@ -21,8 +21,8 @@ cond-below : (t : Bool) (x : ℕ) → cond t x 0 ≤ x
 cond-below true x = omega arith
 cond-below false x = omega arith
 
--- an end whose own guarantor pays, in numbers: t and n say whether it counts and is named, w whether its channel is named,
--- o whether its call is still to come
+-- an end whose own guarantor pays, in numbers: t and n say whether it counts and is named, w whether its channel is
+-- named, o whether its call is still to come
 own_channel_pays : (t n w o : Bool) (h h' a a' total x x' y y' k e : ℕ) → h ≤ h' + k → a ≤ a' → x ≤ x' + k → y + k ≤ y' + e →
     cond w (y + cond o (min x (cond t (min (cond n (h + a) 0) total) 0)) 0) 0 ≤ cond w (y' + cond o (min x' (cond t (min (cond n (h' + a') 0) total) 0)) 0) 0 + e
 own_channel_pays t n false o h h' a a' total x x' y y' k e i q u v = omega arith

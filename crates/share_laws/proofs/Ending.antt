@@ -1,4 +1,5 @@
--- The supported chain with whose outcome a channel becomes final, and the steps that it has after the participant's own state.
+-- The supported chain with whose outcome a channel becomes final, and the steps that it has after the participant's
+-- own state.
 use Rattle.std.proofs.Common.{◌≡◌, ◌≢◌, ℕ, zero, suc, ◌+◌, ◌*◌, ◌<◌, ◌≤◌, true, List, [], ◌∷◌, ◌++◌, ◌⊎◌, inl, inr, length, refl, sym, ◌∙◌, ap, subst, arith}
 use Rattle.std.specs.Prelude.{Option, Some}
 use Rattle.std.specs.List.{slice_get, AllByRecursion}

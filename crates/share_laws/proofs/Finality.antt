@@ -1,4 +1,5 @@
--- Channels end well, by the law that no outcome becomes final that is older, and by the steps after the last state signed.
+-- Channels end well, by the law that no outcome becomes final that is older, and by the steps after the last state
+-- signed.
 use Rattle.std.proofs.Common.{◌≡◌, ℕ, ◌+◌, ◌%◌, ◌<◌, ◌≤◌, Bool, true, false, cond, List, [], ◌∷◌, ◌++◌, ◌⊎◌, inl, inr, length, refl, sym, ◌∙◌, ap, subst, arith}
 use Rattle.std.specs.Prelude.{Option, Some, None}
 use Rattle.std.specs.Option.{option_map, option_or}

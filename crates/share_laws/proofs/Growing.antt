@@ -1,4 +1,5 @@
--- Nothing that pays nothing lowers a share: channels that start to count or become final, deposits, and parts that join.
+-- Nothing that pays nothing lowers a share: channels that start to count or become final, deposits, and parts that
+-- join.
 use Rattle.std.proofs.Common.{◌≡◌, ℕ, ◌+◌, ◌≤◌, Bool, true, false, List, [], ◌∷◌, ◌++◌, refl, arith, cond}
 use Rattle.channel_values.specs.declared.value.Dest.{Dest}
 use Rattle.funding_plans.specs.declared.plan.Part.{Part}

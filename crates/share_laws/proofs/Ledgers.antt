@@ -1,5 +1,5 @@
--- What each part is worth where the ledger l sets `all` aside for the channel x: before, with the items `free`, and after,
--- with the items `bound`.
+-- What each part is worth where the ledger l sets `all` aside for the channel x: before, with the items `free`, and
+-- after, with the items `bound`.
 use Rattle.std.proofs.Common.{◌≡◌, ℕ, ◌+◌, ◌-◌, ◌≤◌, min, Bool, true, false, ◌||◌, List, refl, sym, ◌∙◌, ap, subst, arith, cond, inl, inr, ◌⊎◌}
 use Rattle.std.proofs.lemmas.Bool.{false≢true}
 use Rattle.std.specs.Str.{bytes_eq}
@@ -219,7 +219,8 @@ module _ (held : List ℕ → ℕ) (counts : List ℕ → Bool) (list : List ℕ
             let e : end_worth bound v (end_reach c after v) ≡ end_worth free v (end_reach b reach v) =
             end-off v nj nx _ ∙ ap (λ (r : ℕ). end_worth free v r) (sym (rest refl)) in omega (arith, e)
 
-    -- what the end's channel reaches is the same: where the ledger sets aside for its guarantor, its joint channel names it not
+    -- what the end's channel reaches is the same: where the ledger sets aside for its guarantor, its joint channel
+    -- names it not
     pub end-reaches : (v : Virtual) → is_among (own_ledger v) ledgers ≡ true → bytes_eq v.joint l ≡ false →
         (bytes_eq (own_guarantor v) x ≡ true → Backs b me (End v) l x mine all) →
         virtual b (own_guarantor v) v.joint v.channel (end_reach b reach v) ≡ virtual c (own_guarantor v) v.joint v.channel (end_reach c after v)

@@ -31,7 +31,8 @@ use Rattle.channel_safety.proofs.Rowing.{legal-suffix}
 use Rattle.channel_safety.proofs.Safe.{Source, InChain, from_shown, Setting, valid-shown, MadeLine, SignedState, signed-state, made-line, by-key}
 use Rattle.share_laws.specs.HeldLaws.{NotedTell}
 
--- what is held is good, its states are states, and what the participant's key verifies in it was signed by one of these lines
+-- what is held is good, its states are states, and what the participant's key verifies in it was signed by one of
+-- these lines
 pub record Own (r : Rules) (F : FixedParts) (me : ℕ) (front : List Line) (seen : ℕ) (w : Marked) : Type 0 where
   pub good : IsGood r F w
   pub states : AreStates w.states

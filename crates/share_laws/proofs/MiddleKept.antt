@@ -25,8 +25,8 @@ second_gain to (d ∷ e ∷ ds) k = gain to e k
 abbrev pub Idle : Books → List ℕ → ℕ → List ℕ → Type 0
 Idle b f k g = (lost f g k ≡ 0) ⊎ (b.counts g ≡ false)
 
--- none of an intermediary's guarantors that count pays; or one does, for an item of the joint channel that its list names, and
--- the item falls by what is paid
+-- none of an intermediary's guarantors that count pays; or one does, for an item of the joint channel that its list
+-- names, and the item falls by what is paid
 pub data MiddlePays (b c : Books) (f s : List ℕ) (to : Dest) (k : ℕ) (me : List ℕ) (v : Virtual) : Type 0 where
   other : Idle b f k v.guarantor_a → Idle b f k v.guarantor_b → MiddlePays b c f s to k me v
   empty : b.items v.joint ≡ [] → MiddlePays b c f s to k me v

@@ -26,8 +26,9 @@ use Rattle.share_laws.proofs.MiddleKept.{second_gain, MiddlePays, other, empty, 
 use Rattle.channel_safety.proofs.Tests.{some-eq}
 use Rattle.share_laws.proofs.Apart.{apart-rest}
 
--- How k is paid from f to `to` where f guarantees the joint channel with this list: nothing is, or f doesn't count, or the
--- joint channel doesn't; or a claim pays the destination at a position of the list, after those before it.
+-- How k is paid from f to `to` where f guarantees the joint channel with this list. Nothing is paid, or f doesn't
+-- count, or the joint channel doesn't. Or a claim pays the destination at a position of the list, after those before
+-- it.
 pub data PaysBy (b c : Books) (f s : List ℕ) (to : Dest) (k : ℕ) (joint : List ℕ) (list : List Dest) : Type 0 where
   still : k ≡ 0 → PaysBy b c f s to k joint list
   silent : b.counts f ≡ false → PaysBy b c f s to k joint list

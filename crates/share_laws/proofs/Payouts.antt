@@ -1,4 +1,5 @@
--- What an accepted transfer or claim says: of which item it pays, how much is due, and that its outcomes are the settled ones.
+-- What an accepted transfer or claim says: of which item it pays, how much is due, and that its outcomes are the
+-- settled ones.
 use Rattle.std.proofs.Common.{◌≡◌, ℕ, ◌≤◌, true, false, not, List, refl, ap, subst}
 use Rattle.std.specs.Prelude.{◌==◌, nat_le, length, slice_get, slice_index_or, Option, Some, None, Ok}
 use Rattle.std.specs.Str.{bytes_eq}

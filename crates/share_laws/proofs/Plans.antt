@@ -1,4 +1,5 @@
--- What a whole plan keeps: no channel pays in two parts, the channels of a part are apart, and each front of it is whole.
+-- What a whole plan keeps: no channel pays in two parts, the channels of a part are apart, and each front of it is
+-- whole.
 use Rattle.std.proofs.Common.{◌≡◌, ℕ, Bool, true, false, ◌||◌, List, [], ◌∷◌, ◌++◌, flat_map, inl, inr, refl, sym, ◌∙◌, ap, subst}
 use Rattle.std.specs.List.{AllByRecursion}
 use Rattle.std.specs.Str.{bytes_eq}

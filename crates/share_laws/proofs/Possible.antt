@@ -52,7 +52,8 @@ abbrev pub lowered : (s : List ℕ) (asset place k : ℕ) → List ℕ → List 
 lowered s asset place k n o = cond (bytes_eq s n) (lower_outcome o asset place k) o
 
 module _ (r : Rules) (e : Entry) (past : List Entry) (quiet : IsQuiet r e) (front : List Line) (seen : AreSeen past front) where
-  -- where an entry changes what is left of a final channel's outcome by g, it changes what the channel can end with by g
+  -- where an entry changes what is left of a final channel's outcome by g, it changes what the channel can end with
+  -- by g
   possible_changed : (g : List ℕ → List AssetOutcome → List AssetOutcome) →
       ((n : List ℕ) → is_final (mode r n past) ≡ false → (o : List AssetOutcome) → g n o ≡ o) →
       ((n : List ℕ) (o : List AssetOutcome) → rest_outcome (paid_of (e ∷ past) n) o ≡ g n (rest_outcome (paid_of past n) o)) →

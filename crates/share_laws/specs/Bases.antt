@@ -19,7 +19,7 @@ bases_of (Middle v) = v.ledger_a ∷ v.ledger_b ∷ v.joint ∷ []
 abbrev pub all_bases : List Part → List (List ℕ)
 all_bases parts = flat_map bases_of parts
 
--- In an asset p is no worse than o for the person me as the outcome of n: it affords as much, and where parts rest on
+-- In an asset p is no worse than o for the person me as the outcome of n. It affords as much, and where parts rest on
 -- the channel it is the same.
 pub record NoWorse (asset : ℕ) (me : List ℕ) (on : List (List ℕ)) (n : List ℕ) (o p : List AssetOutcome) : Type 0 where
   pub affords : (r : ℕ) → aff (items_in asset o) r (Person me) ≤ aff (items_in asset p) r (Person me)

@@ -90,7 +90,7 @@ of_joint = ends joint (pays (item (Channel channel) 1000 ∷ item (Person i) 100
 abbrev pub of_channel : Counting
 of_channel = ends channel (pays (item (Person a) 460 ∷ item (Person b) 540 ∷ []))
 
--- the share of a person of whom these channels count, in a plan that is sound and funded
+-- the share of a person whose channels these are that count, in a plan that is sound and funded
 pub record Holds (me : List ℕ) (parts : List Part) (counting : List Counting) (share : ℕ) : Type 0 where
   pub share_is : share_of me 0 parts held counting 0 ≡ share
   pub funded : is_funded me parts held counting 0 ≡ true

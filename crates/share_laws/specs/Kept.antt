@@ -1,4 +1,4 @@
--- Whose doing may lower a share: nobody's but its person's signature, and that no more than a payment ordered.
+-- Whose actions may lower a share: only its person's signature, and that by no more than a payment ordered.
 use Rattle.std.specs.Prelude.{◌≡◌, ℕ, ◌+◌, ◌≤◌, ◌==◌, Bool, true, false, List, [], ◌∷◌, length, if◌then◌else◌}
 use Rattle.channel_values.specs.Rules.{Rules}
 use Rattle.call_history.specs.declared.entry.Entry.{Entry}
@@ -27,8 +27,8 @@ abbrev pub last_order : (ℕ → Order) → List Line → Order
 last_order orders [] = other
 last_order orders (x ∷ front) = if is_followed x.deed then orders (length front) else other
 
--- What an honest participant keeps when it signs a state after these entries and lines: the share is lowered by the
--- payment that was ordered right before, and by nothing where none was and the plan is funded.
+-- What an honest participant keeps when it signs a state after these entries and lines. The share is lowered by the
+-- payment that was ordered right before. Where none was ordered and the plan is funded, it isn't lowered.
 pub record SignsFairly (r : Rules) (me : List ℕ) (orders : ℕ → Order) (past : List Entry) (x : Line)
     (front : List Line) : Type 0 where
   pub payments :

@@ -17,8 +17,8 @@ AreInOrder (x ∷ front) =
 abbrev pub SignNothing : List Line → Type 0
 SignNothing lines = (x : Line) → In x lines → is_signing x.deed ≡ false
 
--- at each place each state that the person me signs lowers its share by the payment that was ordered right before, and by
--- nothing where none was and the plan is funded
+-- at each place each state that the person me signs lowers its share by the payment that was ordered right before;
+-- where none was and the plan is funded, by nothing
 abbrev pub SignaturesAreFair : Rules → (me : List ℕ) → (ℕ → Order) → List Entry → List Line → Type 0
 SignaturesAreFair r me orders h journal =
     (past : List Entry) (x : Line) (front : List Line) → IsPlace h journal past front

@@ -1,5 +1,5 @@
--- Plans in which each channel stands once, and each ledger is a root, or the channel of an end, that was opened before the
--- parts on it.
+-- Plans in which each channel stands once, and each ledger is a root, or the channel of an end, that was opened
+-- before the parts on it.
 use Rattle.std.specs.Prelude.{◌≡◌, ℕ, true, false, List, [], ◌∷◌, ◌⊎◌}
 use Rattle.std.specs.Str.{bytes_eq}
 use Rattle.channel_values.specs.Outcomes.{AreApart}

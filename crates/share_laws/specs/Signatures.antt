@@ -47,8 +47,8 @@ pub record IsPaidAt (r : Rules) (me : List ℕ) (past : List Entry) (front : Lis
   pub list : list_in asset o ≡ list_in asset from
   pub affords : (n : ℕ) → aff (items_in asset from) n (Person me) ≤ aff (items_in asset o) n (Person me) + k
 
--- A signature keeps the share in each asset where the plan is funded, the channel goes on to count, and each outcome
--- with which it can end then is fair, or it didn't count before.
+-- A signature keeps the share in each asset where the plan is funded and the channel goes on to count. Each outcome
+-- with which the channel can end then is fair, or it didn't count before.
 abbrev pub SignaturesKeepShares : Type 0
 SignaturesKeepShares =
     (r : Rules) (me : List ℕ) (orders : ℕ → Order) (past : List Entry) (front : List Line)

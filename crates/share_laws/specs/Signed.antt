@@ -66,9 +66,9 @@ HasSigned r me journal (Middle v) =
     × (IsNoPayment r journal v.guarantor_b
     × ((b : Dest) × SignsGuarantees journal v.guarantor_b v.joint (Channel v.channel ∷ b ∷ Person me ∷ [])))
 
--- What a person keeps that plans fairly: each channel stands once in its plan, and each ledger is a root, or the channel of
--- an end, that was opened before; its channels differ; no part rests on a payment channel; it signs guarantees alone in its
--- guarantors; and each signature lowers its share no more than it may.
+-- What a person keeps that plans fairly. Each channel stands once in its plan, and each ledger is a root, or the
+-- channel of an end, that was opened before. Its channels differ, and no part rests on a payment channel. It signs
+-- guarantees alone in its guarantors, and each signature lowers its share no more than it may.
 pub record PlansFairly (r : Rules) (me : List ℕ) (orders : ℕ → Order) (h : List Entry)
     (journal : List Line) : Type 0 where
   pub whole : IsPlan (plan orders journal)

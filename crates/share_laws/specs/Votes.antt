@@ -21,8 +21,8 @@ MovesEndAsWanted =
     → wanted_toward n target s own ≡ Some t → (o : List AssetOutcome) → In o (outcomes_of t)
     → (o ≡ s.outcome) ⊎ (o ≡ target)
 
--- Who signs the move toward a target that is fair, after a state whose outcome the channel could end with, keeps its
--- share where its plan is funded.
+-- A participant that signs the move toward a fair target, after a state whose outcome the channel could end with,
+-- keeps its share where its plan is funded.
 abbrev pub VotesKeepShares : Type 0
 VotesKeepShares =
     (r : Rules) (me : List ℕ) (orders : ℕ → Order) (past : List Entry) (front : List Line)

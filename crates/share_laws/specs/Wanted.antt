@@ -78,8 +78,8 @@ FirstStatesKeepShares =
     → (asset : ℕ) → share r me orders past front asset
     ≤ share r me orders past (signing r past f state signature adds ∷ front) asset
 
--- A state that proposes nothing and whose outcome is one with which the channel could end, as a pass, a turn of the
--- set-up and a final state, keeps it too; in a channel on which no part stands it may also be one that affords no less.
+-- A state that proposes nothing, such as a pass, a turn of the set-up and a final state, keeps it too. Its outcome is
+-- one with which the channel could end. In a channel on which no part stands it may also be one that affords no less.
 abbrev pub WantedRepeatsKeepShares : Type 0
 WantedRepeatsKeepShares =
     (r : Rules) (me : List ℕ) (orders : ℕ → Order) (past : List Entry) (front : List Line)
@@ -100,7 +100,7 @@ WantedRepeatsKeepShares =
 abbrev pub paid_over : (me other : List ℕ) (k : ℕ) → List Item → List Item
 paid_over me other k items = raised (Person other) k (lowered (Person me) k items)
 
--- It lowers what the items afford the person by no more than k, whoever's item stands first.
+-- It lowers what the items afford the person by no more than k, no matter whose item stands first.
 abbrev pub PaymentsAfford : Type 0
 PaymentsAfford =
     (me other : List ℕ) (k : ℕ) (items : List Item) → bytes_eq me other ≡ false →

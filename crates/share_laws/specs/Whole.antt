@@ -1,4 +1,4 @@
--- Whose doing may lower a share, over a whole history and journal: from what is known at each place.
+-- Whose actions may lower a share, over a whole history and journal: from what is known at each place.
 use Rattle.std.specs.Prelude.{◌≡◌, ℕ, ◌≤◌, true, false, List, ◌∷◌, length}
 use Rattle.channel_values.specs.Parts.{FixedParts}
 use Rattle.call_history.specs.Mode.{is_final}

@@ -64,9 +64,9 @@ second_amt items [] = 0
 second_amt items (d ∷ []) = 0
 second_amt items (d ∷ e ∷ ds) = amt items e
 
--- What the joint channel's amounts x of the channel, a of A and b of B leave an intermediary of its guarantors'
--- reaches: of both together, or of each after its claim for the channel. The tests say what is still owed: the channel
--- by A's guarantor, the intermediary by A's and by B's.
+-- What the joint channel leaves an intermediary of its guarantors' reaches, with the amounts x of the channel, a of A
+-- and b of B. It is what is left of both together, or of each after its claim for the channel. The tests say what is
+-- still owed: the channel by A's guarantor, the intermediary by A's and by B's.
 abbrev pub left_between : (s t u : Bool) (x a b ra rb : ℕ) → ℕ
 left_between s t u x a b ra rb =
     max (if s then (ra + rb) - (x + a + b) else 0) ((if t then ra - (x + a) else 0) + (if u then rb - (x + b) else 0))

@@ -3,15 +3,15 @@
 
 ghost use Rattle.share_laws.specs.HeldLaws.{HashedChainsEndPossibly, HashesTellNoted, HeldChainsEndPossibly};
 
-/// Where nothing is forged, nothing collides and the rules' steps keep what is possible, each supported chain that an
-/// honest participant holds at a place ends with fewer than n steps of others after the state that it signed last, in an
-/// outcome that stands for one that was possible then.
+/// Nothing is forged, nothing collides and the rules' steps keep what is possible. Then each supported chain that an
+/// honest participant holds at a place ends with fewer than n steps of others after the state that it signed last.
+/// Its outcome stands for one that was possible then.
 pub fn held_chains_end_possibly()
     ensures { HeldChainsEndPossibly }
 {}
 
-/// Where none of the strings that a history and a journal hash collide, a state that was noted and one that was signed are
-/// told by their digests.
+/// Where none of the strings that a history and a journal hash collide, the digests of a state that was noted and of
+/// one that was signed determine them.
 pub fn hashes_tell_noted()
     ensures { HashesTellNoted }
 {}

@@ -1,4 +1,4 @@
-//! Whose doing may lower a share, over every history and every journal, under any rules.
+//! Whose actions may lower a share, over every history and every journal, under any rules.
 
 ghost use Rattle.share_laws.specs.Finality.{FinalsEndWell, HonestSharesAreKept};
 ghost use Rattle.share_laws.specs.Lasting.{HonestJournalsAreInOrder, SharesLast};
@@ -12,8 +12,8 @@ pub fn flows_keep_shares()
     ensures { FlowsKeepShares }
 {}
 
-/// No other entry lowers it, where each channel that becomes final by it does so by an outcome that is no worse than
-/// one that was possible: a channel only starts to count, or goes on as it was.
+/// No other entry lowers it, where each channel that becomes final by it does so with an outcome that is no worse
+/// than one that was possible. A channel only starts to count, or goes on as it was.
 pub fn turns_keep_shares()
     ensures { TurnsKeepShares }
 {}
@@ -28,9 +28,9 @@ pub fn nobody_lowers_shares()
     ensures { NobodyLowersShares }
 {}
 
-/// With watchers in time, nothing forged and no collision a channel of an honest participant becomes final with the
-/// outcome of the last state that it signed, with the one proposed there, or in a payment channel with one that is no
-/// worse for it.
+/// Watchers are in time, nothing is forged and nothing collides. Then a channel of an honest participant becomes
+/// final with the outcome of the last state that it signed, or with the one proposed there. A payment channel may
+/// also become final with one that is no worse for it.
 pub fn finals_end_well()
     ensures { FinalsEndWell }
 {}

@@ -2,8 +2,8 @@
 
 ghost use Rattle.share_laws.specs.SigningLaws.{FairMovesKeepWorth, JointMovesKeepWorth, LedgerMovesKeepWorth, PaymentsLowerWorth};
 
-/// A ledger that sets money aside for a part of the plan, or takes it back, and a joint channel that joins what its
-/// guarantors guarantee, or parts it, leave what the plan is worth, where the ledgers are funded.
+/// A ledger may set money aside for a part of the plan, or take it back. A joint channel may join what its guarantors
+/// guarantee, or part it. Neither changes what the plan is worth, where the ledgers are funded.
 pub fn moves_keep_worth()
     ensures ledgers { LedgerMovesKeepWorth }
     ensures joints { JointMovesKeepWorth }

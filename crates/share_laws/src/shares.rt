@@ -2,9 +2,9 @@
 
 ghost use Rattle.share_laws.specs.SigningLaws.{PaymentsLowerShares, SigningsKeepShares, StartsKeepShares};
 
-/// Where a plan is funded, what a participant signs in a channel doesn't lower its share, if under each choice each
-/// outcome that can come of it is one that could come before, one that affords no less, or a ledger's or a joint
-/// channel's move.
+/// Where a plan is funded, what a participant signs in a channel doesn't lower its share, by what can come of it
+/// under each choice. Each such outcome could come before, affords no less, or is a ledger's or a joint channel's
+/// move.
 pub fn signings_keep_shares()
     ensures { SigningsKeepShares }
 {}

@@ -2,7 +2,7 @@
 
 ghost use Rattle.share_laws.specs.Wanted.{FirstStatesKeepShares, PaymentsAfford, WantedRepeatsKeepShares, WantedVotesKeepShares};
 
-/// The move toward a target that a ledger or a joint channel has for a part of a funded plan keeps the share, and so does
+/// The move toward a target that a ledger or a joint channel has for a part of a funded plan keeps the share. So does
 /// a state that repeats an outcome.
 pub fn wanted_states_keep_shares()
     ensures votes { WantedVotesKeepShares }

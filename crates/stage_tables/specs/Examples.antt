@@ -1,4 +1,4 @@
--- What fits a person with a running ledger, by examples: each holds, and fails where one condition is turned.
+-- What fits a person with a running ledger, by examples: each holds, and fails where one condition is reversed.
 use Rattle.std.specs.Prelude.{◌≡◌, ℕ, ◌-◌, ◌^◌, Bool, true, false, List, [], ◌∷◌, replicate}
 use Rattle.channel_values.specs.Parts.{fixed_with, state_with}
 use Rattle.channel_values.specs.declared.value.AssetOutcome.{AssetOutcome}

@@ -1,6 +1,7 @@
--- Whether the fixed parts, the people and the amounts of a command that opens fit a node's facts: of a channel of two people through
--- an intermediary by its route, which is a payment channel on roots, a virtual ledger on roots, or a payment channel one of whose
--- ledgers is a virtual one. That the channels are new, and that the ledgers are in the plan, is asked elsewhere.
+-- Whether the fixed parts, the people and the amounts of a command that opens fit a node's facts. A channel of two
+-- people through an intermediary fits by its route. It is a payment channel on roots, a virtual ledger on roots, or a
+-- payment channel one of whose ledgers is a virtual one. That the channels are new, and that the ledgers are in the
+-- plan, is asked elsewhere.
 use Rattle.std.specs.Prelude.{ℕ, ◌+◌, ◌-◌, ◌*◌, ◌^◌, ◌==◌, Bool, false, not, ◌&&◌, ◌||◌, nat_le, List, [], ◌∷◌, if◌then◌else◌}
 use Rattle.std.specs.List.{list_all, list_any}
 use Rattle.std.specs.Str.{bytes_eq}
@@ -94,7 +95,7 @@ runs_at_end f name part = is_end_of name part && (stage_of f part == running par
 abbrev pub is_running_end : FactsOf → List ℕ → Bool
 is_running_end f name = list_any (runs_at_end f name) f.plan.parts
 
--- a running consensus channel of these two people in this order, at one of whose ends the node is, and who afford it
+-- a running consensus channel of these two people in this order, who can afford it; the node is at one of its ends
 abbrev pub lends_virtual : FactsOf → List ℕ → Stake → Bool
 lends_virtual f name k =
     (is_running_end f name && is_between k (place_in name f.places))

@@ -2,7 +2,7 @@
 
 ghost use Rattle.stage_tables.specs.Examples.{Examples};
 
-/// Of a person with one running ledger: what fits it, and what doesn't where one condition is turned.
+/// What fits a person with one running ledger, and what doesn't where one condition is reversed.
 pub fn examples_hold()
     ensures { Examples }
 {}

@@ -93,7 +93,8 @@ fn is_running_root(facts: &Facts, name: &Name) -> bool
     is_root_in(facts.plan.parts.as_slice(), name) && stage(&root, facts) == root.running()
 }
 
-/// Whether it is a running consensus root of the two people in their order, who afford what they are to have in it.
+/// Whether it is a running consensus root of the two people in their order, who can afford what they are to have in
+/// it.
 pub(crate) fn lends(facts: &Facts, name: &Name, stake: &Stake) -> bool
     ensures { result ≡ told.lends facts.now name.now stake.now }
 {

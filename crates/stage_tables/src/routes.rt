@@ -133,8 +133,8 @@ fn are_route_channels(
         && is_channel_of(app, &[*first, *second], channel)
 }
 
-/// Whether the fixed parts, the people and the amounts of such an opening fit, and its ledgers lend what it needs. That its
-/// channels are new, and that the ledgers are in the plan, is asked elsewhere.
+/// Whether the fixed parts, the people and the amounts of such an opening fit, and its ledgers lend what it needs.
+/// That its channels are new, and that the ledgers are in the plan, is asked elsewhere.
 pub(crate) fn fits_route(facts: &Facts, funding: &VirtualFunding) -> bool
     ensures { result ≡ told.fits_route facts.now funding.now.route funding.now.ledgers funding.now.guarantors
         funding.now.joint funding.now.channel funding.now.asset funding.now.amounts }

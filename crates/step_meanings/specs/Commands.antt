@@ -7,7 +7,7 @@ use Rattle.step_meanings.specs.declared.effect.Effect.TheVariants.{Tell}
 use Rattle.step_meanings.specs.declared.names.Names.{Names}
 use Rattle.script_steps.specs.declared.step.Step.{Step}
 
--- the command that nodes are told, if they are told one
+-- the command that nodes are given, if they are given one
 abbrev pub command_in : Effect → Option Command
 command_in (Tell numbers command) = Some command
 command_in _ = None

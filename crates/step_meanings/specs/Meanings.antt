@@ -1,4 +1,5 @@
--- What each step of a script means: what its names stand for then, and what is to be done, which a run and a race share.
+-- What each step of a script means: what its names stand for then, and what is to be done, which a run and a race
+-- share.
 use Rattle.std.specs.Prelude.{ℕ, ◌+◌, Bool, true, false, List, [], ◌∷◌, ◌++◌, length, nat_le, Option, Some, None, unwrap_or, if◌then◌else◌}
 use Rattle.std.specs.Option.{option_map}
 use Rattle.std.specs.Result.{result_ok}
@@ -47,7 +48,7 @@ doing n effect = record { names = n; effect = effect }
 abbrev pub calling : Names → Call → Meaning
 calling n call = doing n (Enter (ops.Call call))
 
--- the nodes of the people of these names are told a command
+-- the nodes of the people of these names are given a command
 abbrev pub telling : Names → List (List ℕ) → Command → Meaning
 telling n who command = doing n (Tell (numbers_by n.people who) command)
 

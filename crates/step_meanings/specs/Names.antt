@@ -38,7 +38,8 @@ position_of keys key = unwrap_or (position (λ k. bytes_eq k key) keys) 255
 abbrev pub sign_state : List Person → List ℕ → FixedParts → StateParts → Option SignedBy
 sign_state people by f s = sign people by (message_of_state (digest_of_state (name_of f) (state s)))
 
--- the person of this name signs a challenge on the last of these states; without one the signature is empty and takes no index
+-- the person of this name signs a challenge on the last of these states; without one the signature is empty and takes
+-- no index
 abbrev pub sign_challenge : List Person → List ℕ → FixedParts → List NamedState → ℕ → Option SignedBy
 sign_challenge people by f [] challenger = Some (record { signature = []; people = people })
 sign_challenge people by f (last ∷ earlier) challenger = sign people by (message_of_challenge (digest_of_state (name_of f) (state last.signed.state)) challenger)

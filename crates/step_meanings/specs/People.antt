@@ -9,7 +9,7 @@ use Rattle.step_meanings.specs.declared.people.Person.{Person}
 use Rattle.lms_signatures.specs.Made.{made_bytes}
 use Rattle.lms_signatures.specs.Signing.{Signing}
 
--- one look-up after another, which comes to nothing where one of them does
+-- one look-up after another, which finds nothing where one of them does
 infixl 10 ◌>>=◌
 abbrev pub ◌>>=◌ : {A B : Type 0} → Option A → (A → Option B) → Option B
 None >>= f = None

@@ -129,8 +129,8 @@ fn marks_of(alloc: Global, keys: &[Key], listed: &[NamedState]) -> Result<Vec<Ma
     Ok(marks)
 }
 
-/// The chain of the states that a script lists, the last name's first: each participant has the mark of the last that it
-/// signed.
+/// The chain of the states that a script lists, the last name's first: each participant has the mark of the last that
+/// it signed.
 pub fn chain_of(alloc: Global, fixed: &Fixed, listed: &[NamedState]) -> Result<Chain, NoMemory>
     requires { length listed.now ≤ 4 }
     ensures { IfOk result (λ chain. chain ≡ chain_of fixed.now listed.now) }

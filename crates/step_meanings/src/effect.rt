@@ -1,4 +1,4 @@
-//! What a step asks to be done, when it is known what its names stand for.
+//! What a step asks for, once it is known what its names stand for.
 
 use call_history::Op;
 use channel_values::{Key, Label, Listed, Name};
@@ -13,7 +13,7 @@ pub enum Effect {
     Enter(Op),
     /// A node joins, with this number and this signer, and with so many watchers.
     Join(u32, Signer, u32),
-    /// The nodes of these numbers are told a command, one after another.
+    /// The nodes of these numbers are given a command, one after another.
     Tell(Listed<u32>, Command),
     /// A message is on its way to a person.
     Post(Name, Listed<u8>),

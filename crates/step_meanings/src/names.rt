@@ -176,7 +176,7 @@ impl Names {
         }
     }
 
-    /// What all that names stand for is allocated by.
+    /// The allocator of all that names stand for.
     pub fn alloc(&self) -> Global {
         self.states.allocator()
     }

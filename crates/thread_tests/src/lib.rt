@@ -1,4 +1,4 @@
-//! A test crate: a counter that threads share through a book. No program stands on it.
+//! A test crate: a counter that threads share through a book. No program rests on it.
 #![tactic(auto)]
 
 #[cfg(test)]

@@ -1,5 +1,5 @@
-//! Chains of payment channels of two people with keys, and challenges with them. The first person moves to even turns, and
-//! pays 1 at turns 4 and 6.
+//! Chains of payment channels of two people with keys, and challenges with them. The first person moves to even
+//! turns, and pays 1 at turns 4 and 6.
 #![tactic(auto)]
 
 #[cfg(test)]

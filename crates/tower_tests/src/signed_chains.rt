@@ -1,5 +1,5 @@
-//! Chains of payment channels of two people with keys, and challenges with them. The first person moves to even turns, and
-//! pays 1 at turns 4 and 6.
+//! Chains of payment channels of two people with keys, and challenges with them. The first person moves to even
+//! turns, and pays 1 at turns 4 and 6.
 
 use call_history::{Call, ChallengeCall, Entry, Op, Reply};
 use channel_values::{
@@ -110,21 +110,21 @@ fn chain_by(
     })
 }
 
-/// The chain of an even turn and the turn before it, of the channel with the first nonce, which both signed as if it were of
-/// the channel with the second. None where memory is gone.
+/// The chain of an even turn and the turn before it, of the channel with the first nonce. Both signed it as if it
+/// were of the channel with the second. None when memory runs out.
 pub fn chain_signed_as(alloc: Global, nonces: [u64; 2], last: u64) -> Option<Chain> {
     let mut one = signer_of(alloc, 1)?;
     let mut two = signer_of(alloc, 2)?;
     chain_by(alloc, &mut one, &mut two, nonces, last)
 }
 
-/// The chain of an even turn and the turn before it, which both signed. None where memory is gone.
+/// The chain of an even turn and the turn before it, which both signed. None when memory runs out.
 pub fn chain(alloc: Global, nonce: u64, last: u64) -> Option<Chain> {
     chain_signed_as(alloc, [nonce, nonce], last)
 }
 
-/// The entry of the second person's challenge with such a chain, accepted at time 0. The challenge itself isn't signed,
-/// which nobody who follows entries looks at. None where memory is gone.
+/// The entry of the second person's challenge with such a chain, accepted at time 0. The challenge itself isn't
+/// signed, since nobody who follows entries looks at that. None when memory runs out.
 pub fn challenge(alloc: Global, nonce: u64, last: u64) -> Option<Entry> {
     let chain = chain(alloc, nonce, last)?;
     Some(Entry {

@@ -44,7 +44,7 @@ const WITHOUT_P: [Row; 4] = [
     Row::Look(Seen::Challenge(1, 4), &[]),
 ];
 
-/// The one who was admitted last hands first.
+/// The client that was admitted last hands first.
 const IN_ORDER: [Row; 6] = [
     Row::Admit(Q, true),
     Row::Admit(P, true),

@@ -1,8 +1,8 @@
 //! Reads calls and messages that a writer in another language spelled, copies calls in entries, and writes all back.
 //!
-//! A line of the file is `NAME KIND HEX`: the kind is `call` or `message`, the bytes are in hex, `-` for none. Printed
-//! is a line `NAME same` where the same bytes are written back, `NAME other` where others are, and else
-//! `NAME FAULT PLACE` with the first fault.
+//! A line of the file is `NAME KIND HEX`: the kind is `call` or `message`, the bytes are in hex, `-` for none. A line
+//! `NAME same` is printed where the same bytes are written back, `NAME other` where others are, and else `NAME FAULT
+//! PLACE` with the first fault.
 ghost use Rattle.std.specs.Prelude.{◌≡◌};
 ghost use Rattle.call_history.specs.Limits.{KeepsCall};
 ghost use Rattle.call_history.specs.declared.call.Call.{Call as AnyCall};

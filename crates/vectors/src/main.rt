@@ -1,9 +1,9 @@
 //! Vectors of other writers: signatures and keys (RFC 8554), calls and messages.
 //!
-//! Printed are, for each line of the first file, `NAME accept` or `NAME reject`; then, for the three names whose keys a
-//! signer can make, `key NAME HEX` and, for each line of that name in the second file, `NAME same` where the signer's
-//! next signature of the message is the one of the line, and else `NAME other`; then what `calls` says of the lines of
-//! the third file. The notes in data/ say how the files were made.
+//! For each line of the first file `NAME accept` or `NAME reject` is printed. Then `key NAME HEX` is printed for the
+//! three names whose keys a signer can make. For each line of that name in the second file, `NAME same` follows where
+//! the signer's next signature of the message is that of the line, else `NAME other`. Last is what `calls` says of
+//! the lines of the third file. The notes in data/ say how the files were made.
 #![tactic(auto)]
 
 mod calls;

@@ -60,7 +60,7 @@ abbrev pub own : List ℕ → List Act → List Act
 own q [] = []
 own q (act ∷ acts) = if is_own q act then act ∷ own q acts else own q acts
 
--- whose own calls are the same is answered the same, whatever others call
+-- a client whose own calls are the same is answered the same, whatever others call
 abbrev pub ClientsAreApart : Type 0
 ClientsAreApart =
     (r : Rules) (q : List ℕ) (a b : List Act) → own q a ≡ own q b → all_told r q unmanned a ≡ all_told r q unmanned b

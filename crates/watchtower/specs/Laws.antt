@@ -1,4 +1,4 @@
--- What a caller that goes on from a legal history has for granted.
+-- What a caller that goes on from a legal history may take for granted.
 use Rattle.std.specs.Prelude.{◌≡◌, true, List}
 use Rattle.channel_values.specs.Rules.{Rules}
 use Rattle.call_history.specs.History.{Legal, now_of}

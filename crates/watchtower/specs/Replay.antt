@@ -24,7 +24,7 @@ abbrev pub handing : Rules → List ℕ → List Client → HeldChain → List C
 handing r name clients held =
     taken name (named held.chain) clients (hand_fault r name (named held.chain) clients)
 
--- who is there isn't admitted again; the chains are handed in any case
+-- a client that was admitted isn't admitted again; its chains are handed in any case
 abbrev pub enrolling : Rules → List Client → List ℕ → List HeldChain → List Client
 enrolling r clients name chains = fold (handing r name) (admitted name clients) chains
 
@@ -50,8 +50,8 @@ answer_lines number answer = flat_map (call_lines number answer.0) answer.1
 abbrev pub look_lines : ℕ → List (List ℕ × List Call) → List (List ℕ)
 look_lines number told = flat_map (answer_lines number) told
 
--- of a history, the newest entry first: the lines of a look after each entry, in which each client is told what a watcher
--- of its own would answer there
+-- of a history, the newest entry first: the lines of a look after each entry, in which each client is answered what a
+-- watcher of its own would answer there
 abbrev pub replay_lines : Rules → List Client → List Entry → List (List ℕ)
 replay_lines r clients [] = []
 replay_lines r clients (e ∷ past) =

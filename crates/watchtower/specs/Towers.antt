@@ -65,7 +65,7 @@ abbrev pub replaced : HeldChain → List HeldChain → Option ℕ → List HeldC
 replaced new chains None = chains ++ new ∷ []
 replaced new chains (Some place) = slice_set chains place new
 
--- the chains with one more: in the place of that of its channel, or after the others
+-- the chains with one more: it replaces that of its channel, or comes after the others
 abbrev pub handed : HeldChain → List HeldChain → List HeldChain
 handed new chains = replaced new chains (position (is_of new.channel) chains)
 

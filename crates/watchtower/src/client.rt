@@ -65,7 +65,7 @@ pub(crate) fn check(chains: &[HeldChain], new: &HeldChain) -> Result<(), HandFau
     Ok(())
 }
 
-/// Places a chain in the place of that of its channel, or after the others.
+/// Replaces the chain of the same channel, or adds it after the others.
 pub(crate) fn put(chains: &mut Listed<HeldChain>, new: HeldChain) -> Result<(), NoMemory>
     ensures ok { OnOk result (chains.new ≡ handed new chains.old) }
     ensures err { OnErr result (chains.new ≡ chains.old) }

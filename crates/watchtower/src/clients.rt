@@ -11,7 +11,7 @@ use crate::holders::Holders;
 use channel_values::{Chain, Listed, Name, NoMemory};
 use indexmap::IndexSet;
 
-/// Admits a client that isn't there.
+/// Admits a client that isn't admitted yet.
 #[tactic(auto, using(crate::proofs::Admitting::was_admitted, crate::proofs::Admitting::admitted_old, crate::proofs::Admitting::admitted_new, crate::proofs::Admitting::names_behind))]
 pub(crate) fn admit(
     names: &mut IndexSet<Name>,

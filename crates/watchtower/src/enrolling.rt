@@ -21,7 +21,8 @@ fn hand(tower: &mut Tower, client: &Name, held: &HeldChain) -> Result<(), NoMemo
     }
 }
 
-/// Admits a client that isn't there, and hands its chains in their order. A chain that is refused is passed over.
+/// Admits a client that isn't admitted yet, and hands its chains in their order. A chain that is refused is passed
+/// over.
 pub fn enroll(tower: &mut Tower, client: &Name, chains: &[HeldChain]) -> Result<(), NoMemory>
     ensures { OnOk result (tower.new
         ≡ record tower.old { clients = enrolling real tower.old.clients client.now chains.now }) }

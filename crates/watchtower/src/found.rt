@@ -54,7 +54,7 @@ pub(crate) fn gathered(lists: Vec<Vec<Found>>, alloc: Global) -> Result<Vec<Foun
     Ok(found)
 }
 
-/// Lets go what was found at lower places, which are the last.
+/// Drops what was found at lower places, which are the last.
 fn skip(found: &mut Vec<Found>, place: usize)
     ensures { found.new.items ≡ take (length found.new.items) found.old.items }
 {

@@ -3,8 +3,9 @@
 ghost use Rattle.watchtower.specs.Isolation.{ClientsAreApart, EachIsTold};
 ghost use Rattle.watchtower.specs.Laws.{LegalTimesRise};
 
-/// What a client is answered depends on its own admissions and hands and on the entries of all looks, and on nothing
-/// that other clients do: where two lists of calls have the same of these, it is answered the same, while memory is left.
+/// What a client is answered depends on its own admissions and hands and on the entries of all looks. It depends on
+/// nothing that other clients do. Where two lists of calls have the same of these, it is answered the same, while
+/// memory is left.
 pub fn clients_are_apart()
     ensures { ClientsAreApart }
 {}

@@ -1,4 +1,4 @@
-//! What a look follows, and whom it concerns.
+//! What a look follows, and which clients it concerns.
 
 ghost use Rattle.std.specs.Prelude.{◌≡◌, List, true, fold, IfOk, OnOk};
 ghost use Rattle.std.specs.List.{flat_map};

@@ -55,8 +55,8 @@ fn look_through<R: Threads + Wait + Sync>(
     Ok(())
 }
 
-/// The text of a replay by a tower that has followed nothing: after each entry of a legal history a line for each call that
-/// is then answered, and a last line with counts.
+/// The text of a replay by a tower that has followed nothing. After each entry of a legal history it has a line for
+/// each call that is then answered. A last line has counts.
 pub fn replay<R: Threads + Wait + Sync>(
     rt: &R,
     alloc: Global,

@@ -29,8 +29,8 @@ use std::thread::Threads;
 const WORKERS: usize = 4;
 
 /// A tower: its clients, which of them hold a chain of a channel, what it has followed, and the channels that are
-/// challenged. A look takes time for new entries, for the challenged channels and for the clients that hold a chain of
-/// one, and none for others. After a look answered once that memory is gone no look answers anything else.
+/// challenged. A look takes time for new entries, for the challenged channels and for the clients that hold a chain
+/// of one, and none for others. Once a look answered that memory ran out, no look answers anything else.
 #[derive(Drop)]
 pub struct Tower {
     names: IndexSet<Name>,
@@ -165,7 +165,7 @@ impl Tower {
         Ok(told)
     }
 
-    /// Follows the entries, and answers the clients that have calls, in the order of admission, each with one
+    /// Follows the entries, and answers the clients that have calls, in the order of admission. Each gets one
     /// checkpoint for each of its chains whose channel is then challenged below that chain's turn.
     pub fn look(&mut self, entries: &[Entry]) -> Result<Vec<Answer>, NoMemory>
         requires { is_rising self.old.watching.time entries.now ≡ true }

@@ -1,4 +1,5 @@
--- What a joint channel can end with until Close, and from then on, by the state that was signed last there; and what keeps it so.
+-- What a joint channel can end with until Close, and from then on, by the state that was signed last there; and what
+-- keeps it so.
 use Rattle.std.proofs.Common.{◌≡◌, ℕ, ◌<◌, ◌≤◌, Bool, true, false, List, [], ◌∷◌, ◌⊎◌, inl, inr, refl, sym, ◌∙◌, subst}
 use Rattle.std.specs.Prelude.{Option, Some, None}
 use Rattle.channel_values.specs.Parts.{StateParts}
@@ -27,8 +28,8 @@ pub record Settled (t : Terms) (last : Option StateParts) : Type 0 where
   pub outcome : state.outcome ≡ together t
   pub bare : state.app_bytes ≡ []
 
--- Where the channel opens with an outcome; where Close was commanded or not, the set-up of the part's channels is held or not, and
--- the post-fund round; and after Close can be parted so.
+-- Where the channel opens with an outcome. Where Close was commanded or not, the set-up of the part's channels is
+-- held or not, and the post-fund round. And where after Close it can be parted so.
 pub record Core (t : Terms) (opening : List AssetOutcome) (closing set five : Bool) (Back : List AssetOutcome → Type 0) (last : Option StateParts) : Type 0 where
   pub set_up : (closing ≡ true) ⊎ Late 3 last → set ≡ true
   pub closed : closing ≡ true → Late 3 last

@@ -1,4 +1,5 @@
--- Which row of the table of a virtual channel wants a state, at an end and at the intermediary, and what is known where it does.
+-- Which row of the table of a virtual channel wants a state, at an end and at the intermediary, and what is known
+-- where it does.
 use Rattle.std.proofs.Common.{◌≡◌, ℕ, ◌≤◌, Bool, true, false, cond, ◌||◌, ◌⊎◌, inl, inr, List, refl, arith}
 use Rattle.std.specs.Prelude.{Some, None}
 use Rattle.std.specs.Str.{bytes_eq}

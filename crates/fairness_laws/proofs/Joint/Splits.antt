@@ -1,4 +1,5 @@
--- Each state that a node signed in a joint channel pays all to the payment channel, or the ends amounts that make up the total.
+-- Each state that a node signed in a joint channel pays all to the payment channel, or the ends amounts that make up
+-- the total.
 use Rattle.std.proofs.Common.{◌≡◌, ℕ, ◌+◌, Bool, true, false, List, [], ◌∷◌, ◌⊎◌, inl, inr, refl, sym, ◌∙◌, ap, subst}
 use Rattle.std.specs.Prelude.{Option, Some, None}
 use Rattle.std.specs.Option.{option_map, option_or}

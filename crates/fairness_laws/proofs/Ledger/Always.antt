@@ -1,5 +1,6 @@
--- At each place of a node's journal ledgers back what stands on them; where the part whose channel a ledger is closes each part on it
--- closes and is over there; and virtual ledgers share their totals between their people and what stands on them.
+-- At each place of a node's journal ledgers back what stands on them. Where the part whose channel a ledger is
+-- closes, each part on it closes and is over there. Virtual ledgers share their totals between their people and what
+-- stands on them.
 use Rattle.std.proofs.Common.{◌≡◌, ℕ, ◌+◌, true, false, List, [], ◌∷◌, ◌⊎◌, inl, inr, refl, sym, ◌∙◌, ap, subst, arith}
 use Rattle.std.specs.Prelude.{Some, None}
 use Rattle.std.specs.Option.{option_map}

@@ -1,4 +1,5 @@
--- Where the part whose channel a ledger is closes each part on it closes and is over there: what each event and entry makes of that.
+-- Where the part whose channel a ledger is closes each part on it closes and is over there: what each event and entry
+-- makes of that.
 use Rattle.std.proofs.Common.{◌≡◌, ℕ, Bool, true, false, cond, ◌&&◌, ◌||◌, not, ◌⊎◌, inl, inr, List, [], ◌∷◌, ◌++◌, length, refl, sym, ◌∙◌, ap, subst}
 use Rattle.std.specs.Str.{bytes_eq}
 use Rattle.std.specs.Prelude.{◌==◌, nat_lt, Option, Some, None, map}

@@ -1,4 +1,5 @@
--- The form of what a virtual ledger can end with: its items are its two people's and its children's, and total what it opened with.
+-- The form of what a virtual ledger can end with: its items are its two people's and its children's, and total what
+-- it opened with.
 use Rattle.std.proofs.Common.{◌≡◌, ℕ, ◌+◌, ◌-◌, ◌^◌, ◌≤◌, Bool, true, false, cond, ◌||◌, List, [], ◌∷◌, ◌⊎◌, inl, inr, refl, sym, ◌∙◌, ap, subst, arith}
 use Rattle.std.proofs.lemmas.Bool.{eq-eqb}
 use Rattle.std.specs.Prelude.{◌==◌, Option, Some, None}

@@ -1,5 +1,5 @@
--- The ledgers on which a part stands: they are held, they are open while they weren't commanded to close, and what they set
--- aside with no votes is there in full.
+-- The ledgers on which a part stands. They are held, they are open while they weren't commanded to close, and what
+-- they set aside with no votes is there in full.
 use Rattle.std.proofs.Common.{◌≡◌, ℕ, ◌+◌, ◌*◌, ◌-◌, ◌<◌, ◌≤◌, true, false, ◌==◌, List, ◌⊎◌, inl, refl, sym, ◌∙◌, ap, subst, arith}
 use Rattle.std.specs.Prelude.{Option, Some, None}
 use Rattle.std.specs.Option.{option_map}

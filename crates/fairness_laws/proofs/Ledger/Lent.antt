@@ -1,5 +1,5 @@
--- What a ledger sets aside for a part at a place, whatever its kind: for whom and how much, by which ledger, and by which channel it is
--- told whether the ledger has gone up.
+-- What a ledger sets aside for a part at a place, whatever its kind. For which channel and how much, by which ledger,
+-- and which channel shows whether the ledger has gone up.
 use Rattle.std.proofs.Common.{◌≡◌, ℕ, ◌+◌, ◌*◌, ◌-◌, ◌^◌, ◌≤◌, Bool, true, false, cond, List, [], ◌∷◌, inl, inr, refl, sym, ◌∙◌, ap, subst, arith}
 use Rattle.std.specs.Prelude.{Option, Some, None}
 use Rattle.std.specs.Option.{option_map}

@@ -1,4 +1,5 @@
--- An accepted command that opens a part is a step of the ledgers: what the part stands on affords it, and nothing of it was signed.
+-- An accepted command that opens a part is a step of the ledgers: what the part stands on affords it, and nothing of
+-- it was signed.
 use Rattle.std.proofs.Common.{◌≡◌, ℕ, ◌<◌, Bool, true, false, cond, List, [], ◌∷◌, ◌++◌, ◌⊎◌, inl, inr, length, refl, sym, ◌∙◌, ap, subst}
 use Rattle.std.specs.Prelude.{◌==◌, nat_le, is_some, Option, Some, None, map, slice_index_or}
 use Rattle.std.specs.List.{slice_get}

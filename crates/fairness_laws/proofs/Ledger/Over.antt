@@ -1,5 +1,5 @@
--- The channel of an end that is a virtual ledger, from Close on: nothing stands on it any more, so it shares its total between its
--- two people.
+-- The channel of an end that is a virtual ledger, from Close on: nothing stands on it any more, so it shares its
+-- total between its two people.
 use Rattle.std.proofs.Common.{◌≡◌, ℕ, true, false, List, [], ◌∷◌, ◌⊎◌, inl, inr, sym, ◌∙◌, ap, subst}
 use Rattle.std.specs.Prelude.{Option, Some, None, slice_index_or}
 use Rattle.std.specs.Option.{option_map}

@@ -1,4 +1,5 @@
--- What is a ledger of a node's whole plan is the own channel of a root or of an end of it, and no other channel of its parts is.
+-- What is a ledger of a node's whole plan is the own channel of a root or of an end of it, and no other channel of
+-- its parts is.
 use Rattle.std.proofs.Common.{◌≡◌, ℕ, Bool, true, false, ◌&&◌, ◌||◌, List, [], ◌∷◌, ◌++◌, inl, inr, refl, sym, ◌∙◌, ap, subst}
 use Rattle.std.specs.Prelude.{◌==◌, Some}
 use Rattle.std.specs.List.{list_any}
@@ -55,7 +56,7 @@ channels-grow : (newer front : List Line) (f : FixedParts) → In f (channels fr
 channels-grow [] front f i = i
 channels-grow (x ∷ newer) front f i = In-append_left f (channels (newer ++ front)) (opened x) (channels-grow newer front f i)
 
--- for whom a ledger sets something aside stands on it
+-- a channel for which a ledger sets something aside stands on it
 pub lent-stands : (s : Signing) (past : List Entry) (front : List Told) (p : Part) (at : PartAt s past front p) (l : List ℕ) (k : Lent) → lends_at s past front l p ≡ Some k → In l (ledgers_of p)
 lent-stands s past front p at l k is =
     by-kind s past front (λ (l : List ℕ) (p : Part) (k : Lent). In l (ledgers_of p)) p at (λ l c g o same found. inl refl) (λ v g e same found. inl refl) (λ v g m same found. inl refl)

@@ -1,4 +1,5 @@
--- What is known of the joint channels of a node's virtual channels, of what ledgers set aside for these: what is opened has gone up.
+-- What is known of the joint channels of a node's virtual channels, of what ledgers set aside for these: what is
+-- opened has gone up.
 use Rattle.std.proofs.Common.{◌≡◌, ℕ, true, false, List, ◌⊎◌, inl, inr, sym, subst}
 use Rattle.std.specs.Prelude.{Some}
 use Rattle.channel_safety.proofs.Tests.{and-left}

@@ -1,4 +1,5 @@
--- What the set-up of a ledger wants repeats an outcome with which it could end, or is its first state, while nothing stands on it.
+-- What the set-up of a ledger wants repeats an outcome with which it could end, or is its first state, while nothing
+-- stands on it.
 use Rattle.std.proofs.Common.{◌≡◌, ◌≢◌, ℕ, ◌+◌, ◌*◌, ◌<◌, ◌≤◌, Bool, true, false, ◌&&◌, not, ◌⊎◌, List, [], inl, inr, length, refl, sym, ◌∙◌, ap, subst, arith}
 use Rattle.std.proofs.lemmas.Bool.Decides.{nat_tests}
 use Rattle.std.specs.Prelude.{nat_le, nat_lt, Option, Some, None}

@@ -1,5 +1,5 @@
--- A node signs a state: of a ledger, which moves, or of another channel, by which a part goes past its set-up only once its ledgers
--- have gone up.
+-- A node signs a state: of a ledger, which moves, or of another channel, by which a part goes past its set-up only
+-- once its ledgers have gone up.
 use Rattle.std.proofs.Common.{◌≡◌, ◌≢◌, ℕ, ◌*◌, ◌^◌, ◌<◌, ◌≤◌, Bool, true, false, cond, ◌&&◌, ◌||◌, List, [], ◌∷◌, ◌⊎◌, inl, inr, length, refl, sym, ◌∙◌, ap, subst, arith}
 use Rattle.std.specs.Prelude.{◌==◌, nat_le, nat_lt, slice_index_or, Option, Some, None}
 use Rattle.std.specs.List.{list_all}

@@ -80,8 +80,8 @@ some-own : (test : StateParts → Bool) (o : Option StateParts) → state_is tes
 some-own test None e = absurd (clash false e refl)
 some-own test (Some x) e = (x, refl)
 
--- What a state that a part wants in that channel says: more is to be signed there; and it is of the set-up, or the ledger goes up, or
--- the part closes.
+-- What a state that a part wants in that channel says. More is to be signed there, and it is of the set-up, or the
+-- ledger goes up, or the part closes.
 pub record GateWants (p : Part) (k : Lent) (s : StateParts) : Type 0 where
   pub going : Rests p k → ⊥
   pub why : (s.turn < gate-size p) ⊎ (((k.closing ≡ false) × ((k.is_up ≡ true) ⊎ (settled_on (up_in k.child k.ledger) k.ledger ≡ true))) ⊎ (k.closing ≡ true))

@@ -1,4 +1,5 @@
--- Where all that is held of a channel is final, what is held later ends with the same outcome; and with two people it is all final.
+-- Where all that is held of a channel is final, what is held later ends with the same outcome; and with two people it
+-- is all final.
 use Rattle.std.proofs.Common.{◌≡◌, ℕ, suc, ◌+◌, ◌%◌, ◌<◌, ◌≤◌, Bool, true, false, cond, ◌&&◌, ◌||◌, not, List, [], ◌∷◌, ◌++◌, ◌⊎◌, inl, inr, length, refl, sym, ◌∙◌, ap, subst, arith}
 use Rattle.std.specs.Prelude.{nat_lt, Option, Some, None}
 use Rattle.std.specs.List.{list_all}

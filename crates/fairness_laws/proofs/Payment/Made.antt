@@ -1,5 +1,5 @@
--- What steps of a channel keep, and the first states that the participant signs there have, each state has that it signs and the
--- latest one that it holds.
+-- What steps of a channel keep, and the first states that the participant signs there have, each state has that it
+-- signs and the latest one that it holds.
 use Rattle.std.proofs.Common.{◌≡◌, ℕ, ◌+◌, ◌<◌, ◌≤◌, Bool, true, false, ◌&&◌, not, List, [], ◌∷◌, ◌++◌, ◌⊎◌, inl, inr, length, refl, sym, ◌∙◌, ap, subst, arith}
 use Rattle.std.specs.Prelude.{◌==◌, Option, Some, None, is_none}
 use Rattle.std.specs.List.{slice_get, AllByRecursion}

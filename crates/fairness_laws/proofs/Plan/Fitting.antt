@@ -1,5 +1,5 @@
--- What a command that opens and isn't refused says of its part: its channels are such as the command names, and its ledgers are
--- consensus channels of roots and ends of the plan.
+-- What a command that opens and isn't refused says of its part. Its channels are such as the command names, and its
+-- ledgers are consensus channels of roots and ends of the plan.
 use Rattle.std.proofs.Common.{◌≡◌, ℕ, ◌+◌, ◌*◌, ◌-◌, ◌≤◌, Bool, true, false, cond, ◌&&◌, ◌||◌, not, List, [], ◌∷◌, ◌++◌, inl, inr, length, refl, sym, ◌∙◌, ap, subst}
 use Rattle.std.specs.Prelude.{◌^◌, ◌==◌, nat_lt, nat_le, map, Option, Some, None}
 use Rattle.std.specs.List.{slice_get, list_any, list_all, position_or_len}
@@ -68,7 +68,7 @@ can-open m command e =
 
 -- ---- people
 
--- the names of the people of a fixed part tell their keys, the participant's own among them
+-- the names of the people of a fixed part determine their keys, the participant's own among them
 abbrev pub Tells : List ℕ → FixedParts → Type 0
 Tells key f = (k l : List ℕ) → In k (key ∷ f.keys) → In l (key ∷ f.keys) → name_of_person k ≡ name_of_person l → k ≡ l
 

@@ -1,4 +1,5 @@
--- What is known of a node's plan at each place of its journal: the parts with their goals, and that ledgers were opened before.
+-- What is known of a node's plan at each place of its journal: the parts with their goals, and that ledgers were
+-- opened before.
 use Rattle.std.proofs.Common.{◌≡◌, ℕ, ◌+◌, Bool, true, false, List, [], ◌∷◌, ◌++◌, inl, inr, length, refl, sym, ◌∙◌, subst, arith}
 use Rattle.std.specs.Prelude.{◌==◌, Option, Some, None, map, Result, Ok, Err}
 use Rattle.channel_values.specs.Parts.{FixedParts, IsFixed}
