@@ -8,6 +8,8 @@ mod signing;
 #[cfg(test)]
 mod storing;
 #[cfg(test)]
+mod tables;
+#[cfg(test)]
 mod telling;
 #[cfg(test)]
 mod views;
