@@ -358,12 +358,12 @@ def set_back(program, folder, seed):
         for number in range(count):
             if number == 2:
                 shutil.copy(cheat.node.path, copy)
-                kept = cheat.node.done, cheat.node.text, cheat.seen
+                kept = cheat.node.done, cheat.node.written[:], cheat.seen
             play.pay(number)
         assert play.status_of(cheat.node, path=copy, words=["--moved"]) == BEHIND
         cheat.node.close()
         cheat.node.words, cheat.node.path = cheat.node.words + ["--moved"], copy
-        cheat.node.done, cheat.node.text, cheat.seen = kept
+        cheat.node.done, cheat.node.written, cheat.seen = kept
         assert play.does(cheat, do="exit")
         play.until(lambda: any(it["text"].startswith("challenge ") for it in play.history), "an old challenge")
         assert play.does(honest, do="exit")

@@ -44,7 +44,7 @@ class Service:
 
     def __init__(self, words, path, killer, first=None):
         self.words, self.path, self.killer, self.first = words, path, killer, first
-        self.child, self.ready, self.done, self.text, self.cut = None, None, 0, b"", []
+        self.child, self.ready, self.done, self.written, self.cut = None, None, 0, [], []
         killer.services.append(self)
 
     # ---- one process
@@ -126,7 +126,7 @@ class Service:
         effects = [json.loads(line) for line in text.splitlines()]
         if effects[-1]["effect"] == "done":
             self.done += 1
-            self.text += text
+            self.written.append(text)
             assert effects[-1]["n"] == self.done, "record %d after %d" % (effects[-1]["n"], self.done - 1)
         return effects
 
@@ -136,7 +136,7 @@ class Service:
         self.killer.rate, done, self.done = 0, self.done, 0
         again = self.start()
         self.done = done
-        assert again == self.text, "what is written again differs"
+        assert again == b"".join(self.written), "what is written again differs"
 
 
 def line_of(event):
