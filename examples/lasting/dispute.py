@@ -17,6 +17,18 @@ def main(nitro, folder):
     def pass_time(to):
         entries.append(ledger.ask("time", to=to)[-2])
 
+    def show(wallet):
+        """Shows the wallet's node what is new, and prints what it says of it."""
+        for entry in entries[wallet.seen:]:
+            for effect in wallet.ask("entry", **{key: entry[key] for key in ("number", "by", "op", "reply")}):
+                if effect["effect"] == "challenged":
+                    print("challenged until", effect["until"])
+                elif effect["effect"] == "call":
+                    print("answered by", effect["text"].replace(name, "C"))
+                elif effect["effect"] == "final":
+                    print("final")
+            wallet.seen += 1
+
     def rounds(count):
         for _ in range(count):
             for one, other in ((alice, bob), (bob, alice)):
@@ -49,18 +61,13 @@ def main(nitro, folder):
     bob.act([])
 
     # Alice's node is shown the challenge before its deadline, and answers with the newer state.
-    for entry in entries[alice.seen:]:
-        for effect in alice.ask("entry", **{key: entry[key] for key in ("number", "by", "op", "reply")}):
-            if effect["effect"] == "challenged":
-                print("challenged until", effect["until"])
-            elif effect["effect"] == "call":
-                print("answered by", effect["text"].replace(name, "C"))
-        alice.seen += 1
+    show(alice)
 
     # She leaves too. Nobody answers her challenge up to its deadline, and then she is paid what she had.
     alice.ask("exit")
     alice.act([])
     pass_time(10)
+    show(alice)
     alice.act([])
     print("share", alice.ask("share", asset=0)[-1]["amount"])
     for entry in entries:

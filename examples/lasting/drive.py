@@ -42,6 +42,7 @@ class Play:
         self.program, self.folder, self.chance = program, folder, random.Random(seed)
         self.killer, self.indices = Killer(self.chance, rate), Indices()
         self.history, self.now, self.paid, self.balance = [], 0, [0, 0], list(BROUGHT)
+        self.ended, self.deadlines = [], {}
         self.lost = self.doubled = self.dropped = 0
         self.loses, self.drops = 0.15, 0.15
         self.ledger = Service([program, "ledger"], os.path.join(folder, "ledger"), self.killer)
@@ -156,15 +157,32 @@ class Play:
         self.indices.note(entry)
         self.history.append(entry)
         words = entry["text"].split()
+        self.ended.append(self.ended_by(words))
         if words[0] == "transfer" and words[4:6] == ["ok", "paid"]:
             self.paid[int(words[3])] += int(words[6])
 
+    def ended_by(self, words):
+        """The channels that an entry makes final: the one that it concludes, or those whose challenge runs out by its time."""
+        ended, is_turned = [], words[3:4] == ["ok"]
+        if words[0] == "time":
+            ended = [channel for channel, deadline in self.deadlines.items() if deadline <= int(words[-1])]
+        elif is_turned and words[4] == "final":
+            ended = [words[1]]
+        if is_turned and words[4] == "until":
+            self.deadlines[words[1]] = int(words[5])
+        for channel in [words[1]] if is_turned and words[4] == "open" else ended:
+            self.deadlines.pop(channel, None)
+        return ended
+
     def show(self, person):
-        """A node follows the next entry. If that is a call of the node, it isn't under way any more."""
+        """A node follows the next entry. If that is a call of the node, it isn't under way any more. It says which channels,
+        of all of which it holds a chain, are final by the entry."""
         entry = self.history[person.seen]
         before = dict(person.waiting)
         effects = self.ask(person, do="entry", **{key: entry[key] for key in ("number", "by", "op", "reply")})
         assert effects[-1]["effect"] == "done", effects
+        final = [effect["channel"] for effect in effects if effect["effect"] == "final"]
+        assert final == self.ended[person.seen], (entry["text"], final)
         person.seen += 1
         for call, digits in before.items():
             if "01" + digits == entry["op"]:

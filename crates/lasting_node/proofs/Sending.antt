@@ -8,7 +8,7 @@ use Rattle.channel_values.specs.Outcomes.{is_same}
 use Rattle.channel_values.specs.Parts.{FixedParts}
 use Rattle.channel_values.specs.Rules.{top_outcome}
 use Rattle.channel_values.specs.declared.value.Dest.TheVariants.{Person}
-use Rattle.call_history.specs.History.{flow_of, reply_to}
+use Rattle.call_history.specs.History.{flow_of, time_set, reply_to}
 use Rattle.call_history.specs.Naming.{name_of}
 use Rattle.call_history.specs.Rows.{fixed_of}
 use Rattle.channel_values.specs.declared.fault.ByteFault.{ByteFault}
@@ -22,7 +22,9 @@ use Rattle.call_history.specs.declared.funds.Flow.{Flow}
 use Rattle.call_history.specs.declared.held_chain.HeldChain.{HeldChain}
 use Rattle.call_history.specs.declared.refusal.Reply.{Reply}
 use Rattle.call_history.specs.declared.refusal.Reply.TheVariants as replies
+use Rattle.call_history.specs.declared.view.WorldView.{WorldView}
 use Rattle.channel_safety.specs.Journals.{In}
+use Rattle.history_view.specs.Views.{view_of}
 use Rattle.network.specs.Entered.{oldest_first}
 use Rattle.network.specs.Members.{accepted}
 use Rattle.network.specs.Standing.{AreKept}
@@ -41,12 +43,12 @@ use Rattle.lasting_node.proofs.Called.{AreSignedCalls, more-signed-call, more-si
 use Rattle.lasting_node.proofs.Entries.{taken-valid}
 use Rattle.lasting_node.proofs.Sent.{Stays, same, then, saw-stays, commanded-stays, handled-stays, ticked-stays, watched-stays}
 use Rattle.lasting_node.proofs.Standing.{IsNode, IsMachine, ticks, next-stands}
-use Rattle.lasting_node.specs.Effects.{sends, calls, spent, holds_chain, turned, turned_own, own, paid_from, paid_to, of_entry, gain, gain_over, took, of_command, next_deadline, told_deadline, of_time}
+use Rattle.lasting_node.specs.Effects.{sends, calls, spent, holds_chain, turned, turned_own, own, paid_from, paid_to, runs_out, final_by_time, run_out, of_entry, gain, gain_over, took, of_command, next_deadline, told_deadline, of_time}
 use Rattle.node_lines.specs.declared.entries.LedgerEntry.{LedgerEntry}
 use Rattle.support_rules.specs.Real.{real}
 use Rattle.lasting_node.specs.InFlight.{is_in_flight}
 use Rattle.lasting_node.specs.Laws.{made_by, IsSent, Answer, answer_if, answers_to, IsSentIn}
-use Rattle.lasting_node.specs.Machines.{taken, number, entering, seeing, look, lookout_of, new_calls, looking, ticking, look_place, after_entry, after_tick, after_event, next, entry_effects, tick_effects, effects_of, line_ways}
+use Rattle.lasting_node.specs.Machines.{taken, number, entering, seeing, look, lookout_of, new_calls, looking, ticking, look_place, after_entry, after_tick, after_event, next, time_of, entry_effects, tick_effects, effects_of, line_ways}
 use Rattle.node_lines.specs.declared.effects.Effect.{Effect}
 use Rattle.node_lines.specs.declared.effects.Effect.TheVariants as effects
 use Rattle.lasting_node.specs.declared.machine.NodeMachine.{NodeMachine}
@@ -114,10 +116,28 @@ module _ (made : List Signature) where
       from None = tt
       from (Some channel) = (tt, tt)
 
-  entry-sent : (p : Numbered) (op : Op) (reply : Reply) → AreSent made (of_entry p op reply)
-  entry-sent p op reply =
-      both (turned_own (ways.chains p) (fixed_of op) reply) (flat_map (paid_to (name_of_person (ways.key p))) (flow_of op reply))
-      (own-sent (ways.chains p) (fixed_of op) reply) (flat (paid_to (name_of_person (ways.key p))) (paid-sent (name_of_person (ways.key p))) (flow_of op reply))
+  final-sent : (before after : ℕ) (view : WorldView) (k : HeldChain) → AreSent made (final_by_time before after view k)
+  final-sent before after view k =
+      if-sent (runs_out before after (view_of view.channels k.channel).deadline) (effects.Final k.channel ∷ []) (tt, tt)
+
+  run-out-sent : (before : ℕ) (p : Numbered) (o : Option ℕ) → AreSent made (run_out before p o)
+  run-out-sent before p None = tt
+  run-out-sent before p (Some after) =
+      flat (final_by_time before after p.node.mind.view) (final-sent before after p.node.mind.view) (ways.chains p)
+
+  entry-sent : (before : ℕ) (p : Numbered) (op : Op) (reply : Reply) → AreSent made (of_entry before p op reply)
+  entry-sent before p op reply =
+      both (run_out before p (time_set op reply)) (turns ++ pays) (run-out-sent before p (time_set op reply))
+      (both turns pays (own-sent (ways.chains p) (fixed_of op) reply) (flat (paid_to me) (paid-sent me) (flow_of op reply)))
+    where
+      me : List ℕ
+      me = name_of_person (ways.key p)
+
+      turns : List Effect
+      turns = turned_own (ways.chains p) (fixed_of op) reply
+
+      pays : List Effect
+      pays = flat_map (paid_to me) (flow_of op reply)
 
   gain-sent : (me channel : List ℕ) (before after : List AssetOutcome) (a : AssetOutcome) → AreSent made (gain me channel before after a)
   gain-sent me channel before after a = go (nat_lt (own me before a.asset) (own me after a.asset))
@@ -197,8 +217,8 @@ new-signed made m = look-signed made (λ (call : Call). not (is_in_flight m.wait
 
 entry-sends : (made : List Signature) (e : LedgerEntry) (m : NodeMachine) → AreSent made (entry_effects e m)
 entry-sends made e m =
-    both made (of_entry now.node e.op (reply_to real m.ledger e.op)) (calls 0 (new_calls now) ++ of_time (after_entry e m).node)
-    (entry-sent made now.node e.op (reply_to real m.ledger e.op))
+    both made (of_entry (time_of m) now.node e.op (reply_to real m.ledger e.op)) (calls 0 (new_calls now) ++ of_time (after_entry e m).node)
+    (entry-sent made (time_of m) now.node e.op (reply_to real m.ledger e.op))
     (both made (calls 0 (new_calls now)) (of_time (after_entry e m).node) (called made 0 (new_calls now) (new-signed made now))
     (timed made (after_entry e m).node))
   where

@@ -10,7 +10,8 @@ use Rattle.channel_values.specs.Digests.{name_of_person}
 use Rattle.channel_values.specs.declared.fault.ByteFault.{ByteFault}
 use Rattle.channel_values.specs.declared.value.AssetOutcome.{AssetOutcome}
 use Rattle.channel_values.specs.declared.value.Dest.TheVariants.{Person}
-use Rattle.call_history.specs.History.{flow_of}
+use Rattle.call_history.specs.History.{flow_of, time_set}
+use Rattle.call_history.specs.Mode.{mode_at, is_challenged, is_final}
 use Rattle.call_history.specs.Naming.{name_of}
 use Rattle.call_history.specs.Reading.{message_of}
 use Rattle.call_history.specs.Rows.{fixed_of}
@@ -69,9 +70,26 @@ paid_from (Some channel) flow = effects.Paid channel flow.asset flow.amount ∷ 
 abbrev pub paid_to : List ℕ → Flow → List Effect
 paid_to me flow = if is_same flow.to (Person me) then paid_from flow.from flow else []
 
-abbrev pub of_entry : Numbered → Op → Reply → List Effect
-of_entry p op reply =
-    turned_own (ways.chains p) (fixed_of op) reply ++ flat_map (paid_to (name_of_person (ways.key p))) (flow_of op reply)
+-- a challenge is open at the time before, and has run out at the time after
+abbrev pub runs_out : ℕ → ℕ → Option ℕ → Bool
+runs_out before after deadline = is_challenged (mode_at deadline before) && is_final (mode_at deadline after)
+
+-- so the channel of a chain is final
+abbrev pub final_by_time : ℕ → ℕ → WorldView → HeldChain → List Effect
+final_by_time before after view k =
+    if runs_out before after (view_of view.channels k.channel).deadline then effects.Final k.channel ∷ [] else []
+
+-- by the time that the entry sets, if it does, of the chains that the node holds
+abbrev pub run_out : ℕ → Numbered → Option ℕ → List Effect
+run_out before p None = []
+run_out before p (Some after) = flat_map (final_by_time before after p.node.mind.view) (ways.chains p)
+
+-- to a node that has followed the entry; the time is that before it
+abbrev pub of_entry : ℕ → Numbered → Op → Reply → List Effect
+of_entry before p op reply =
+    run_out before p (time_set op reply)
+    ++ (turned_own (ways.chains p) (fixed_of op) reply
+    ++ flat_map (paid_to (name_of_person (ways.key p))) (flow_of op reply))
 
 -- ---- a message
 

@@ -159,10 +159,14 @@ after_event (events.Dropped call) m = after_dropped call m
 
 -- ---- what is said of each event
 
+-- the time, as far as the node followed
+abbrev pub time_of : NodeMachine → ℕ
+time_of m = m.node.node.mind.view.now
+
 -- the reply is that of the machine's own adjudicator
 abbrev pub entry_effects : LedgerEntry → NodeMachine → List Effect
 entry_effects e m =
-    of_entry (seeing (entering e m)).node e.op (reply_to real m.ledger e.op)
+    of_entry (time_of m) (seeing (entering e m)).node e.op (reply_to real m.ledger e.op)
     ++ (calls 0 (new_calls (seeing (entering e m))) ++ of_time (after_entry e m).node)
 
 abbrev pub tick_effects : NodeMachine → List Effect

@@ -3,11 +3,16 @@
 ghost use Rattle.std.specs.Prelude.{◌≡◌, ◌<◌, ◌+◌, ◌^◌, ◌++◌, length, IfOk, OnOk, Ok, option_map, option_to_list};
 ghost use Rattle.std.specs.List.{flat_map};
 ghost use Rattle.channel_values.specs.Rules.{top_outcome};
+ghost use Rattle.call_history.specs.History.{time_set};
 ghost use Rattle.call_history.specs.Rows.{fixed_of};
-ghost use Rattle.lasting_node.specs.Effects.{sends, calls, spent, holds_chain, turned, turned_own, paid_from, paid_to, of_entry, own, gain, gain_over, took, of_message, earlier, to_come, deadline_of, next_deadline, told_deadline, of_time};
+ghost use Rattle.history_view.specs.Views.{view_of};
+ghost use Rattle.lasting_node.specs.Effects.{sends, calls, spent, holds_chain, turned, turned_own, paid_from, paid_to, runs_out, final_by_time, run_out, of_entry, own, gain, gain_over, took, of_message, earlier, to_come, deadline_of, next_deadline, told_deadline, of_time};
 
 use call_bytes::read_message;
-use call_history::{Call, Entry, Flow, HeldChain, Op, Reply, WorldView, fixed_of, flow_of, newest};
+use call_history::{
+    Call, Entry, Flow, HeldChain, Op, Reply, Standing, WorldView, fixed_of, flow_of, mode, newest,
+    time_set,
+};
 use channel_values::{
     AssetOutcome, ByteFault, Dest, Listed, Name, NoMemory, Outcome, Signed, State, channel_name,
     person_name,
@@ -149,15 +154,83 @@ fn add_paid(effects: &mut Vec<Effect>, me: &Name, flow: Option<Flow>) -> Result<
     }
 }
 
-/// Adds what an entry says of the node's channels and of its person.
-pub(crate) fn add_entry(
+/// Whether a challenge is open at the time before, and has run out at the time after.
+fn runs_out(before: u64, after: u64, deadline: Option<u64>) -> bool
+    ensures { result ≡ runs_out before after deadline }
+{
+    mode(deadline, before) == Standing::Challenged && mode(deadline, after) == Standing::Final
+}
+
+/// The deadline that the chain's channel has, if it has one.
+fn deadline_in(view: &WorldView, held: &HeldChain) -> Option<u64>
+    ensures { result ≡ (view_of view.entry.now.channels held.now.channel).deadline }
+{
+    match view_of(view, &held.channel) {
+        None => None,
+        Some(known) => known.deadline,
+    }
+}
+
+/// That the chain's channel is final, if its challenge ran out.
+fn final_by_time(before: u64, after: u64, view: &WorldView, held: &HeldChain) -> Option<Effect>
+    ensures { option_to_list result ≡ final_by_time before after view.entry.now held.now }
+{
+    if runs_out(before, after, deadline_in(view, held)) {
+        Some(Effect::Final {
+            channel: held.channel,
+        })
+    } else {
+        None
+    }
+}
+
+/// Adds the channels of these chains whose challenge is open at the time before and has run out at the time after, in the
+/// order of the chains.
+#[tactic(auto, using(premises::proofs::Adding::joined_step))]
+pub fn add_final_by_time(
     effects: &mut Vec<Effect>,
+    before: u64,
+    after: u64,
+    view: &WorldView,
+    chains: &[HeldChain],
+) -> Result<(), NoMemory>
+    ensures { OnOk result (effects.new.items
+        ≡ effects.old.items ++ flat_map (final_by_time before after view.entry.now) chains.now) }
+{
+    for held in chains {
+        add(effects, final_by_time(before, after, view, held))?;
+    }
+    Ok(())
+}
+
+/// Adds the channels whose challenge runs out by the time that an entry sets, if it does.
+fn add_run_out(
+    effects: &mut Vec<Effect>,
+    before: u64,
     node: &Node,
     entry: &Entry,
 ) -> Result<(), NoMemory>
     ensures { OnOk result (effects.new.items
-        ≡ effects.old.items ++ of_entry node.now entry.now.op entry.now.reply) }
+        ≡ effects.old.items ++ run_out before node.now (time_set entry.now.op entry.now.reply)) }
 {
+    match time_set(entry) {
+        None => Ok(()),
+        Some(after) => add_final_by_time(effects, before, after, node.view(), node.chains()),
+    }
+}
+
+/// Adds what an entry says of the node's channels and of its person, once the node has followed it. The time is that
+/// before it.
+pub(crate) fn add_entry(
+    effects: &mut Vec<Effect>,
+    before: u64,
+    node: &Node,
+    entry: &Entry,
+) -> Result<(), NoMemory>
+    ensures { OnOk result (effects.new.items
+        ≡ effects.old.items ++ of_entry before node.now entry.now.op entry.now.reply) }
+{
+    add_run_out(effects, before, node, entry)?;
     add(effects, turned_own(node.chains(), &entry.op, &entry.reply))?;
     let me = person_name(node.key());
     add_paid(effects, &me, flow_of(&entry.op, &entry.reply))
@@ -311,10 +384,7 @@ fn to_come(now: u64, deadline: Option<u64>) -> Option<u64>
 fn deadline_of(view: &WorldView, held: &HeldChain) -> Option<u64>
     ensures { result ≡ deadline_of view.entry.now held.now }
 {
-    match view_of(view, &held.channel) {
-        None => None,
-        Some(known) => to_come(view.now, known.deadline),
-    }
+    to_come(view.now, deadline_in(view, held))
 }
 
 /// The next deadline of a challenge in the channels of which the node holds a chain.

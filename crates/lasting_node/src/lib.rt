@@ -27,6 +27,7 @@ mod status;
 mod stepping;
 mod taking;
 
+pub use effects::add_final_by_time;
 pub use in_flight::InFlight;
 pub use laws::nodes_last;
 pub use machine::NodeMachine;

@@ -9,7 +9,7 @@ ghost use Rattle.support_rules.specs.Real.{real};
 ghost use Rattle.lasting_node.specs.Effects.{calls, sends, spent, of_entry, of_message, of_command, of_time};
 ghost use Rattle.lasting_node.specs.InFlight.{not_entered as still_flying};
 ghost use Rattle.node_lines.specs.declared.events.NodeEvent.TheVariants as events;
-ghost use Rattle.lasting_node.specs.Machines.{refusal, has_room, flying, entering, seeing, look, new_calls, watched, looking, after_entry, after_message, command_calls, after_command, ticking, look_place, after_tick, after_dropped, after_event, entry_effects, tick_effects, effects_of, next, answer};
+ghost use Rattle.lasting_node.specs.Machines.{refusal, has_room, flying, entering, seeing, look, new_calls, watched, looking, after_entry, after_message, command_calls, after_command, ticking, look_place, after_tick, after_dropped, after_event, time_of, entry_effects, tick_effects, effects_of, next, answer};
 ghost use Rattle.lasting_node.specs.declared.stepping.Failure.TheVariants as failures;
 
 use crate::effects::{add_calls, add_entry, add_message, add_sends, add_spent, add_time};
@@ -143,14 +143,21 @@ impl NodeMachine {
         self.give(effects, place, &more)
     }
 
-    // What the newest entry says.
-    fn tell_newest(&self, effects: &mut Vec<Effect>) -> Result<(), NoMemory>
+    // The time, as far as the node followed.
+    fn time(&self) -> u64
+        ensures { result ≡ time_of self.now }
+    {
+        self.node.view().now
+    }
+
+    // What the newest entry says. The time is that before it.
+    fn tell_newest(&self, effects: &mut Vec<Effect>, before: u64) -> Result<(), NoMemory>
         ensures { (e : AnEntry) (past : List AnEntry) → self.now.ledger ≡ e ∷ past
-            → OnOk result (effects.new.items ≡ effects.old.items ++ of_entry self.now.node e.op e.reply) }
+            → OnOk result (effects.new.items ≡ effects.old.items ++ of_entry before self.now.node e.op e.reply) }
     {
         match self.ledger.entries().last() {
             None => Ok(()),
-            Some(entry) => add_entry(effects, &self.node, entry),
+            Some(entry) => add_entry(effects, before, &self.node, entry),
         }
     }
 
@@ -159,10 +166,11 @@ impl NodeMachine {
         ensures next { OnOk result (self.new ≡ after_entry entry self.old) }
         ensures effects { IfOk result (λ all. all.items ≡ entry_effects entry self.old) }
     {
+        let before = self.time();
         self.enter(alloc, entry)?;
         self.see()?;
         let mut all = Vec::new(alloc);
-        self.tell_newest(&mut all)?;
+        self.tell_newest(&mut all, before)?;
         self.look(&mut all, 0)?;
         add_time(&mut all, &self.node)?;
         Ok(all)
