@@ -3,14 +3,15 @@
 
     hub.py [--own N ..] [--others N ..] [--repeat N] [--check] [--folder FOLDER] [--program PATH]
 
-A hub and one client, each with a node, open some payment channels with each other. Then strangers deposit into channels of
-their own, and the hub is shown these entries. Four kinds of events are timed at some numbers of strangers' channels: a tick, a
-payment, an entry of a stranger, and a message with the client's payment. Each is timed from its line to its response's end.
-A table has the medians in milliseconds, and the factor by which each grows from the fewest strangers' channels to the most.
-With `--check` the status is 1 if a factor is above 1.2. State files are in memory, where syncs cost nothing, unless FOLDER is
-given. It is no part of examples/check.
+Strangers deposit into channels of their own, and a hub is shown these entries. Then the hub and one client, each with a node,
+open some payment channels with each other. Four kinds of events are timed, each from its line to the end of its response: a
+tick, a payment, an entry of a further stranger, and a message with the client's payment. A table has the medians in
+milliseconds, and the factor by which each grows from the fewest strangers' channels to the most. With `--check` the status is
+1 if a factor is above 1.2. State files are in memory, where syncs cost nothing, unless FOLDER is given. It is no part of
+examples/check.
 """
 import argparse
+import concurrent.futures
 import contextlib
 import hashlib
 import itertools
@@ -29,6 +30,7 @@ from services import ends_of, line_of
 COLUMNS = ("tick", "payment", "entry", "message")
 LIMIT = 1.2
 SIGNATURES = 1024
+HUB, CLIENT = 32 * "a1", 32 * "b2"
 LEAST, PATIENCE = 5, 3
 
 
@@ -69,12 +71,12 @@ class Process:
 
 
 class Node(Process):
-    """A node, with its messages that nobody carried yet and the entries that it was shown."""
+    """A node, with its messages and calls that nobody carried yet, and how many entries it was shown."""
 
     def __init__(self, program, path, seed):
         super().__init__(program, "node", "--state", path)
         ready = self.timed({"do": "start", "seed": seed, "h": 10}, ("ready",))[0][-1]
-        self.key, self.sent, self.calls, self.seen = ready["key"], [], [], 0
+        self.key, self.sent, self.calls, self.shown = ready["key"], [], [], 0
 
     def takes(self, event):
         """The seconds that an event takes, which isn't refused."""
@@ -85,19 +87,23 @@ class Node(Process):
         self.calls += [effect["call"] for effect in effects if effect["effect"] == "call"]
         return seconds
 
-    def follows(self, entry):
-        self.seen += 1
-        return self.takes(entry)
-
     def takes_from(self, other):
         """The seconds of the messages that another node sent."""
         messages, other.sent = other.sent, []
         return sum(self.takes({"do": "message", "bytes": message}) for message in messages)
 
-    def follows_all(self, entries):
+    def next_entry(self, by, op, reply):
+        self.shown += 1
+        return {"do": "entry", "number": self.shown, "by": by, "op": op, "reply": reply}
+
+    def next_deposit(self):
+        """The next entry, by which a stranger deposits 1 of asset 0 into a new channel, which then holds 1."""
+        channel = hashlib.sha256(b"stranger %d" % self.shown).hexdigest()
+        return self.next_entry(2, "0101" + channel + "%08x%016x%016x" % (0, 0, 1), "01%016x" % 1)
+
+    def follows_strangers(self, count):
         """Follows entries that are written without a wait. The answer to a query comes after all of theirs."""
-        self.seen += len(entries)
-        lines = [line_of(event) for event in (*entries, {"do": "plan"})]
+        lines = [line_of(self.next_deposit()) for _ in range(count)] + [line_of({"do": "plan"})]
         writer = threading.Thread(target=self.write, args=lines, daemon=True)
         writer.start()
         while not (line := self.read()).startswith(b'{"effect":"plan"'):
@@ -107,17 +113,23 @@ class Node(Process):
 
 
 class Pair:
-    """A hub and a client whose nodes have some open channels with each other, and no other channels of the ledger."""
+    """A hub and a client, with channels of their own that they opened when a ledger had channels of many others.
 
-    def __init__(self, program, folder, own):
-        self.ledger, self.entries, self.names = Process(program, "ledger", "--state", os.path.join(folder, "ledger")), [], []
-        self.hub, self.client = self.nodes = [
-            Node(program, os.path.join(folder, name), seed) for name, seed in (("hub", 32 * "a1"), ("client", 32 * "b2"))]
+    The client follows a ledger without those others. Its deposits get the same replies there.
+    """
+
+    def __init__(self, program, folder, own, others, repeat):
+        self.own, self.others, self.repeat, self.entries, self.names, self.due = own, others, repeat, [], [], set()
+        self.ledger = Process(program, "ledger", "--state", os.path.join(folder, "ledger"))
+        self.nodes = [Node(program, os.path.join(folder, name), seed) for name, seed in (("hub", HUB), ("client", CLIENT))]
+        self.hub, self.client = self.nodes
+        self.seen = {node: 0 for node in self.nodes}
+        # (the last strangers come later, when entries are timed)
+        self.hub.follows_strangers(max(others - repeat, 0))
         for nonce in range(1, own + 1):
             self.open(nonce)
         self.ledger.close()
         self.turns = itertools.cycle(self.names)
-        self.own_entries = len(self.entries)
 
     def close(self):
         for node in self.nodes:
@@ -132,29 +144,28 @@ class Pair:
         outcome = [{"asset": 0, "items": [[key, 1000000] for key in keys]}]
         for node in self.nodes:
             node.takes({"do": "open", "channel": channel, "outcome": outcome})
-        while self.act():
-            pass
+        self.due = set(self.nodes)
+        while self.due:
+            for node, other in (self.nodes, self.nodes[::-1]):
+                if node in self.due:
+                    self.act(node, other)
 
-    def act(self):
-        """Both nodes act, one after the other. Whether anything is new."""
-        is_new = False
-        for node, other in (self.nodes, self.nodes[::-1]):
-            is_new = is_new or bool(other.sent) or node.seen < len(self.entries)
-            for entry in self.entries[node.seen:]:
-                node.follows(entry)
-            node.takes_from(other)
-            node.takes({"do": "tick"})
-            calls, node.calls = node.calls, []
-            for call in calls:
-                is_new = True
-                entry = self.ledger.timed({"do": "enter", "by": 1, "call": call}, ("done",))[0][-2]
-                self.entries.append({"do": "entry", **{key: entry[key] for key in ("number", "by", "op", "reply")}})
-        return is_new
-
-    def strangers(self, count):
-        """The entries of further strangers up to this number of them."""
-        first = self.hub.seen + 1
-        return [deposit_of_stranger(number) for number in range(first, self.own_entries + count + 1)]
+    def act(self, node, other):
+        """The node is shown what is new, and acts. The other is due if a message waits for it, and both are after a call."""
+        self.due.remove(node)
+        for entry in self.entries[self.seen[node]:]:
+            node.takes(node.next_entry(*entry))
+            self.seen[node] += 1
+        node.takes_from(other)
+        node.takes({"do": "tick"})
+        if node.sent:
+            self.due.add(other)
+        if node.calls:
+            self.due.update(self.nodes)
+        for call in node.calls:
+            entry = self.ledger.timed({"do": "enter", "by": 1, "call": call}, ("done",))[0][-2]
+            self.entries.append((entry["by"], entry["op"], entry["reply"]))
+        node.calls = []
 
     def pay(self):
         """The seconds of a payment of the hub, and of the message by which the client pays it back."""
@@ -164,22 +175,13 @@ class Pair:
         self.client.takes(pay)
         return payment, self.hub.takes_from(self.client)
 
-    def measured(self, others, repeat):
-        """The seconds of each kind of event, once the ledger has so many channels of strangers."""
-        entries = self.strangers(others)
-        last = entries[-repeat:]
-        self.hub.follows_all(entries[:-repeat])
-        entry = statistics.median(self.hub.follows(entry) for entry in last)
-        tick, = medians(lambda: (self.hub.takes({"do": "tick"}),), 4 * repeat)
-        payment, message = medians(self.pay, repeat)
+    def measured(self):
+        """The seconds of each kind of event. The last of the entries make the strangers as many as they are to be."""
+        count = min(self.others, self.repeat)
+        entry = statistics.median([self.hub.takes(self.hub.next_deposit()) for _ in range(count)])
+        tick, = medians(lambda: (self.hub.takes({"do": "tick"}),), 4 * self.repeat)
+        payment, message = medians(self.pay, self.repeat)
         return tick, payment, entry, message
-
-
-def deposit_of_stranger(number):
-    """The entry of this number: 1 of asset 0 is deposited into a new channel, which then holds 1."""
-    channel = hashlib.sha256(b"stranger %d" % number).hexdigest()
-    op, reply = "0101" + channel + "%08x%016x%016x" % (0, 0, 1), "01%016x" % 1
-    return {"do": "entry", "number": number, "by": 2, "op": op, "reply": reply}
 
 
 def medians(act, count):
@@ -190,20 +192,31 @@ def medians(act, count):
     return [statistics.median(column) for column in zip(*rows)]
 
 
-def table_of(program, place, given):
+def measured_all(program, place, given):
+    """The seconds of each kind of event, by how many channels the hub has and by how many others there are.
+
+    Pairs are made side by side, the largest first, and then measured one at a time.
+    """
+    sizes = sorted(itertools.product(given.own, given.others), key=lambda size: size[0] * size[1], reverse=True)
+    with tempfile.TemporaryDirectory(dir=place) as folder, concurrent.futures.ThreadPoolExecutor(os.cpu_count()) as pool:
+        pairs = list(pool.map(
+            lambda size: Pair(program, tempfile.mkdtemp(dir=folder), *size, given.repeat), sizes))
+        figures = {(pair.own, pair.others): pair.measured() for pair in pairs}
+        for pair in pairs:
+            pair.close()
+        return figures
+
+
+def table_of(figures, given):
     """Prints the table, and returns what grows too much, in words."""
     print("%5s %9s" % ("own", "others") + "".join("%10s" % column for column in COLUMNS) + "   (ms)")
     faults = []
     for own in given.own:
-        with tempfile.TemporaryDirectory(dir=place) as folder:
-            pair, rows = Pair(program, folder, own), []
-            for others in given.others:
-                rows.append(pair.measured(others, given.repeat))
-                figures = "".join("%10.3f" % (1000 * seconds) for seconds in rows[-1])
-                print("%5d %9s" % (own, "{:,}".format(others)) + figures, flush=True)
-            pair.close()
+        rows = [figures[own, others] for others in given.others]
+        for others, row in zip(given.others, rows):
+            print("%5d %9s" % (own, "{:,}".format(others)) + "".join("%10.3f" % (1000 * seconds) for seconds in row))
         growth = [most / fewest for fewest, most in zip(rows[0], rows[-1])]
-        print("%5d %9s" % (own, "growth") + "".join("%10.2f" % factor for factor in growth) + "   (times)", flush=True)
+        print("%5d %9s" % (own, "growth") + "".join("%10.2f" % factor for factor in growth) + "   (times)")
         faults += ["%s with %d own channels grows by a factor of %.2f" % (column, own, factor)
                    for column, factor in zip(COLUMNS, growth) if factor > LIMIT]
     return faults
@@ -224,7 +237,7 @@ def main():
     if not 1 <= min(given.own) <= max(given.own) <= 64 or 5 * max(given.own) + len(given.others) * given.repeat > SIGNATURES:
         words.error("a node has at most 64 channels, and a key %d signatures" % SIGNATURES)
     program = os.path.abspath(shutil.which(given.program) or given.program)
-    faults = table_of(program, given.folder, given)
+    faults = table_of(measured_all(program, given.folder, given), given)
     if given.check:
         for fault in faults:
             print("hub.py: %s, which is above %.1f" % (fault, LIMIT), file=sys.stderr)
