@@ -4,7 +4,7 @@ use crate::built::{
     A, B, Body, CHANNEL, GUARANTOR_A, GUARANTOR_B, I, JOINT, LEDGER_A, LEDGER_B, OPENING, TO_A,
     TO_B, VIRTUAL, held_with, outcome_of, plan_of, state_of, view_of,
 };
-use call_history::{Call, HeldChain, Place, WorldView};
+use call_history::{Call, ChannelViews, HeldChain, Place, WorldView};
 use channel_values::{ByteFault, Listed, Name, NoMemory, Outcome, State};
 use funding_plans::{Aim, AimKind, Facts, Goal, Part, Plan, seat_with};
 use std::alloc::Global;
@@ -201,7 +201,7 @@ fn scene_of(alloc: Global, setting: Setting, latest: Latest) -> Result<Scene, By
     let goals = goals_of(alloc, goals)?;
     Ok(Scene {
         plan,
-        view: view_of(alloc, 0, Vec::new(alloc)),
+        view: view_of(alloc, 0, ChannelViews::new(alloc)),
         places,
         chains,
         goals,
