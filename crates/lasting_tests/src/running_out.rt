@@ -1,6 +1,6 @@
 //! Channels that are final by a time that an entry sets, worked out by hand.
 
-use call_history::{ChannelView, HeldChain, WorldView};
+use call_history::{ChannelView, ChannelViews, HeldChain, PaidAmounts, WorldView};
 use channel_values::{Chain, Fixed, Listed};
 use lasting_node::add_final_by_time;
 use node_lines::Effect;
@@ -43,8 +43,8 @@ const ROWS: [Row; 10] = [
     ),
 ];
 
-fn views_of(alloc: Global, known: &[(u8, Option<u64>)]) -> Result<Vec<ChannelView>, Fail> {
-    let mut views = Vec::new(alloc);
+fn views_of(alloc: Global, known: &[(u8, Option<u64>)]) -> Result<ChannelViews, Fail> {
+    let mut views = ChannelViews::new(alloc);
     for (number, deadline) in known {
         views.push(ChannelView {
             channel: [*number; 32],
@@ -105,8 +105,8 @@ fn is_said(alloc: Global, row: Row) -> Result<bool, Fail> {
     let view = WorldView {
         now: after,
         count: 0,
-        channels: Listed::make(channels),
-        paid: Listed::make(Vec::new(alloc)),
+        channels,
+        paid: PaidAmounts::new(alloc),
     };
     let chains = chains_of(alloc, held)?;
     let mut effects = Vec::new(alloc);
