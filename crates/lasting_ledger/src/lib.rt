@@ -26,5 +26,5 @@ pub use laws::{files_hold_legal_histories, one_ledger_story};
 pub use machine::LedgerMachine;
 pub use recovery::{Begun, Stop, begin};
 pub use running::{Ended, LedgerRun, Start, run_ledger};
-pub use serving::serve_ledger;
+pub use serving::{ready_text, serve_ledger};
 pub use status::Status;

@@ -11,8 +11,9 @@ use crate::machine::LedgerMachine;
 use lasting_lines::{Fault, Mark, Outside, Played, Source, serve};
 use std::alloc::{AllocError, Global};
 
+/// The line that is written before the first line is read.
 #[tactic(auto, unfolding(crate::specs::Runs::ready_text))]
-fn ready_text(alloc: Global, count: u64, mark: &Mark) -> Result<Vec<u8>, AllocError>
+pub fn ready_text(alloc: Global, count: u64, mark: &Mark) -> Result<Vec<u8>, AllocError>
     ensures { IfOk result (λ text. text.items ≡ ready_text count mark.now) }
 {
     let digits = hex::encode(alloc, mark)?;

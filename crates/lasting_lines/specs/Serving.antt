@@ -1,8 +1,8 @@
 -- A machine that takes lines, and what it owes for those in its file.
 use Rattle.std.specs.Prelude.{◌≡◌, ℕ, List, [], ◌∷◌, ◌++◌}
-use Rattle.lasting_lines.specs.Files.{Op, Disk, disk, MayLeave, written}
+use Rattle.lasting_lines.specs.Files.{Op, Appended, Synced, Written, Disk, disk, MayLeave, written}
 use Rattle.lasting_lines.specs.Machines.{Ways}
-use Rattle.lasting_lines.specs.Lines.{after, response, records, recovered, AreTaken}
+use Rattle.lasting_lines.specs.Lines.{after, response, row_of, records, recovered, AreTaken}
 use Rattle.lasting_lines.specs.declared.played.Played.{Played}
 
 -- a text is a prefix of another
@@ -49,3 +49,11 @@ module _ {M : Type 0} (ways : Ways M) where
   abbrev pub KeepsReady : List Op → Played M → List Op → Played M → Type 0
   KeepsReady ops now ops' now' =
       (p : Played M) (before start : List ℕ) → Ready p before start ops now → Ready p before start ops' now'
+
+  -- What a line gives that is taken by itself: a row for the file, with its line feed, and the response. Where the row is
+  -- appended and synced, and then the response is written, the next line can come; so at each moment all is explained.
+  pub record IsAlone (old : Played M) (line row text : List ℕ) (now : Played M) : Type 0 where
+    pub row_is : row ≡ row_of ways old line ++ 10 ∷ []
+    pub text_is : text ≡ response ways old line
+    pub place : now ≡ after ways old line
+    pub ready : (ops : List Op) → KeepsReady ops old (Written text ∷ Synced ∷ Appended row ∷ ops) now

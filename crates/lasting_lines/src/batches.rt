@@ -86,12 +86,13 @@ pub(crate) fn step_all<M: Machine>(
 }
 
 impl<M: Machine> Played<M> {
-    // Takes the first line of a batch.
-    fn begin(&mut self, alloc: Global, line: &[u8]) -> Result<Batch, Fault>
+    /// Takes the first line of a batch.
+    pub(crate) fn begin(&mut self, alloc: Global, line: &[u8]) -> Result<Batch, Fault>
         requires part { IsPart line.now }
         requires taken { M.ways.takes self.old.machine line.now ≡ true }
         ensures holds { IfOk result (λ b. Holds M.ways self.old self.new b.lines.items b.answer.items) }
         ensures line { IfOk result (λ b. IsLine b.lines.items) }
+        ensures same { IfOk result (λ b. b.lines.items ≡ line.now) }
     {
         let answer = self.machine.step(alloc, line)?;
         let lines = Vec::from_slice(alloc, line)?;

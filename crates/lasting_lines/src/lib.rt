@@ -10,6 +10,7 @@
 //! byte 30 between two of them, and the answer is theirs one after the other.
 #![tactic(auto)]
 
+mod alone;
 mod batches;
 mod laws;
 mod machine;
@@ -20,6 +21,7 @@ mod rows;
 mod serving;
 mod source;
 
+pub use alone::Alone;
 pub use batches::SEPARATOR;
 pub use laws::one_story;
 pub use machine::Machine;

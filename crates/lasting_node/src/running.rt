@@ -95,8 +95,8 @@ fn id_of(seed: &[u8; 32]) -> [u8; 16]
     id
 }
 
-// The signer of a first line.
-fn signer_of(alloc: Global, start: &Start) -> Result<Signer, Status>
+/// The signer of a first line, which has signed nothing. The only error is want of memory.
+pub fn signer_of(alloc: Global, start: &Start) -> Result<Signer, Status>
     requires { IsHeight start.now.h }
     ensures signer { IfOk result (λ signer. signer ≡ signer_of start.now) }
     ensures fresh { IfOk result IsFresh }

@@ -25,7 +25,8 @@ fn counted(number: usize) -> Result<u32, Fault>
     }
 }
 
-fn ready_of(played: &Played<NodeMachine>) -> Result<Ready, Fault>
+/// What is said of a node before the first line is read.
+pub fn ready_of(played: &Played<NodeMachine>) -> Result<Ready, Fault>
     ensures { IfOk result (λ ready. ready ≡ ready_of played.now) }
 {
     let node = &played.machine.node;
