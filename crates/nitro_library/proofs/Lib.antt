@@ -1,0 +1,3 @@
+mod NoEnds
+mod AsLoose
+mod Recovering
