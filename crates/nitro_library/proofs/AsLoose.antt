@@ -1,5 +1,5 @@
 -- The boxes behind slots, and cases of what a slot has.
-use Rattle.std.proofs.Common.{◌≡◌, Bool, true, false, Option, Some, None, refl, sym}
+use Rattle.std.proofs.Common.{◌≡◌, true, Option, Some, None, refl, sym}
 use Rattle.std.proofs.lemmas.Bool.{true≢false}
 use Rattle.std.specs.Prelude.{is_some}
 use mir.Syntax.{impl, tnil, dnil}

@@ -1,5 +1,5 @@
 -- Lines that may stand in a file.
-use Rattle.std.proofs.Common.{◌≡◌, ◌==◌, ℕ, Bool, true, false, not, ◌&&◌, ◌||◌, List, [], ◌∷◌, refl}
+use Rattle.std.proofs.Common.{◌≡◌, ◌==◌, ℕ, Bool, true, false, not, ◌||◌, List, [], ◌∷◌, refl}
 use Rattle.lasting_lines.specs.Batches.{IsPart}
 use Rattle.lasting_lines.proofs.Lines.{and_left, and_right}
 use Rattle.nitro_library.specs.Endings.{is_part}

@@ -1,5 +1,5 @@
 -- The records of a file, and a core over them.
-use Rattle.std.proofs.Common.{◌≡◌, ◌==◌, ℕ, zero, suc, take, Bool, true, false, cond, List, [], ◌∷◌, ◌++◌, refl, ◌∙◌, ap, subst}
+use Rattle.std.proofs.Common.{◌≡◌, ℕ, zero, suc, take, Bool, cond, List, [], ◌∷◌, ◌++◌, refl, ◌∙◌, ap, subst}
 use Rattle.lasting_lines.specs.Lines.{IsLine, recovered}
 use Rattle.lasting_lines.specs.Machines.{Ways}
 use Rattle.lasting_lines.specs.Files.{Written, Aside}

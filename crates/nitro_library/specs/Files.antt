@@ -1,9 +1,9 @@
 -- The records of a state file, and a core that begins over them.
-use Rattle.std.specs.Prelude.{◌≡◌, ◌⊎◌, ◌==◌, ℕ, List, [], ◌∷◌, ◌++◌, if◌then◌else◌}
+use Rattle.std.specs.Prelude.{◌≡◌, ◌==◌, ℕ, List, [], ◌∷◌, ◌++◌, if◌then◌else◌}
 use Rattle.lasting_lines.specs.Files.{Written, Aside}
 use Rattle.lasting_lines.specs.Lines.{recovered}
 use Rattle.lasting_lines.specs.Machines.{Ways}
-use Rattle.lasting_lines.specs.Opening.{IsPlayed, owed_to, owed_above}
+use Rattle.lasting_lines.specs.Opening.{owed_to, owed_above}
 use Rattle.lasting_lines.specs.Serving.{Ready}
 use Rattle.lasting_lines.specs.declared.played.Played.{Played}
 use Rattle.nitro_library.specs.declared.cores.Core.{Core}

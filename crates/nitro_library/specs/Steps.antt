@@ -1,5 +1,5 @@
 -- What a step does.
-use Rattle.std.specs.Prelude.{◌≡◌, ℕ, Bool, true, false, List, [], ◌∷◌, Option, Some, None}
+use Rattle.std.specs.Prelude.{◌≡◌, ℕ, true, false, List, [], Option, Some, None}
 use Rattle.lasting_lines.specs.Batches.{batched}
 use Rattle.lasting_lines.specs.Machines.{Ways}
 use Rattle.lasting_lines.specs.Serving.{IsAlone}

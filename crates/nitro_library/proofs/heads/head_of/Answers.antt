@@ -1,4 +1,4 @@
-use Rattle.std.proofs.Common.{rules, ◌≡◌, ◌-◌, ℕ, List, length, drop, ◌∙◌, sym}
+use Rattle.std.proofs.Common.{rules, ◌-◌, length, drop, ◌∙◌, sym}
 use Rattle.std.proofs.Math.Seq.{drop-length}
 use Rattle.lasting_lines.specs.Lines.{IsLine}
 use Rattle.nitro_library.proofs.Recovering.{records-none, records-some, take-none}

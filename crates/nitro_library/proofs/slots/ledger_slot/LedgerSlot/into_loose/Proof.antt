@@ -1,7 +1,7 @@
 -- `into_loose` moves two fields of a slot that has a core, and what they own goes with them.
 use mathlib.Core.Path.{refl, sym, subst}
 use mathlib.Core.List.{List, [], ◌∷◌, ◌++◌}
-use Rattle.std.specs.Prelude.{◌≡◌, true, Option, Some, is_some}
+use Rattle.std.specs.Prelude.{◌≡◌, true, Option, is_some}
 use seplogic.Ra.Ura.{Ura}
 use mir.Val.{Val}
 use base.Logic.{SProp, ent, id⊢}
