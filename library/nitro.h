@@ -5,6 +5,8 @@
  *
  * docs/USING.md has the lines, and what to do after a crash.
  *
+ * Any thread may call with a handle, one at a time: a call beside another one gets NITRO_BUSY.
+ *
  * What the caller has to see to, since nothing here can test it:
  * - A pointer that isn't null points to as many bytes as its length says, and a path ends with a zero byte. The memory stays
  *   as it is during the call, and the memory for results overlaps no other.
