@@ -314,6 +314,10 @@ static int32_t open_handle(
         return NITRO_ARGUMENT;
     }
     *handle = 0;
+    /* `begin` says so too, but a file would be made first. */
+    if (kind == NODE && height != 5 && height != 10 && height != 15) {
+        return NITRO_KEY;
+    }
     struct entry *entry = free_place();
     if (entry == NULL) {
         return NITRO_FULL;
