@@ -7,6 +7,7 @@ pub mod Payouts
 pub mod Rowing
 pub mod Formats
 pub mod Tabled
+pub mod Placed
 pub mod Viewed
 pub mod Telling
 pub mod LoweredMarks

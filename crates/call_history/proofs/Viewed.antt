@@ -1,95 +1,19 @@
 -- The rows of a view: their places in a table of names, and a row that is taken out and put back.
-use Rattle.std.proofs.Common.{◌≡◌, ℕ, zero, suc, ◌+◌, ◌<◌, ◌≤◌, List, [], ◌∷◌, ◌++◌, Bool, true, false, cond, not, ◌&&◌, length, set, get_or, Some, None, refl, sym, ◌∙◌, ap, arith}
+use Rattle.std.proofs.Common.{◌≡◌, ℕ, zero, suc, ◌<◌, ◌≤◌, List, [], ◌∷◌, ◌++◌, Bool, true, false, cond, ◌&&◌, length, set, get_or, Some, None, refl, sym, ◌∙◌, ap, arith}
 use Rattle.std.proofs.lemmas.Bool.{eqb-true}
 use Rattle.std.proofs.lemmas.List.Folds.{find_at}
-use Rattle.std.specs.Prelude.{Option, nat_lt, ◌==◌, unwrap_or}
+use Rattle.std.specs.Prelude.{◌==◌, unwrap_or}
 use Rattle.std.specs.List.{position, position_or_len, find, slice_get}
 use Rattle.std.specs.Map.{lookup}
-use Rattle.std.specs.Option.{option_map, option_or}
 use Rattle.std.specs.Str.{bytes_eq}
 use Rattle.indexmap.specs.IndexMap.{insert_entry}
 use Rattle.call_history.specs.Tables.{found}
 use Rattle.call_history.specs.Viewed.{unknown, is_of, view_of, views_with, ArePlaced, is_paid, paid_amount, paid_with, same_key, paid_rows}
 use Rattle.call_history.specs.declared.view.ChannelView.{ChannelView}
 use Rattle.call_history.proofs.Names.{same_bytes, bytes_eq_self}
-use Rattle.call_history.proofs.Tabled.{place_step, found_at, none_at, change_there, change_added, found_added, changed_same}
-
--- ---- the first place at which a test passes
-
--- of a longer list
-position_step : {X : Type 0} (is : X → Bool) (y : X) (ys : List X) → position is (y ∷ ys) ≡ cond (is y) (Some 0) (option_map suc (position is ys))
-position_step is y ys =
-    ap (λ (n : ℕ). cond (nat_lt n (suc (length ys))) (Some n) None) (place_step is y ys) ∙ go (is y) (position_or_len is ys) (length ys)
-  where
-    go : (b : Bool) (n k : ℕ)
-        → cond (nat_lt (cond b 0 (suc n)) (suc k)) (Some (cond b 0 (suc n))) None
-        ≡ cond b (Some 0) (option_map suc (cond (nat_lt n k) (Some n) None))
-    go true n k = ap (λ (c : Bool). cond c (Some 0) None) first
-      where
-        first : nat_lt 0 (suc k) ≡ true
-        first = grind arith
-    go false n k = ap (λ (c : Bool). cond c (Some (suc n)) None) less ∙ by (nat_lt n k)
-      where
-        less : nat_lt (suc n) (suc k) ≡ nat_lt n k
-        less = grind arith
-
-        by : (c : Bool) → cond c (Some (suc n)) None ≡ option_map suc (cond c (Some n) None)
-        by true = refl
-        by false = refl
-
--- with one more at the end
-position_push : {X : Type 0} (is : X → Bool) (xs : List X) (x : X)
-    → position is (xs ++ x ∷ []) ≡ option_or (position is xs) (cond (is x) (Some (length xs)) None)
-position_push is [] x = position_step is x []
-position_push is (y ∷ ys) x =
-    position_step is y (ys ++ x ∷ [])
-    ∙ go (is y) (position is (ys ++ x ∷ [])) (position is ys) (is x) (position_push is ys x)
-    ∙ sym (ap (λ o. option_or o (cond (is x) (Some (suc (length ys))) None)) (position_step is y ys))
-  where
-    go : (b : Bool) (after before : Option ℕ) (last : Bool) → after ≡ option_or before (cond last (Some (length ys)) None)
-        → cond b (Some 0) (option_map suc after)
-        ≡ option_or (cond b (Some 0) (option_map suc before)) (cond last (Some (suc (length ys))) None)
-    go true after before last ih = refl
-    go false after (Some n) last ih = ap (option_map suc) ih
-    go false after None true ih = ap (option_map suc) ih
-    go false after None false ih = ap (option_map suc) ih
-
--- with another that is like the one that stood there
-position_set : {X : Type 0} (is : X → Bool) (xs : List X) (i : ℕ) (x : X) → is x ≡ is (get_or xs i x) → position is (set xs i x) ≡ position is xs
-position_set is [] i x same = refl
-position_set is (y ∷ ys) zero x same =
-    position_step is x ys ∙ ap (λ b. cond b (Some 0) (option_map suc (position is ys))) same ∙ sym (position_step is y ys)
-position_set is (y ∷ ys) (suc i) x same =
-    position_step is y (set ys i x) ∙ ap (λ o. cond (is y) (Some 0) (option_map suc o)) (position_set is ys i x same) ∙ sym (position_step is y ys)
-
--- a place that is found is the first one, and within
-pub position_some : {X : Type 0} (is : X → Bool) (xs : List X) (i : ℕ) → position is xs ≡ Some i → (i ≡ position_or_len is xs) × (i < length xs)
-position_some {X = X} is xs i e = go (nat_lt (position_or_len is xs) (length xs)) refl e
-  where
-    go : (b : Bool) → nat_lt (position_or_len is xs) (length xs) ≡ b → cond b (Some (position_or_len is xs)) None ≡ Some i
-        → (i ≡ position_or_len is xs) × (i < length xs)
-    go true lt same = let at : i ≡ position_or_len is xs = ap (λ o. unwrap_or o i) (sym same) in (at, grind (arith, lt, at))
-    go false ge same = absurd (cc)
-
-pub position_none : {X : Type 0} (is : X → Bool) (xs : List X) → position is xs ≡ None → length xs ≤ position_or_len is xs
-position_none {X = X} is xs e = go (nat_lt (position_or_len is xs) (length xs)) refl e
-  where
-    go : (b : Bool) → nat_lt (position_or_len is xs) (length xs) ≡ b → cond b (Some (position_or_len is xs)) None ≡ None
-        → length xs ≤ position_or_len is xs
-    go true lt same = absurd (cc)
-    go false ge same = grind (arith, ge)
-
--- no place is past the end
-within : {X : Type 0} (is : X → Bool) (xs : List X) → position_or_len is xs ≤ length xs
-within is [] = omega arith
-within is (y ∷ ys) = by (is y) (within is ys)
-  where
-    by : (b : Bool) → position_or_len is ys ≤ length ys → cond (not b) (1 + position_or_len is ys) 0 ≤ suc (length ys)
-    by true le = omega arith
-    by false le = omega (arith, le)
-
-at_end : {X : Type 0} (is : X → Bool) (xs : List X) (i : ℕ) → position is xs ≡ None → length xs ≡ i → i ≡ position_or_len is xs
-at_end is xs i e end = omega (arith, end, position_none is xs e, within is xs)
+use Rattle.call_history.proofs.Placed as places
+use Rattle.call_history.proofs.Placed.{position_some, position_none, at_end}
+use Rattle.call_history.proofs.Tabled.{found_at, none_at, change_there, change_added, found_added, changed_same}
 
 -- ---- the table of names
 
@@ -98,42 +22,17 @@ pub placed_new : (before after : List (List ℕ × ℕ)) (views : List ChannelVi
     → ArePlaced before views → lookup (bytes_eq v.channel) before ≡ None
     → ((c : List ℕ) → lookup (bytes_eq c) after ≡ cond (bytes_eq v.channel c) (Some (length views)) (lookup (bytes_eq c) before))
     → ArePlaced after (views ++ v ∷ [])
-placed_new before after views v placed new is c = is c ∙ go (bytes_eq v.channel c) refl ∙ sym (position_push (is_of c) views v)
-  where
-    go : (b : Bool) → bytes_eq v.channel c ≡ b
-        → cond b (Some (length views)) (lookup (bytes_eq c) before)
-        ≡ option_or (position (is_of c) views) (cond b (Some (length views)) None)
-    go true e =
-        ap (λ o. option_or o (Some (length views)))
-        (sym new ∙ ap (λ (n : List ℕ). lookup (bytes_eq n) before) (same_bytes v.channel c e) ∙ placed c)
-    go false e = placed c ∙ by (position (is_of c) views)
-      where
-        by : (o : Option ℕ) → o ≡ option_or o None
-        by (Some i) = refl
-        by None = refl
+placed_new = places.placed_new (λ (v : ChannelView). v.channel)
 
 -- of a name that has a place the first row is meant
 pub placed_again : (places : List (List ℕ × ℕ)) (views : List ChannelView) (v : ChannelView) (i : ℕ)
     → ArePlaced places views → lookup (bytes_eq v.channel) places ≡ Some i → ArePlaced places (views ++ v ∷ [])
-placed_again places views v i placed there c = placed c ∙ go (bytes_eq v.channel c) refl ∙ sym (position_push (is_of c) views v)
-  where
-    go : (b : Bool) → bytes_eq v.channel c ≡ b
-        → position (is_of c) views ≡ option_or (position (is_of c) views) (cond b (Some (length views)) None)
-    go true e =
-        let at : position (is_of c) views ≡ Some i =
-        sym (placed c) ∙ ap (λ (n : List ℕ). lookup (bytes_eq n) places) (sym (same_bytes v.channel c e)) ∙ there in
-        at ∙ sym (ap (λ o. option_or o (Some (length views))) at)
-    go false e = by (position (is_of c) views)
-      where
-        by : (o : Option ℕ) → o ≡ option_or o None
-        by (Some i) = refl
-        by None = refl
+placed_again = places.placed_again (λ (v : ChannelView). v.channel)
 
 -- what stands in place of another of the same name
 pub placed_set : (places : List (List ℕ × ℕ)) (views : List ChannelView) (i : ℕ) (v : ChannelView)
     → ArePlaced places views → (get_or views i v).channel ≡ v.channel → ArePlaced places (set views i v)
-placed_set places views i v placed same c =
-    placed c ∙ sym (position_set (is_of c) views i v (ap (λ (n : List ℕ). bytes_eq n c) (sym same)))
+placed_set = places.placed_set (λ (v : ChannelView). v.channel)
 
 -- ---- the row of a channel
 

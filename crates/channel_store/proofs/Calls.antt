@@ -1,6 +1,6 @@
 -- What a call answers, by what is kept of its channel.
 use Rattle.std.proofs.Common.{◌≡◌, ℕ, ◌<◌, Bool, true, false, cond, List, length, Some, None, refl, sym, ◌∙◌, ap, subst}
-use Rattle.std.specs.Prelude.{Option, slice_set}
+use Rattle.std.specs.Prelude.{Option, slice_set, slice_index_or}
 use Rattle.std.specs.Option.{option_map}
 use Rattle.std.proofs.lemmas.List.{set-get_or}
 use Rattle.std.proofs.lemmas.Option.{slice_get_within, get_or_from_slice_get}
@@ -59,6 +59,20 @@ pub noted_good : (r : Rules) (own : Bool) (channel : List ℕ) (next : Signed) (
 noted_good r own channel next kept k good e =
     subst (AreGood r) (sym (noted_changes (noting r own next) channel kept k e)) (changed_good r (noting r own next) channel kept (noting_good r own next) good)
 
+-- it is of the same channel
+pub noted_named : (r : Rules) (own : Bool) (channel : List ℕ) (next : Signed) (kept : List Kept) (k : Kept) → option_map (noting r own next) (kept_of channel kept) ≡ Some k
+    → (slice_index_or kept (place_of channel kept) k).channel ≡ k.channel
+noted_named r own channel next kept k e = go (kept_of channel kept) refl e
+  where
+    go : (o : Option Kept) → kept_of channel kept ≡ o → option_map (noting r own next) o ≡ Some k → (slice_index_or kept (place_of channel kept) k).channel ≡ k.channel
+    go None f e = absurd cc
+    go (Some old) f e =
+        let new : noting r own next old ≡ k = same e in
+        ap (λ (x : Kept). x.channel) (get_or_from_slice_get kept (place_of channel kept) old k f) ∙ ap (λ (x : Kept). x.channel) new
+      where
+        same : Some (noting r own next old) ≡ Some k → noting r own next old ≡ k
+        same f = cc
+
 pub changes : (change : Kept → Kept) (channel : List ℕ) (kept : List Kept) (k : Kept) → Some k ≡ kept_of channel kept
     → slice_set kept (place_of channel kept) (change k) ≡ kept_with change channel kept
 changes change channel kept k e = ap (kept_at change kept (place_of channel kept)) e
@@ -99,3 +113,11 @@ pub adopts_set : (r : Rules) (channel : List ℕ) (shown : Marked) (kept after :
 adopts_set r channel shown kept after k new place same at is good e f =
     subst (AreGood r) (sym (ap (λ (ks : List Kept). slice_set ks place new) same ∙ ap (λ (n : ℕ). slice_set kept n new) at ∙ ap (slice_set kept (place_of channel kept)) is))
     (adopts_good r channel shown kept k good e f)
+
+pub adopts_named : (channel : List ℕ) (shown : Marked) (kept after : List Kept) (k new : Kept) (place : ℕ) → after ≡ kept → place ≡ place_of channel kept → new ≡ with_chain shown k
+    → Some k ≡ kept_of channel kept → (slice_index_or after place new).channel ≡ new.channel
+adopts_named channel shown kept after k new place same at is e =
+    ap (λ (ks : List Kept). (slice_index_or ks place new).channel) same
+    ∙ ap (λ (n : ℕ). (slice_index_or kept n new).channel) at
+    ∙ ap (λ (x : Kept). x.channel) (get_or_from_slice_get kept (place_of channel kept) k new (sym e))
+    ∙ sym (ap (λ (x : Kept). x.channel) is)

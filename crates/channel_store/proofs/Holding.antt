@@ -1,5 +1,5 @@
 -- What a command, a state and a shown chain make of what is kept and of what is held agrees.
-use Rattle.std.proofs.Common.{◌≡◌, ℕ, Bool, true, false, cond, ◌||◌, List, [], ◌∷◌, ◌++◌, Some, None, refl, sym, ◌∙◌, ap, subst}
+use Rattle.std.proofs.Common.{◌≡◌, ℕ, Bool, true, false, cond, ◌||◌, List, [], ◌∷◌, Some, None, refl, sym, ◌∙◌, ap, subst}
 use Rattle.std.specs.Prelude.{Option, map}
 use Rattle.std.specs.List.{find, list_any}
 use Rattle.std.specs.Option.{option_map}
@@ -15,7 +15,7 @@ use Rattle.channel_safety.specs.Held.{note, show}
 use Rattle.channel_store.specs.Keeping.{noting, adopting}
 use Rattle.channel_store.specs.Storing.{is_of, kept_of, kept_with, added}
 use Rattle.channel_store.specs.declared.kept.Kept.{Kept}
-use Rattle.channel_store.specs.Laws.{KeepsHeld, with_added, OpeningIsHeld, NotesState, NotingIsHeld, LinesNoteStates, AdoptingIsHeld, IsAlone, NotingIsAlone, AdoptingIsAlone}
+use Rattle.channel_store.specs.Laws.{KeepsHeld, OpeningIsHeld, NotingIsHeld, LinesNoteStates, AdoptingIsHeld, NotingIsAlone, AdoptingIsAlone}
 use Rattle.channel_store.proofs.Keeping.{kept_same, kept_here, kept_other, or_last, kept_append}
 
 -- ---- opening

@@ -1,5 +1,5 @@
 -- A change of the first that passes a test: it is found so, and what passes only other tests is found as before.
-use Rattle.std.proofs.Common.{◌≡◌, ℕ, suc, ◌+◌, ◌<◌, Bool, true, false, cond, List, [], ◌∷◌, Some, None, length, set, refl, sym, ◌∙◌, ap, subst, arith}
+use Rattle.std.proofs.Common.{◌≡◌, ℕ, suc, ◌+◌, Bool, true, false, cond, List, [], ◌∷◌, Some, set, refl, sym, ◌∙◌, ap, subst, arith}
 use Rattle.std.specs.Prelude.{Option, not}
 use Rattle.std.specs.List.{slice_get, find, position_or_len}
 use Rattle.channel_safety.proofs.Tests.{some-eq, none-eq}

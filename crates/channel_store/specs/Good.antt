@@ -1,5 +1,5 @@
 -- What a store keeps of channels.
-use Rattle.std.specs.Prelude.{◌≡◌, ◌==◌, Bool, true, not, ◌&&◌, nat_le, List, length, map, is_ok, Option}
+use Rattle.std.specs.Prelude.{◌≡◌, ℕ, ◌==◌, Bool, true, not, ◌&&◌, nat_le, List, length, map, is_ok, Option}
 use Rattle.std.specs.List.{All, flat_map}
 use Rattle.std.specs.Option.{option_map}
 use Rattle.channel_values.specs.declared.chain.Signed.{Signed}
@@ -14,6 +14,7 @@ use Rattle.channel_safety.specs.Good.{IsGood}
 use Rattle.channel_store.specs.declared.fault.NoteFault.{NoteFault}
 use Rattle.channel_store.specs.declared.fault.NoteFault.TheVariants as faults
 use Rattle.channel_store.specs.declared.kept.Kept.{Kept}
+use Rattle.channel_store.specs.Storing.{ArePlaced}
 use Rattle.channel_store.specs.Keeping.{is_held, is_ended, next_of, step_of, held_chain, known_state, place_in}
 
 -- why a state isn't noted: the first line that holds
@@ -56,8 +57,9 @@ are_alike old new =
 abbrev pub AreSupported : Rules → List HeldChain → Type 0
 AreSupported r chains = All (λ held. is_ok (supports r held.chain) ≡ true) chains
 
--- what a store is: its lists are those of what it keeps, and that is good
-pub record IsStore (r : Rules) (kept : List Kept) (chains : List HeldChain) (known : List Known) (places : List Place)
-    : Type 0 where
+-- what a store is: its table and its lists are those of what it keeps, and that is good
+pub record IsStore (r : Rules) (kept : List Kept) (by_name : List (List ℕ × ℕ)) (chains : List HeldChain)
+    (known : List Known) (places : List Place) : Type 0 where
+  pub placed : ArePlaced by_name kept
   pub lent : IsLent kept chains known places
   pub good : AreGood r kept

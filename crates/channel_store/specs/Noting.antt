@@ -1,6 +1,5 @@
 -- What a store answers.
 use Rattle.std.specs.Prelude.{◌≡◌, ℕ, Bool, true, false, List, Option, Some, None, Result, Ok, Err}
-use Rattle.channel_values.specs.Spelling.{fixed}
 use Rattle.channel_values.specs.declared.chain.Signed.{Signed}
 use Rattle.channel_values.specs.declared.fault.NoMemory.{NoMemory}
 use Rattle.channel_values.specs.Rules.{Rules}

@@ -1,10 +1,12 @@
 //! The store of all channels of a participant.
 
-ghost use Rattle.std.specs.Prelude.{◌≡◌, ◌<◌, ◌≤◌, Some, None, IfOk, IfSome, ◌++◌, ◌∷◌, [], List, length, map, slice_set, find, option_and_then, true, false, OnOk, OnErr, IsNone};
+ghost use Rattle.std.specs.Prelude.{◌≡◌, ◌<◌, ◌≤◌, Some, None, IfOk, IfSome, ◌++◌, ◌∷◌, [], List, length, map, slice_set, find, slice_index_or, option_and_then, true, false, OnOk, OnErr, IsNone, if◌then◌else◌, ℕ};
 ghost use Rattle.std.specs.List.{flat_map};
+ghost use Rattle.std.specs.Map.{lookup};
 ghost use Rattle.std.specs.Option.{option_map};
 ghost use Rattle.std.specs.Str.{bytes_eq};
 ghost use Rattle.std.specs.Result.{result_err};
+ghost use Rattle.indexmap.specs.IndexMap.{spare};
 ghost use Rattle.channel_values.specs.Spelling.{fixed as spelled};
 ghost use Rattle.channel_values.specs.Digests.{name_of_channel};
 ghost use Rattle.channel_values.specs.Rules.{people, newest};
@@ -12,7 +14,7 @@ ghost use Rattle.support_rules.specs.Real.{real};
 ghost use Rattle.call_history.specs.Marked.{marked_of};
 ghost use Rattle.channel_store.specs.Keeping.{held_chain, known_state, place_in, next_of, noting, adopting};
 ghost use Rattle.channel_store.specs.Good.{AreGood, AreSupported};
-ghost use Rattle.channel_store.specs.Storing.{place_of, kept_of, kept_with, added};
+ghost use Rattle.channel_store.specs.Storing.{place_of, kept_of, kept_with, added, ArePlaced};
 ghost use Rattle.channel_store.specs.Noting.{refusal_of, Notes, is_adopted, Adopts};
 
 use crate::fault::NoteFault;
@@ -20,14 +22,17 @@ use crate::kept::Kept;
 use crate::lent::{Lent, are_alike, lent_of, lists_of};
 use call_history::{HeldChain, Known, Place};
 use channel_values::{Chain, Fixed, Listed, Name, NoMemory, Signed, State, channel_name};
+use indexmap::IndexMap;
 use std::alloc::Global;
 use std::marker::Model;
 use std::mem;
 
-/// What a participant keeps of its channels, in the order in which they were added.
+/// What a participant keeps of its channels, in the order in which they were added. Contracts see the list. A channel
+/// is found by a table of names.
 #[derive(Drop)]
 pub struct Store {
     kept: Vec<Kept>,
+    by_name: IndexMap<Name, usize>,
     lent: Lent,
 }
 
@@ -41,41 +46,66 @@ impl Model for Store {
 
     ghost view = { λ s. s.kept.items };
 
-    ghost invariant = { λ s. IsStore real s.kept.items s.lent.chains.items s.lent.known.items s.lent.places.items };
+    ghost invariant = { λ s. IsStore real s.kept.items s.by_name.entries s.lent.chains.items s.lent.known.items s.lent.places.items };
 }
 
-fn is_of(k: &Kept, channel: &Name) -> bool
-    ensures { result ≡ bytes_eq k.now.channel channel.now }
+/// The place of the channel, if the table has one.
+fn place_in(by_name: &IndexMap<Name, usize>, channel: &Name) -> Option<usize>
+    ensures { result ≡ lookup (bytes_eq channel.now) by_name.now.entries }
 {
-    k.channel == *channel
+    match by_name.get(channel) {
+        Some(place) => Some(*place),
+        None => None,
+    }
 }
 
-fn place_of(kept: &[Kept], channel: &Name) -> usize
+/// The channel has this place, and the others keep theirs.
+fn set_place(by_name: &mut IndexMap<Name, usize>, channel: Name, place: usize)
+    requires { 1 ≤ spare by_name.old }
+    ensures { (c : List ℕ) → lookup (bytes_eq c) by_name.new.entries
+        ≡ (if bytes_eq channel c then Some place else lookup (bytes_eq c) by_name.old.entries) }
+{
+    by_name.insert(channel, place).unwrap();
+}
+
+/// The place of the channel, or past the end where it isn't kept.
+#[tactic(auto, using(crate::proofs::Placing::place_there, crate::proofs::Placing::place_past))]
+fn place_of(kept: &[Kept], by_name: &IndexMap<Name, usize>, channel: &Name) -> usize
+    requires { ArePlaced by_name.now.entries kept.now }
     ensures { result ≡ place_of channel.now kept.now }
 {
-    for (place, k) in kept.iter().enumerate() {
-        if is_of(k, channel) {
-            return place;
-        }
+    match place_in(by_name, channel) {
+        Some(place) => place,
+        None => kept.len(),
     }
-    kept.len()
 }
 
-fn kept_of<'a>(kept: &'a [Kept], channel: &Name) -> Option<&'a Kept>
+fn kept_of<'a>(
+    kept: &'a [Kept],
+    by_name: &IndexMap<Name, usize>,
+    channel: &Name,
+) -> Option<&'a Kept>
+    requires { ArePlaced by_name.now.entries kept.now }
     ensures { option_map (λ m. m.now) result ≡ kept_of channel.now kept.now }
 {
-    kept.get(place_of(kept, channel))
+    kept.get(place_of(kept, by_name, channel))
 }
 
 /// Whether a chain that was shown of a channel is adopted. Both are as before.
 #[tactic(auto, using(crate::proofs::Placing::put_same, crate::proofs::Placing::good_there, crate::proofs::Placing::newer_there, crate::proofs::Placing::none_there))]
-fn is_adopted(kept: &mut Vec<Kept>, channel: &Name, shown: &mut Chain) -> bool
-    requires { AreGood real kept.old.items }
+fn is_adopted(
+    kept: &mut Vec<Kept>,
+    by_name: &IndexMap<Name, usize>,
+    channel: &Name,
+    shown: &mut Chain,
+) -> bool
+    requires good { AreGood real kept.old.items }
+    requires placed { ArePlaced by_name.now.entries kept.old.items }
     ensures value { result ≡ is_adopted real channel.now (marked_of shown.old) kept.old.items }
     ensures same { kept.new.items ≡ kept.old.items }
     ensures shown { shown.new ≡ shown.old }
 {
-    let place = place_of(kept, channel);
+    let place = place_of(kept, by_name, channel);
     if place >= kept.len() {
         return false;
     }
@@ -95,6 +125,7 @@ impl Store {
     {
         Store {
             kept: Vec::new(alloc),
+            by_name: IndexMap::new(alloc),
             lent: Lent {
                 chains: Vec::new(alloc),
                 known: Vec::new(alloc),
@@ -112,9 +143,11 @@ impl Store {
     {
         let alloc = *self.kept.allocator();
         let len = self.kept.len();
+        let channel = channel_name(fixed.bytes());
+        self.by_name.reserve(1)?;
         self.kept.reserve(1)?;
         self.kept.push_reserved(Kept {
-            channel: channel_name(fixed.bytes()),
+            channel,
             me,
             chain: Chain {
                 fixed,
@@ -125,6 +158,7 @@ impl Store {
         });
         match lists_of(alloc, &self.kept) {
             Ok(lent) => {
+                set_place(&mut self.by_name, channel, len);
                 self.lent = lent;
                 Ok(())
             }
@@ -136,9 +170,10 @@ impl Store {
     }
 
     /// Keeps something else of the channel at a place.
-    #[tactic(auto, using(crate::proofs::Placing::put_back, crate::proofs::Placing::lent_back))]
+    #[tactic(auto, using(crate::proofs::Placing::put_back, crate::proofs::Placing::lent_back, crate::proofs::Placing::placed_back))]
     fn set(&mut self, place: usize, k: Kept) -> Result<(), NoMemory>
         requires within { place < length self.old }
+        requires named { (slice_index_or self.old place k).channel ≡ k.channel }
         requires good { AreGood real (slice_set self.old place k) }
         ensures ok { OnOk result (self.new ≡ slice_set self.old place k) }
         ensures err { OnErr result (self.new ≡ self.old) }
@@ -168,7 +203,7 @@ impl Store {
         ensures value { option_map (λ m. m.now) result ≡ kept_of channel.now self.now }
         ensures few { IfSome result (λ m. length m.now.chain.states ≤ people m.now.chain.fixed) }
     {
-        match kept_of(&self.kept, channel) {
+        match kept_of(&self.kept, &self.by_name, channel) {
             None => None,
             Some(k) => Some(k),
         }
@@ -187,7 +222,7 @@ impl Store {
     }
 
     /// Notes a state that passes the tests, with no test of it; `own` says that the participant signed it.
-    #[tactic(auto, using(crate::proofs::Calls::within, crate::proofs::Calls::noted_good, crate::proofs::Calls::noted_changes))]
+    #[tactic(auto, using(crate::proofs::Calls::within, crate::proofs::Calls::noted_good, crate::proofs::Calls::noted_named, crate::proofs::Calls::noted_changes))]
     pub fn note_checked(
         &mut self,
         channel: &Name,
@@ -199,7 +234,7 @@ impl Store {
         ensures err { OnErr result (self.new ≡ self.old) }
     {
         let noted = self.noted(channel, signed, own)?;
-        let place = place_of(&self.kept, channel);
+        let place = place_of(&self.kept, &self.by_name, channel);
         self.set(place, noted)
     }
 
@@ -234,7 +269,7 @@ impl Store {
     pub fn check(&self, channel: &Name, signed: &Signed) -> Result<(), NoteFault>
         ensures { result_err result ≡ refusal_of real channel.now signed.now self.now }
     {
-        match kept_of(&self.kept, channel) {
+        match kept_of(&self.kept, &self.by_name, channel) {
             None => Err(NoteFault::Unknown),
             Some(k) => k.check(signed),
         }
@@ -248,14 +283,14 @@ impl Store {
         ensures { Adopts result (is_adopted real channel.now (marked_of shown) self.old)
             (kept_with (adopting real (marked_of shown)) channel.now self.old) self.old self.new }
     {
-        if !is_adopted(&mut self.kept, channel, &mut shown) {
+        if !is_adopted(&mut self.kept, &self.by_name, channel, &mut shown) {
             return Ok(false);
         }
-        let Some(k) = kept_of(&self.kept, channel) else {
+        let Some(k) = kept_of(&self.kept, &self.by_name, channel) else {
             return Ok(false);
         };
         let adopted = k.with_chain(shown)?;
-        let place = place_of(&self.kept, channel);
+        let place = place_of(&self.kept, &self.by_name, channel);
         self.set(place, adopted)?;
         Ok(true)
     }
@@ -266,7 +301,7 @@ impl Store {
         ensures value { option_map (λ m. m.now) result ≡ kept_of channel.now self.now }
         ensures good { AreGood real self.now }
     {
-        kept_of(&self.kept, channel)
+        kept_of(&self.kept, &self.by_name, channel)
     }
 
     /// The chain that is held of a channel.
@@ -282,7 +317,7 @@ impl Store {
         ensures { option_map (λ m. m.now) result
             ≡ option_and_then (λ k. newest k.chain.states) (kept_of channel.now self.now) }
     {
-        match kept_of(&self.kept, channel) {
+        match kept_of(&self.kept, &self.by_name, channel) {
             None => None,
             Some(k) => k.latest(),
         }
@@ -292,7 +327,7 @@ impl Store {
     pub fn last_signed(&self, channel: &Name) -> Option<&State>
         ensures { option_map (λ m. m.now) result ≡ option_and_then (λ k. k.last) (kept_of channel.now self.now) }
     {
-        match kept_of(&self.kept, channel) {
+        match kept_of(&self.kept, &self.by_name, channel) {
             None => None,
             Some(k) => k.last.as_ref(),
         }
@@ -302,7 +337,7 @@ impl Store {
     pub fn next_turn(&self, channel: &Name) -> Option<u64>
         ensures { result ≡ option_map next_of (kept_of channel.now self.now) }
     {
-        match kept_of(&self.kept, channel) {
+        match kept_of(&self.kept, &self.by_name, channel) {
             None => None,
             Some(k) => Some(k.next()),
         }

@@ -1,8 +1,10 @@
 //! Two people's states of a payment channel, signed by their keys, and what the first person's store answers.
 
+ghost use Rattle.std.specs.Prelude.{◌<◌};
+
 use crate::pair::{Pair, Parts, at, mark, pair_of};
 use channel_store::{NoteFault, Store};
-use channel_values::{Chain, Listed, Name, Signed, StepFault, person_name};
+use channel_values::{Chain, Listed, Name, Signed, StepFault, channel_name, person_name};
 use lms_signatures::Signer;
 use std::alloc::{AllocGlobal, Global};
 use std::process::Abort;
@@ -354,4 +356,38 @@ const KEPT: [Case; 6] = [
 #[test]
 fn the_first_round_is_kept_as_it_comes(rt: HostRuntime) -> Result<(), Fail> {
     are_so(&rt, &KEPT)
+}
+
+/// Nonces of channels that are added one after the other. One comes twice.
+const NONCES: [u64; 5] = [4, 7, 2, 4, 9];
+
+/// The participant's position in the channel.
+fn me_in(pair: Pair) -> u8
+    ensures { result < 2 }
+{
+    (pair.nonce % 2) as u8
+}
+
+/// Adds the channel where it isn't kept.
+fn add(store: &mut Store, pair: Pair) -> Result<(), Fail> {
+    let fixed = pair.fixed()?;
+    if store.kept(&channel_name(fixed.bytes())).is_none() {
+        store.add_channel(fixed, me_in(pair))?;
+    }
+    Ok(())
+}
+
+#[test]
+fn channels_are_found_by_name(rt: HostRuntime) -> Result<(), Fail> {
+    let mut store = Store::make(rt.alloc());
+    for nonce in NONCES {
+        add(&mut store, pair_of(rt.alloc(), nonce))?;
+    }
+    assert_eq!(rt; store.places().len(), 4);
+    for nonce in NONCES {
+        let pair = pair_of(rt.alloc(), nonce);
+        assert_eq!(rt; kept(&store, &pair.channel()?), Some((me_in(pair), 0, 0)));
+    }
+    assert_eq!(rt; kept(&store, &STRAY), None);
+    Ok(())
 }
