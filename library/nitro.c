@@ -2,8 +2,8 @@
  *
  * What the proofs ask of this file:
  * - A slot is zeros before `begin`. `take`, `give` and `end` get a slot only after a `begin` that returned 0, and before `end`.
- * - No slot is in two calls at a time; calls in different threads are ordered by a flag of its entry. That a slot may go from
- *   one thread to another isn't proved: nothing says that it is `Send`. There is nothing in it that belongs to a thread.
+ * - No slot is in two calls at a time. Calls in different threads are ordered by a flag of its entry, which is a sequentially
+ *   consistent atomic. That a slot may go from one thread to another is proved (`Send`).
  * - `begin` gets all bytes of the file, which is open and locked, and the number of its inode. What it says of the file is done
  *   and synced before anything else: begun with `head`, or cut.
  * - The row that `take` gives is appended and synced before `give` is called. If that fails, nothing is given any more.

@@ -1,4 +1,5 @@
 pub mod Values
+pub mod Messages
 pub mod Words
 pub mod Files
 pub mod Results

@@ -1,5 +1,5 @@
 -- The ledger as a machine, and the histories that files of its lines stand for.
-use Rattle.std.specs.Prelude.{ℕ, ◌+◌, ◌^◌, nat_lt, is_ok, List, [], ◌∷◌, length, replicate, Result, Ok, Err}
+use Rattle.std.specs.Prelude.{◌≡◌, ℕ, ◌+◌, ◌^◌, nat_lt, is_ok, List, [], ◌∷◌, length, replicate, Result, Ok, Err}
 use Rattle.call_history.specs.History.{Legal, IsConserved}
 use Rattle.call_history.specs.declared.entry.Entry.{Entry}
 use Rattle.support_rules.specs.Real.{real}
@@ -10,7 +10,7 @@ use Rattle.lasting_lines.specs.Lines.{recovered}
 use Rattle.lasting_lines.specs.Serving.{state}
 use Rattle.lasting_lines.specs.declared.played.Played.{Played}
 use Rattle.lasting_ledger.specs.Events.{◌>>=◌, holds, event_of}
-use Rattle.lasting_ledger.specs.Spelling.{entry_answer}
+use Rattle.lasting_ledger.specs.Spelling.{entry_answer, error_text}
 use Rattle.lasting_ledger.specs.declared.events.Event.{Event}
 use Rattle.lasting_ledger.specs.declared.events.Invalid.{Invalid}
 use Rattle.lasting_ledger.specs.declared.events.Invalid.TheVariants as faults
@@ -39,6 +39,14 @@ line_ways = record {
   next = λ m line. record { ledger = entering m.ledger (taken m.ledger line) };
   owes = λ m line. newest_answer (entering m.ledger (taken m.ledger line));
 }
+
+-- what is written for a line that isn't taken: its error
+abbrev pub message_of : Result Event Invalid → List ℕ
+message_of (Ok event) = []
+message_of (Err fault) = error_text fault
+
+abbrev pub Says : LedgerMachine → List ℕ → List ℕ → Type 0
+Says m line text = text ≡ message_of (taken m.ledger line)
 
 -- of the lines that share a record
 abbrev pub ledger_ways : Ways LedgerMachine

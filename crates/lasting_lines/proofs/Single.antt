@@ -1,7 +1,7 @@
 -- A line that is taken by itself.
 use Rattle.std.proofs.Common.{◌≡◌, ℕ, true, List, [], ◌∷◌, ◌++◌, refl}
 use Rattle.lasting_lines.specs.Machines.{Ways}
-use Rattle.lasting_lines.specs.Files.{Op, Appended, Synced, Written}
+use Rattle.lasting_lines.specs.Files.{Appended, Synced, Written}
 use Rattle.lasting_lines.specs.Lines.{after, response, row_of, IsLine}
 use Rattle.lasting_lines.specs.Serving.{IsAlone}
 use Rattle.lasting_lines.specs.declared.played.Played.{Played}

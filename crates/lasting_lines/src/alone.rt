@@ -1,6 +1,6 @@
 //! A line by itself, for a caller that keeps the file.
 
-ghost use Rattle.std.specs.Prelude.{◌≡◌, true, false, [], IfOk};
+ghost use Rattle.std.specs.Prelude.{◌≡◌, ◌≤◌, ◌+◌, true, false, [], length, IfOk};
 ghost use Rattle.lasting_lines.specs.Batches.{IsPart, batched};
 ghost use Rattle.lasting_lines.specs.Serving.{IsAlone};
 
@@ -29,9 +29,14 @@ impl<M: Machine> Played<M> {
         ensures taken { M.ways.takes self.old.machine line.now ≡ true → IfOk result (λ alone.
             IsAlone (batched M.ways) self.old line.now alone.row.items alone.text.items self.new) }
 
-        // Of any other line, nothing for the file.
+        // Of any other line, nothing for the file, and why it isn't taken.
         ensures none { M.ways.takes self.old.machine line.now ≡ false → IfOk result (λ alone. alone.row.items ≡ []) }
+        ensures says { M.ways.takes self.old.machine line.now ≡ false → IfOk result (λ alone.
+            M.says self.old.machine line.now alone.text.items) }
         ensures same { M.ways.takes self.old.machine line.now ≡ false → self.new ≡ self.old }
+
+        // A row has at most 87 bytes besides its line.
+        ensures short { IfOk result (λ alone. length alone.row.items ≤ length line.now + 87) }
     {
         if let Some(text) = self.machine.refusal(alloc, line)? {
             let row = Vec::new(alloc);

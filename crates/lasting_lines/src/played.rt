@@ -1,6 +1,6 @@
 //! A machine with its place in the file.
 
-ghost use Rattle.std.specs.Prelude.{◌≡◌, IfOk, OnOk};
+ghost use Rattle.std.specs.Prelude.{◌≡◌, ◌≤◌, ◌+◌, length, IfOk, OnOk};
 ghost use Rattle.lasting_lines.specs.Batches.{batched, Holds};
 ghost use Rattle.lasting_lines.specs.Lines.{IsLine, mark_of, row_text, done_text, after, response, row_of};
 
@@ -44,6 +44,7 @@ impl<M: Machine> Played<M> {
         ensures text { (p : Played M) → Holds M.ways p self.old batch.now answer.items
             → IfOk result (λ given. given.text.items ≡ response (batched M.ways) p batch.now) }
         ensures one_row { IfOk result (λ given. IsLine batch.now → IsLine given.row.items) }
+        ensures short { IfOk result (λ given. length given.row.items ≤ length batch.now + 86) }
     {
         if self.count == u64::MAX {
             return Err(Fault::Full);

@@ -11,3 +11,4 @@ pub mod Resent
 pub mod Sending
 pub mod Lasting
 pub mod Values
+pub mod Messages

@@ -1,5 +1,5 @@
 -- The answers to queries, and what is written of other lines that aren't taken.
-use Rattle.std.specs.Prelude.{◌≡◌, ℕ, ◌+◌, ◌-◌, ◌↔◌, IsTrue, Bool, List, [], ◌∷◌, ◌++◌, codes, decimal, length, map, fold, flat_map, slice_index_or, Option, Some, None, if◌then◌else◌}
+use Rattle.std.specs.Prelude.{◌≡◌, ℕ, ◌+◌, ◌-◌, ◌↔◌, IsTrue, Bool, List, [], ◌∷◌, ◌++◌, codes, decimal, length, map, fold, flat_map, slice_index_or, Option, Some, None, Result, Ok, Err, if◌then◌else◌}
 use Rattle.std.specs.List.{find}
 use Rattle.std.specs.Str.{bytes_eq}
 use Rattle.channel_values.specs.Outcomes.{total}
@@ -29,10 +29,11 @@ use Rattle.node_lines.specs.Texts.{share_text, balance_text, report_text, plan_t
 use Rattle.node_lines.specs.declared.answers.AssetBalance.{AssetBalance}
 use Rattle.node_lines.specs.declared.effects.Effect.TheVariants as effects
 use Rattle.node_lines.specs.declared.errors.Why.TheVariants as whys
+use Rattle.node_lines.specs.declared.events.NodeEvent.{NodeEvent}
 use Rattle.node_lines.specs.declared.events.Query.{Query}
 use Rattle.node_lines.specs.declared.events.Query.TheVariants.{Share, Balance, Report, Plan, Chains, Resend}
 use Rattle.lasting_node.specs.Effects.{own, sends}
-use Rattle.lasting_node.specs.Machines.{number}
+use Rattle.lasting_node.specs.Machines.{number, taken}
 use Rattle.lasting_node.specs.declared.machine.NodeMachine.{NodeMachine}
 use Rattle.lasting_node.specs.declared.taking.NotTaken.{NotTaken}
 use Rattle.lasting_node.specs.declared.taking.NotTaken.TheVariants.{Wrong, Refuses, Asks}
@@ -128,3 +129,12 @@ abbrev pub IsMessage : NodeMachine → NotTaken → List ℕ → Type 0
 IsMessage m (Wrong why) text = text ≡ error_text why
 IsMessage m (Refuses refusal) text = text ≡ flat_map (effect_text (number m)) (effects.Refused refusal ∷ [])
 IsMessage m (Asks query) text = IsReply m query text
+
+-- nothing is written of an event that is taken, before it is
+abbrev pub IsSaid : NodeMachine → Result NodeEvent NotTaken → List ℕ → Type 0
+IsSaid m (Ok event) text = ⊥
+IsSaid m (Err why) text = IsMessage m why text
+
+-- what is written for a line that isn't taken
+abbrev pub Says : NodeMachine → List ℕ → List ℕ → Type 0
+Says m line text = IsSaid m (taken m line) text

@@ -120,9 +120,13 @@ impl NodeMachine {
 
 impl Machine for NodeMachine {
     ghost use Rattle.lasting_node.specs.Machines.{line_ways};
+    ghost use Rattle.lasting_node.specs.Queries.{Says};
 
     ghost ways = { line_ways };
 
+    ghost says = { Says };
+
+    #[tactic(auto, using(crate::proofs::Messages::says))]
     fn refusal(&self, alloc: Global, line: &[u8]) -> Result<Option<Vec<u8>>, AllocError> {
         match self.taken(alloc, line) {
             Ok(event) => {

@@ -1,5 +1,5 @@
 -- What the tiny machine does.
-use Rattle.std.specs.Prelude.{ℕ, ◌+◌, ◌-◌, ◌^◌, List, [], ◌∷◌, ◌++◌, nat_lt, length, min, decimal}
+use Rattle.std.specs.Prelude.{◌≡◌, ℕ, ◌+◌, ◌-◌, ◌^◌, List, [], ◌∷◌, ◌++◌, nat_lt, length, min, decimal, codes}
 use Rattle.lasting_lines.specs.Machines.{Ways}
 use Rattle.lasting_tests.specs.declared.tally.Tally.{Tally}
 
@@ -12,3 +12,7 @@ tally_ways = record {
   next = tally_next;
   owes = λ t line. decimal (min (t.total + length line) (2 ^ 64 - 1)) ++ 10 ∷ [];
 }
+
+-- what it says of an empty line
+abbrev pub Says : Tally → List ℕ → List ℕ → Type 0
+Says t line text = text ≡ codes "no line\n"

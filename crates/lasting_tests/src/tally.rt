@@ -14,9 +14,11 @@ pub struct Tally {
 }
 
 impl Machine for Tally {
-    ghost use Rattle.lasting_tests.specs.Tallies.{tally_ways};
+    ghost use Rattle.lasting_tests.specs.Tallies.{tally_ways, Says};
 
     ghost ways = { tally_ways };
+
+    ghost says = { Says };
 
     fn refusal(&self, alloc: Global, line: &[u8]) -> Result<Option<Vec<u8>>, AllocError> {
         if line.is_empty() {

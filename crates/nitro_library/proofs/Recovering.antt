@@ -1,5 +1,5 @@
 -- The records of a file, and a core over them.
-use Rattle.std.proofs.Common.{◌≡◌, ℕ, zero, suc, take, Bool, cond, List, [], ◌∷◌, ◌++◌, refl, ◌∙◌, ap, subst}
+use Rattle.std.proofs.Common.{◌≡◌, ℕ, Bool, cond, List, [], ◌∷◌, ◌++◌, refl, ◌∙◌, ap, subst}
 use Rattle.lasting_lines.specs.Lines.{IsLine, recovered}
 use Rattle.lasting_lines.specs.Machines.{Ways}
 use Rattle.lasting_lines.specs.Files.{Written, Aside}
@@ -13,20 +13,16 @@ use Rattle.nitro_library.specs.declared.cores.Core.{Core}
 
 -- ---- the first line
 
-pub records-none : (bytes : List ℕ) → IsLine bytes → records_in bytes ≡ []
-records-none [] is = refl
-records-none (b ∷ rest) is = ap (λ (t : Bool). cond t rest (records_in rest)) is.0 ∙ records-none rest is.1
+pub records_none : (bytes : List ℕ) → IsLine bytes → records_in bytes ≡ []
+records_none [] is = refl
+records_none (b ∷ rest) is = ap (λ (t : Bool). cond t rest (records_in rest)) is.0 ∙ records_none rest is.1
 
-pub records-some : (bytes row rest : List ℕ) → bytes ≡ row ++ 10 ∷ rest → IsLine row → records_in bytes ≡ rest
-records-some bytes row rest e is = ap records_in e ∙ go row is
+pub records_some : (bytes row rest : List ℕ) → bytes ≡ row ++ 10 ∷ rest → IsLine row → records_in bytes ≡ rest
+records_some bytes row rest e is = ap records_in e ∙ go row is
   where
     go : (row : List ℕ) → IsLine row → records_in (row ++ 10 ∷ rest) ≡ rest
     go [] is = refl
     go (b ∷ row) is = ap (λ (t : Bool). cond t (row ++ 10 ∷ rest) (records_in (row ++ 10 ∷ rest))) is.0 ∙ go row is.1
-
-pub take-none : (k : ℕ) (l : List ℕ) → l ≡ [] → take k l ≡ []
-take-none zero l e = refl
-take-none (suc k) l e = ap (take (suc k)) e
 
 -- ---- a core that begins
 

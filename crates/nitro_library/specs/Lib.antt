@@ -3,6 +3,8 @@ pub mod Endings
 pub mod Asked
 pub mod Steps
 pub mod Files
+pub mod Heads
+pub mod Beginnings
 pub mod Ledgers
 pub mod Nodes
 pub mod Slots

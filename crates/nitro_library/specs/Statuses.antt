@@ -1,7 +1,14 @@
--- The numbers for how calls end.
-use Rattle.std.specs.Prelude.{ℕ, Result, Ok, Err}
+-- How calls end, and the numbers for it.
+use Rattle.std.specs.Prelude.{◌≡◌, ℕ, ◌+◌, Bool, true, false, not, ◌||◌, nat_lt, List, length, Option, Some, None, Result, Ok, Err}
+use Rattle.channel_values.specs.Words.{fault_if, ◌⊳◌}
+use Rattle.lasting_lines.specs.declared.outside.Fault.{Fault}
+use Rattle.lasting_lines.specs.declared.outside.Fault.TheVariants as faults
+use Rattle.nitro_library.specs.Endings.{is_part}
+use Rattle.nitro_library.specs.declared.cores.Core.{Core}
 use Rattle.nitro_library.specs.declared.status.Failure.{Failure}
 use Rattle.nitro_library.specs.declared.status.Failure.TheVariants.{OutOfMemory, Key, Line, File, Damaged, Foreign, Behind, Entries, Room, Kept, Ended, Torn}
+
+-- ---- the numbers
 
 abbrev pub code_of : Failure → ℕ
 code_of OutOfMemory = 1
@@ -20,3 +27,71 @@ code_of (Torn kept) = 20
 abbrev pub status_of : Result (Unit {0}) Failure → ℕ
 status_of (Ok done) = 0
 status_of (Err failure) = code_of failure
+
+-- of a call that ends with the fault, or is done
+abbrev pub status_by : Option Failure → ℕ
+status_by None = 0
+status_by (Some fault) = code_of fault
+
+-- after how many bytes the file is to be cut, or 0
+abbrev pub cut_after : Failure → ℕ
+cut_after (Torn kept) = kept
+cut_after failure = 0
+
+-- a status and a count for a failure that is so
+pub record IsStopped (is_why : Failure → Type 0) (status count : ℕ) : Type 0 where
+  pub failure : Failure
+  pub why : is_why failure
+  pub number : status ≡ code_of failure
+  pub cut : count ≡ cut_after failure
+
+-- ---- calls that end at once
+
+-- bytes don't fit into so much room
+abbrev pub room_fault : List ℕ → ℕ → Option Failure
+room_fault bytes room = fault_if (nat_lt room (length bytes)) Room
+
+-- Why a line isn't looked at: the first that holds. An earlier call failed, an answer is kept, the line is too long or has a
+-- byte that separates lines, or there is too little room for its row.
+abbrev pub line_fault : {M : Type 0} → Core M → List ℕ → ℕ → Option Failure
+line_fault core line room =
+    fault_if core.is_over Ended
+    ⊳ fault_if (nat_lt 0 (length core.kept.items)) Kept
+    ⊳ fault_if (nat_lt 1048576 (length line) || not (is_part line)) Line
+    ⊳ fault_if (nat_lt room (length line + 128)) Room
+
+-- ---- calls that end later
+
+-- Why a line that was looked at fails: out of memory, no numbers left for records, or an entry whose reply isn't the
+-- adjudicator's.
+abbrev pub is_late : Failure → Bool
+is_late OutOfMemory = true
+is_late File = true
+is_late Entries = true
+is_late Key = false
+is_late Line = false
+is_late Damaged = false
+is_late Foreign = false
+is_late Behind = false
+is_late Room = false
+is_late Kept = false
+is_late Ended = false
+is_late (Torn kept) = false
+
+-- by what stopped the machine
+abbrev pub late_of : Fault → Failure
+late_of faults.NoMemory = OutOfMemory
+late_of faults.Foreign = Entries
+late_of faults.Full = File
+late_of faults.Input = File
+late_of faults.Failed = File
+
+-- How a call ends: with the fault, where there is one. Else it is done, or it fails later.
+abbrev pub EndsBy : Option Failure → Result (Unit {0}) Failure → Type 0
+EndsBy (Some fault) outcome = outcome ≡ Err fault
+EndsBy None (Ok done) = Unit {0}
+EndsBy None (Err failure) = is_late failure ≡ true
+
+-- a status of such an end
+abbrev pub HasStatus : Option Failure → ℕ → Type 0
+HasStatus fault status = (outcome : Result (Unit {0}) Failure) × EndsBy fault outcome × (status ≡ status_of outcome)

@@ -22,7 +22,8 @@ fn has_no_end(line: &[u8]) -> bool
 /// Whether no byte of a line is a line feed or a separator of batches.
 #[tactic(auto, using(crate::proofs::NoEnds::part))]
 pub(crate) fn is_part(line: &[u8]) -> bool
-    ensures { result ≡ true → IsPart line.now }
+    ensures value { result ≡ is_part line.now }
+    ensures part { result ≡ true → IsPart line.now }
 {
     has_no_end(line)
 }

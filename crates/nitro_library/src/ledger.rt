@@ -1,15 +1,19 @@
 //! The ledger.
 
-ghost use Rattle.std.specs.Prelude.{◌≡◌, ◌≢◌, ℕ, List, true, false, [], None, is_some, take, length, IfOk, IfSome};
-ghost use Rattle.lasting_ledger.specs.Ledgers.{line_ways, ledger_ways, unplayed};
+ghost use Rattle.std.specs.Prelude.{◌≡◌, ◌≢◌, ◌≤◌, ℕ, List, true, [], None, is_some, take, length, unwrap_or, IfOk, IfErr, OnOk, OnErr, IfSome};
+ghost use Rattle.lasting_ledger.specs.Ledgers.{line_ways, ledger_ways, unplayed, Says};
+ghost use Rattle.lasting_ledger.specs.Runs.{count_in};
 ghost use Rattle.lasting_lines.specs.Opening.{IsPlayed};
-ghost use Rattle.nitro_library.specs.Asked.{left_out};
+ghost use Rattle.nitro_library.specs.Asked.{after_of, left_out};
+ghost use Rattle.nitro_library.specs.Heads.{is_ours, head_in};
 ghost use Rattle.nitro_library.specs.Files.{records_in};
-ghost use Rattle.nitro_library.specs.Ledgers.{ledger_begins};
+ghost use Rattle.nitro_library.specs.Ledgers.{ledger_title, ledger_begins, IsWhyNone};
+ghost use Rattle.nitro_library.specs.Statuses.{room_fault, line_fault, HasStatus, IsStopped, status_by};
+ghost use Rattle.nitro_library.specs.declared.status.Failure.TheVariants.{OutOfMemory};
 ghost use Rattle.nitro_library.specs.Steps.{Between, IsAnswer};
 
 use crate::cores::{Core, put};
-use crate::heads::head_of;
+use crate::heads::{cut_after, head_of};
 use crate::opened::OpenedFile;
 use crate::slots::LedgerSlot;
 use crate::status::{Failure, status_of};
@@ -26,20 +30,10 @@ pub struct LedgerCore {
     pub core: Core<LedgerMachine>,
 }
 
-// Of a file whose records begin after so many bytes.
-fn failure_of(stop: Stop, head: usize) -> Failure {
-    match stop {
-        Stop::NoMemory => Failure::OutOfMemory,
-        Stop::Full => Failure::File,
-        Stop::Torn(kept) => Failure::Torn(head.saturating_add(kept)),
-        Stop::Damaged => Failure::Damaged,
-        Stop::Behind => Failure::Behind,
-    }
-}
-
 // A ledger that has taken the records of its file.
 fn core_of(alloc: Global, begun: Begun) -> Result<LedgerCore, Failure>
-    ensures { (n : ℕ) (file : List ℕ) → IsPlayed ledger_ways unplayed file n begun.played begun.again.items
+    ensures memory { IfErr result (λ failure. failure ≡ OutOfMemory) }
+    ensures begins { (n : ℕ) (file : List ℕ) → IsPlayed ledger_ways unplayed file n begun.played begun.again.items
         → IfOk result (λ ledger. ledger_begins n file ledger.core) }
 {
     let Begun { played, again } = begun;
@@ -55,6 +49,7 @@ fn core_of(alloc: Global, begun: Begun) -> Result<LedgerCore, Failure>
 }
 
 // A ledger over the bytes of its file.
+#[tactic(auto, using(crate::proofs::Stopping::memory_why, crate::proofs::Stopping::foreign_why, crate::proofs::Stopping::room_why, crate::proofs::Stopping::torn_why, crate::proofs::Stopping::damaged_why, crate::proofs::Stopping::behind_why))]
 fn begun(
     alloc: Global,
     file: &OpenedFile,
@@ -62,21 +57,60 @@ fn begun(
     head: &mut [u8],
     count: &mut usize,
 ) -> Result<LedgerCore, Failure>
-    ensures { IfOk result (λ ledger. ledger_begins (left_out file.now) (records_in bytes.now) ledger.core) }
+    ensures begins { IfOk result (λ ledger.
+        ledger_begins (left_out file.now) (records_in bytes.now) ledger.core) }
+    ensures ours { OnOk result (is_ours ledger_title file.now bytes.now ≡ true) }
+    ensures head { OnOk result (take count.new head.new ≡ head_in ledger_title file.now bytes.now) }
+    ensures enough { OnOk result (unwrap_or (after_of file.now) 0 ≤ count_in (records_in bytes.now)) }
+    ensures why { IfErr result (IsWhyNone file.now bytes.now (length head.old)) }
 {
     let found = head_of(alloc, file, TITLE, bytes)?;
     put(&found.line, head, count)?;
-    let begun = match begin(alloc, found.records, file.after()) {
-        Ok(begun) => begun,
-        Err(stop) => return Err(failure_of(stop, bytes.len().saturating_sub(found.records.len()))),
-    };
-    core_of(alloc, begun)
+    match begin(alloc, found.records, file.after()) {
+        Ok(begun) => core_of(alloc, begun),
+        Err(Stop::NoMemory) => Err(Failure::OutOfMemory),
+        Err(Stop::Full) => Err(Failure::File),
+        Err(Stop::Torn(kept)) => Err(Failure::Torn(cut_after(bytes, found.records, kept))),
+        Err(Stop::Damaged) => Err(Failure::Damaged),
+        Err(Stop::Behind) => Err(Failure::Behind),
+    }
+}
+
+// A ledger over the bytes of its file, in a slot.
+#[tactic(auto, using(crate::proofs::Stopping::memory_why))]
+fn begin_in(
+    alloc: Global,
+    slot: &mut LedgerSlot,
+    file: &OpenedFile,
+    bytes: &[u8],
+    head: &mut [u8],
+    count: &mut usize,
+) -> Result<(), Failure>
+    requires { slot.old.core ≡ None }
+    ensures begun { OnOk result (is_some slot.new.core ≡ true) }
+    ensures begins { IfSome slot.new.core (λ ledger.
+        ledger_begins (left_out file.now) (records_in bytes.now) ledger.core) }
+    ensures ours { OnOk result (is_ours ledger_title file.now bytes.now ≡ true) }
+    ensures head { OnOk result (take count.new head.new ≡ head_in ledger_title file.now bytes.now) }
+    ensures enough { OnOk result (unwrap_or (after_of file.now) 0 ≤ count_in (records_in bytes.now)) }
+    ensures none { OnErr result (slot.new.core ≡ None) }
+    ensures why { IfErr result (IsWhyNone file.now bytes.now (length head.old)) }
+{
+    let ledger = begun(alloc, file, bytes, head, count)?;
+    match Box::new(alloc, ledger) {
+        Ok(core) => {
+            *slot = LedgerSlot::of(core);
+            Ok(())
+        }
+        Err(_) => Err(Failure::OutOfMemory),
+    }
 }
 
 /// Begins a ledger over a file and its bytes, all of them. It keeps the responses that were asked for and the line `ready`.
 /// `head` has room for 256 bytes. With 0, the file has to be emptied, begun with `count` of them and synced, if `count` isn't 0.
 /// With 20 it has to be cut after `count` bytes, synced, and begun anew.
 #[unsafe(no_mangle)]
+#[tactic(auto, using(crate::proofs::Outcomes::stopped))]
 pub extern "C" fn nitro_rt_ledger_begin(
     alloc: Global,
     slot: &mut LedgerSlot,
@@ -91,28 +125,29 @@ pub extern "C" fn nitro_rt_ledger_begin(
     ensures begun { result ≡ 0 → is_some slot.new.core ≡ true }
     ensures begins { IfSome slot.new.core (λ ledger.
         ledger_begins (left_out file.now) (records_in bytes.now) ledger.core) }
+    // The file is the caller's, and has as many records as were to be left out. `head` has what it has to begin with.
+    ensures ours { result ≡ 0 → is_ours ledger_title file.now bytes.now ≡ true }
+    ensures enough { result ≡ 0 → unwrap_or (after_of file.now) 0 ≤ count_in (records_in bytes.now) }
+    ensures head { result ≡ 0 → take count.new head.new ≡ head_in ledger_title file.now bytes.now }
+
+    // Otherwise there is no ledger, and the status and the count say why.
     ensures none { result ≢ 0 → slot.new.core ≡ None }
+    ensures why { result ≢ 0 → IsStopped (IsWhyNone file.now bytes.now (length head.old)) result count.new }
 {
     *count = 0;
-    let ledger = match begun(alloc, file, bytes, head, count) {
-        Ok(ledger) => ledger,
+    match begin_in(alloc, slot, file, bytes, head, count) {
+        Ok(()) => 0,
         Err(failure) => {
-            *count = failure.kept();
-            return failure.code();
+            *count = failure.cut_after();
+            failure.code()
         }
-    };
-    match Box::new(alloc, ledger) {
-        Ok(core) => {
-            *slot = LedgerSlot::of(core);
-            0
-        }
-        Err(_) => Failure::OutOfMemory.code(),
     }
 }
 
 /// Takes a line. With 0, `count` bytes of `row` have to be appended to the file and synced before anything is given. `row` has
 /// room for the line and 128 bytes more.
 #[unsafe(no_mangle)]
+#[tactic(auto, using(crate::proofs::Outcomes::has_status))]
 pub extern "C" fn nitro_rt_ledger_take(
     alloc: Global,
     slot: &mut LedgerSlot,
@@ -125,14 +160,20 @@ pub extern "C" fn nitro_rt_ledger_take(
 
     // The row is that of the line, and what is kept is the response to it, or why it isn't taken. Where the row is on the disk
     // before the response is given, at each moment whatever a crash leaves of the file explains all that was given.
-    ensures answer { result ≡ 0 → Between (λ old new. IsAnswer line_ways old.core.played line.now (take count.new row.new)
-        new.core.kept.items new.core.played) slot.old.core slot.new.core }
+    ensures answer { result ≡ 0 → Between (λ old new. IsAnswer line_ways Says old.core.played line.now
+        (take count.new row.new) new.core.kept.items new.core.played) slot.old.core slot.new.core }
 
     // Nothing was kept before.
     ensures empty { result ≡ 0 → IfSome slot.old.core (λ old. old.core.kept.items ≡ []) }
 
-    // Otherwise nothing has changed, or the ledger is over.
-    ensures same { result ≢ 0 → Between (λ old new. new.core.is_over ≡ false → new ≡ old) slot.old.core slot.new.core }
+    // A line that isn't looked at has the status of the first test that fails, and changes nothing.
+    ensures status { IfSome slot.old.core (λ old. HasStatus (line_fault old.core line.now (length row.old)) result) }
+    ensures same { Between (λ old new. IfSome (line_fault old.core line.now (length row.old)) (λ _. new ≡ old))
+        slot.old.core slot.new.core }
+
+    // After one that fails later the ledger is over.
+    ensures over { result ≢ 0 → Between (λ old new. line_fault old.core line.now (length row.old) ≡ None
+        → new.core.is_over ≡ true) slot.old.core slot.new.core }
 {
     let mut ledger = mem::replace(slot, LedgerSlot::empty(alloc)).into_core();
     let outcome = ledger.core.take(alloc, line, row, count);
@@ -142,6 +183,7 @@ pub extern "C" fn nitro_rt_ledger_take(
 
 /// Gives what is kept. `count` is its length. With 13 there is no room for it.
 #[unsafe(no_mangle)]
+#[tactic(auto, using(crate::proofs::Outcomes::given_status))]
 pub extern "C" fn nitro_rt_ledger_give(
     alloc: Global,
     slot: &mut LedgerSlot,
@@ -155,9 +197,12 @@ pub extern "C" fn nitro_rt_ledger_give(
     ensures given { result ≡ 0 → IfSome slot.old.core (λ old. take count.new text.new ≡ old.core.kept.items) }
     ensures empty { result ≡ 0 → IfSome slot.new.core (λ new. new.core.kept.items ≡ []) }
 
-    // Or it is kept, and its length is told.
+    // Where it doesn't fit it is kept.
+    ensures status { IfSome slot.old.core (λ old. result ≡ status_by (room_fault old.core.kept.items (length text.old))) }
     ensures kept { result ≢ 0 → Between (λ old new. new.core.kept.items ≡ old.core.kept.items) slot.old.core slot.new.core }
-    ensures count { result ≢ 0 → IfSome slot.old.core (λ old. count.new ≡ length old.core.kept.items) }
+
+    // Its length is given in both cases.
+    ensures count { IfSome slot.old.core (λ old. count.new ≡ length old.core.kept.items) }
     ensures same { Between (λ old new. new.core.played ≡ old.core.played) slot.old.core slot.new.core }
 {
     let mut ledger = mem::replace(slot, LedgerSlot::empty(alloc)).into_core();

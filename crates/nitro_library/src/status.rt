@@ -1,7 +1,8 @@
 //! Why a call fails, and the numbers for it.
 
-ghost use Rattle.std.specs.Prelude.{◌≡◌, ◌≢◌};
-ghost use Rattle.nitro_library.specs.Statuses.{code_of, status_of};
+ghost use Rattle.std.specs.Prelude.{◌≡◌, ◌≢◌, true};
+ghost use Rattle.nitro_library.specs.declared.status.Failure.TheVariants.{OutOfMemory};
+ghost use Rattle.nitro_library.specs.Statuses.{code_of, cut_after, status_of, is_late, late_of};
 
 use channel_values::NoMemory;
 use lasting_lines::Fault;
@@ -60,7 +61,9 @@ impl Failure {
 
 impl Failure {
     /// After how many bytes the file is to be cut, or 0.
-    pub(crate) fn kept(self) -> usize {
+    pub(crate) fn cut_after(self) -> usize
+        ensures { result ≡ cut_after self }
+    {
         match self {
             Failure::Torn(kept) => kept,
             _ => 0,
@@ -78,25 +81,30 @@ pub(crate) fn status_of(outcome: Result<(), Failure>) -> u8
     }
 }
 
+/// Why a line that was looked at fails.
+pub(crate) fn late_of(fault: Fault) -> Failure
+    ensures value { result ≡ late_of fault }
+    ensures late { is_late result ≡ true }
+{
+    match fault {
+        Fault::NoMemory => Failure::OutOfMemory,
+        Fault::Foreign => Failure::Entries,
+        Fault::Input | Fault::Failed | Fault::Full => Failure::File,
+    }
+}
+
 impl From<AllocError> for Failure {
+    ghost from_gives = { λ _ e. e ≡ OutOfMemory };
+
     fn from(_e: AllocError) -> Failure {
         Failure::OutOfMemory
     }
 }
 
 impl From<NoMemory> for Failure {
+    ghost from_gives = { λ _ e. e ≡ OutOfMemory };
+
     fn from(_e: NoMemory) -> Failure {
         Failure::OutOfMemory
-    }
-}
-
-impl From<Fault> for Failure {
-    fn from(fault: Fault) -> Failure {
-        match fault {
-            Fault::NoMemory => Failure::OutOfMemory,
-            Fault::Input => Failure::Line,
-            Fault::Failed | Fault::Full => Failure::File,
-            Fault::Foreign => Failure::Entries,
-        }
     }
 }

@@ -5,6 +5,7 @@ ghost use Rattle.nitro_library.specs.Slots.{ledger_owns, ledger_coded};
 
 use crate::ledger::LedgerCore;
 use crate::loose::Loose;
+use crate::slots::sendable;
 use std::alloc::Global;
 use std::marker::Model;
 use std::ptr;
@@ -21,6 +22,9 @@ pub struct LedgerSlot {
 impl Model for LedgerSlot {
     ghost also_owns = { λ s. ledger_owns s.alloc s.at s.core };
 }
+
+// The proof is in proofs/slots/ledger_slot/LedgerSlot/TheSendSync.
+unsafe impl Send for LedgerSlot {}
 
 impl LedgerSlot {
     pub(crate) fn empty(alloc: Global) -> LedgerSlot
@@ -53,11 +57,11 @@ impl LedgerSlot {
         }
     }
 
-    /// A slot with a core.
+    /// A slot with a core, which may go from one thread to another.
     pub(crate) fn of(core: Box<LedgerCore>) -> LedgerSlot
         ensures { result.core ≡ Some core.value }
     {
-        LedgerSlot::of_loose(Loose::of(core))
+        sendable(LedgerSlot::of_loose(Loose::of(core)))
     }
 
     /// The core of a slot that has one.

@@ -5,6 +5,7 @@ ghost use Rattle.nitro_library.specs.Slots.{node_owns, node_coded};
 
 use crate::loose::Loose;
 use crate::node::NodeCore;
+use crate::slots::sendable;
 use std::alloc::Global;
 use std::marker::Model;
 use std::ptr;
@@ -21,6 +22,9 @@ pub struct NodeSlot {
 impl Model for NodeSlot {
     ghost also_owns = { λ s. node_owns s.alloc s.at s.core };
 }
+
+// The proof is in proofs/slots/node_slot/NodeSlot/TheSendSync.
+unsafe impl Send for NodeSlot {}
 
 impl NodeSlot {
     pub(crate) fn empty(alloc: Global) -> NodeSlot
@@ -53,11 +57,11 @@ impl NodeSlot {
         }
     }
 
-    /// A slot with a core.
+    /// A slot with a core, which may go from one thread to another.
     pub(crate) fn of(core: Box<NodeCore>) -> NodeSlot
         ensures { result.core ≡ Some core.value }
     {
-        NodeSlot::of_loose(Loose::of(core))
+        sendable(NodeSlot::of_loose(Loose::of(core)))
     }
 
     /// The core of a slot that has one.
