@@ -48,6 +48,10 @@ message_of (Err fault) = error_text fault
 abbrev pub Says : LedgerMachine → List ℕ → List ℕ → Type 0
 Says m line text = text ≡ message_of (taken m.ledger line)
 
+-- no line is of another story
+abbrev pub Foreign : LedgerMachine → List ℕ → Type 0
+Foreign m line = ⊥
+
 -- of the lines that share a record
 abbrev pub ledger_ways : Ways LedgerMachine
 ledger_ways = batched line_ways

@@ -57,11 +57,13 @@ impl LedgerMachine {
 }
 
 impl Machine for LedgerMachine {
-    ghost use Rattle.lasting_ledger.specs.Ledgers.{line_ways, Says};
+    ghost use Rattle.lasting_ledger.specs.Ledgers.{line_ways, Says, Foreign};
 
     ghost ways = { line_ways };
 
     ghost says = { Says };
+
+    ghost foreign = { Foreign };
 
     #[tactic(auto, using(crate::proofs::Messages::says))]
     fn refusal(&self, alloc: Global, line: &[u8]) -> Result<Option<Vec<u8>>, AllocError> {

@@ -1,9 +1,10 @@
 //! From the bytes of a state file to a ledger.
 
 ghost use Rattle.std.specs.Prelude.{◌≡◌, ◌≤◌, ◌<◌, ℕ, unwrap_or, IfOk, Err};
+ghost use Rattle.lasting_lines.specs.Endings.{FullIn};
 ghost use Rattle.lasting_lines.specs.Opening.{IsPlayed, IsFound};
 ghost use Rattle.lasting_lines.specs.declared.recovery.Found.TheVariants as found;
-ghost use Rattle.lasting_ledger.specs.Ledgers.{ledger_ways, unplayed};
+ghost use Rattle.lasting_ledger.specs.Ledgers.{line_ways, ledger_ways, unplayed};
 ghost use Rattle.lasting_ledger.specs.Runs.{last_left_out, count_in};
 
 use crate::machine::LedgerMachine;
@@ -41,6 +42,7 @@ pub fn begin(alloc: Global, file: &[u8], after: Option<u64>) -> Result<Begun, St
     ensures damaged { result ≡ Err Stop.Damaged
         → IsFound ledger_ways unplayed file.now (last_left_out after) found.Damaged }
     ensures behind { result ≡ Err Stop.Behind → count_in file.now < unwrap_or after 0 }
+    ensures full { result ≡ Err Stop.Full → FullIn line_ways unplayed file.now }
 {
     let from = after.unwrap_or(u64::MAX);
     match recover(alloc, LedgerMachine::unplayed(alloc), file, from) {
@@ -53,7 +55,9 @@ pub fn begin(alloc: Global, file: &[u8], after: Option<u64>) -> Result<Begun, St
         }
         Ok(Found::Torn(kept)) => Err(Stop::Torn(kept)),
         Ok(Found::Damaged) => Err(Stop::Damaged),
-        Err(Fault::NoMemory) => Err(Stop::NoMemory),
-        Err(_) => Err(Stop::Full),
+        Err(fault) => match fault {
+            Fault::NoMemory => Err(Stop::NoMemory),
+            _ => Err(Stop::Full),
+        },
     }
 }

@@ -1,5 +1,6 @@
 pub mod Files
 pub mod Machines
+pub mod Endings
 pub mod Lines
 pub mod Serving
 pub mod Opening

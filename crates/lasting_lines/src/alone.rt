@@ -2,6 +2,7 @@
 
 ghost use Rattle.std.specs.Prelude.{◌≡◌, ◌≤◌, ◌+◌, true, false, [], length, IfOk};
 ghost use Rattle.lasting_lines.specs.Batches.{IsPart, batched};
+ghost use Rattle.lasting_lines.specs.Endings.{EndsBy, IsForeignLine, HasNoNumber};
 ghost use Rattle.lasting_lines.specs.Serving.{IsAlone};
 
 use crate::batches::Batch;
@@ -21,9 +22,12 @@ pub struct Alone {
 }
 
 impl<M: Machine> Played<M> {
-    /// Takes a line by itself. After an `Err` the machine is of no more use.
+    /// Takes a line by itself. `Foreign` for a line of another story, `Full` where all numbers of records are used up, or
+    /// `NoMemory`. After an `Err` the machine is of no more use.
     pub fn take_alone(&mut self, alloc: Global, line: &[u8]) -> Result<Alone, Fault>
         requires { IsPart line.now }
+        ensures ends { EndsBy (IsForeignLine M.ways M.foreign self.old line.now)
+            (HasNoNumber M.ways self.old line.now) result }
 
         // Of a line that is taken, its row and its response.
         ensures taken { M.ways.takes self.old.machine line.now ≡ true → IfOk result (λ alone.

@@ -1,6 +1,7 @@
 //! Lines that share a record.
 
-ghost use Rattle.std.specs.Prelude.{◌≡◌, ◌∷◌, ◌++◌, ◌<◌, true, is_some, IfOk, IfSome, OnOk, OnSome, option_map, length};
+ghost use Rattle.std.specs.Prelude.{◌≡◌, ◌∷◌, ◌++◌, ◌<◌, true, is_some, IfOk, IfErr, IfSome, OnOk, OnSome, option_map, length};
+ghost use Rattle.lasting_lines.specs.Endings.{EndsBy, FailsBy, HasForeign};
 ghost use Rattle.lasting_lines.specs.Lines.{after, response, row_of, IsLine};
 ghost use Rattle.lasting_lines.specs.Batches.{IsPart, parts, parts_left, batched, takes_all, next_all, owes_all, Holds};
 
@@ -60,7 +61,7 @@ fn split_batch(batch: &[u8]) -> First<'_>
 }
 
 /// Takes the lines of a batch one after the other, and gives their answers; `None` where one of them isn't taken. Then,
-/// and after an `Err`, which is `NoMemory` or the machine's, the machine is of no more use.
+/// and after an `Err`, which is `NoMemory` or the machine's `Foreign`, the machine is of no more use.
 pub(crate) fn step_all<M: Machine>(
     alloc: Global,
     machine: &mut M,
@@ -70,6 +71,7 @@ pub(crate) fn step_all<M: Machine>(
     ensures next { IfOk result (λ o. OnSome o (machine.new ≡ next_all M.ways machine.old (parts batch.now))) }
     ensures owes { IfOk result (λ o. IfSome o (λ text.
         text.items ≡ owes_all M.ways machine.old (parts batch.now))) }
+    ensures fails { IfErr result (FailsBy (HasForeign M.ways M.foreign machine.old (parts batch.now)) ⊥) }
 {
     let mut answer = Vec::new(alloc);
     let mut left = Some(batch);
@@ -90,6 +92,7 @@ impl<M: Machine> Played<M> {
     pub(crate) fn begin(&mut self, alloc: Global, line: &[u8]) -> Result<Batch, Fault>
         requires part { IsPart line.now }
         requires taken { M.ways.takes self.old.machine line.now ≡ true }
+        ensures ends { EndsBy (M.foreign self.old.machine line.now) ⊥ result }
         ensures holds { IfOk result (λ b. Holds M.ways self.old self.new b.lines.items b.answer.items) }
         ensures line { IfOk result (λ b. IsLine b.lines.items) }
         ensures same { IfOk result (λ b. b.lines.items ≡ line.now) }

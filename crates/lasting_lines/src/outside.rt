@@ -2,6 +2,7 @@
 
 ghost use Rattle.std.specs.Prelude.{◌≡◌, ◌∷◌, List, OnOk, OnErr};
 ghost use Rattle.lasting_lines.specs.Files.{Op, MayAdd, Appended, Synced, Written, Aside};
+ghost use Rattle.lasting_lines.specs.declared.outside.Fault.TheVariants.{NoMemory};
 
 use std::alloc::{AllocError, AllocFailed};
 
@@ -21,12 +22,16 @@ pub enum Fault {
 }
 
 impl From<AllocError> for Fault {
+    ghost from_gives = { λ _ e. e ≡ NoMemory };
+
     fn from(_e: AllocError) -> Fault {
         Fault::NoMemory
     }
 }
 
 impl<T: Drop> From<AllocFailed<T>> for Fault {
+    ghost from_gives = { λ _ e. e ≡ NoMemory };
+
     fn from(_e: AllocFailed<T>) -> Fault {
         Fault::NoMemory
     }

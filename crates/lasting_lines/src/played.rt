@@ -2,6 +2,7 @@
 
 ghost use Rattle.std.specs.Prelude.{◌≡◌, ◌≤◌, ◌+◌, length, IfOk, OnOk};
 ghost use Rattle.lasting_lines.specs.Batches.{batched, Holds};
+ghost use Rattle.lasting_lines.specs.Endings.{EndsBy, IsFull};
 ghost use Rattle.lasting_lines.specs.Lines.{IsLine, mark_of, row_text, done_text, after, response, row_of};
 
 use crate::machine::Machine;
@@ -37,6 +38,7 @@ impl<M: Machine> Played<M> {
         batch: &[u8],
         answer: Vec<u8>,
     ) -> Result<Given, Fault>
+        ensures ends { EndsBy ⊥ (IsFull self.old) result }
         ensures place { (p : Played M) → Holds M.ways p self.old batch.now answer.items
             → OnOk result (self.new ≡ after (batched M.ways) p batch.now) }
         ensures row { (p : Played M) → Holds M.ways p self.old batch.now answer.items

@@ -1,9 +1,10 @@
 //! What a state file is found to be when it is opened.
 
 ghost use Rattle.std.specs.Prelude.{◌≡◌, ◌+◌, ◌-◌, ◌^◌, ◌<◌, true, false, nat_lt, if◌then◌else◌, [], ◌++◌, drop};
-ghost use Rattle.std.specs.Prelude.{is_some, IfOk, IfSome, OnOk, OnSome};
-ghost use Rattle.lasting_lines.specs.Batches.{batched};
-ghost use Rattle.lasting_lines.specs.Lines.{after_row, response_to_row, is_right, head_length};
+ghost use Rattle.std.specs.Prelude.{is_some, IfOk, IfErr, IfSome, OnOk, OnSome};
+ghost use Rattle.lasting_lines.specs.Batches.{batched, parts};
+ghost use Rattle.lasting_lines.specs.Endings.{FailsBy, HasForeign, IsFull, ForeignIn, FullIn};
+ghost use Rattle.lasting_lines.specs.Lines.{line_in, after_row, response_to_row, is_right, head_length};
 ghost use Rattle.lasting_lines.specs.Opening.{IsFound, is_damaged};
 ghost use Rattle.lasting_lines.specs.declared.recovery.Found.TheVariants.{Torn, Damaged};
 
@@ -33,6 +34,8 @@ impl<M: Machine> Played<M> {
         ensures place { IfOk result (λ o. OnSome o (self.new ≡ after_row (batched M.ways) self.old row.now)) }
         ensures text { IfOk result (λ o. IfSome o (λ text.
             text.items ≡ response_to_row (batched M.ways) self.old row.now)) }
+        ensures fails { IfErr result (FailsBy (HasForeign M.ways M.foreign self.old.machine
+            (parts (line_in (batched M.ways) self.old row.now))) (IsFull self.old)) }
     {
         if self.count == u64::MAX {
             return Err(Fault::Full);
@@ -77,14 +80,15 @@ fn add_above(texts: &mut Vec<u8>, from: u64, number: u64, text: &[u8]) -> Result
 }
 
 /// Plays the records of a file over a new machine, and collects the responses to those with numbers above `from`.
-/// `Foreign` where the machine says so of a line in the file.
+/// `Foreign` where a line of the file is of another story, and `Full` where it has a row more than there are numbers.
 pub fn recover<M: Machine + Drop>(
     alloc: Global,
     mut played: Played<M>,
     file: &[u8],
     from: u64,
 ) -> Result<Found<M>, Fault>
-    ensures { IfOk result (λ found. IsFound (batched M.ways) played file.now from found) }
+    ensures found { IfOk result (λ found. IsFound (batched M.ways) played file.now from found) }
+    ensures fails { IfErr result (FailsBy (ForeignIn M.ways M.foreign played file.now) (FullIn M.ways played file.now)) }
 {
     let mut again = Vec::new(alloc);
     let mut rest = file;

@@ -12,3 +12,4 @@ pub mod Sending
 pub mod Lasting
 pub mod Values
 pub mod Messages
+pub mod Endings

@@ -1,5 +1,5 @@
 -- The machine of a node: which lines it takes, what each makes of it, and what it answers.
-use Rattle.std.specs.Prelude.{ℕ, suc, ◌+◌, ◌^◌, ◌==◌, Bool, ◌&&◌, nat_lt, is_ok, List, [], ◌++◌, length, drop, replicate, Option, Some, None, Result, Ok, Err, if◌then◌else◌}
+use Rattle.std.specs.Prelude.{◌≢◌, ℕ, suc, ◌+◌, ◌^◌, ◌==◌, Bool, ◌&&◌, nat_lt, is_ok, List, [], ◌++◌, length, drop, replicate, Option, Some, None, Result, Ok, Err, if◌then◌else◌}
 use Rattle.std.specs.List.{flat_map, list_any}
 use Rattle.std.specs.Option.{option_map}
 use Rattle.call_history.specs.History.{reply_to}
@@ -79,6 +79,20 @@ taken_of m (Ok event) = taken_unless (refusal m event) event
 -- the event that a line is, if the machine takes it, or the first reason why not
 abbrev pub taken : NodeMachine → List ℕ → Result NodeEvent NotTaken
 taken m line = taken_of m (event_in (line_of line))
+
+-- ---- of another story
+
+-- the reply of an entry isn't the adjudicator's
+abbrev pub IsForeign : NodeMachine → NodeEvent → Type 0
+IsForeign m (events.Entry e) = reply_to real m.ledger e.op ≢ e.reply
+IsForeign m event = ⊥
+
+abbrev pub ForeignIn : NodeMachine → Result NodeEvent NotTaken → Type 0
+ForeignIn m (Err why) = ⊥
+ForeignIn m (Ok event) = IsForeign m event
+
+abbrev pub Foreign : NodeMachine → List ℕ → Type 0
+Foreign m line = ForeignIn m (event_in (line_of line))
 
 -- ---- the parts of events
 

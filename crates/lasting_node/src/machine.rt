@@ -7,8 +7,9 @@ ghost use Rattle.support_rules.specs.Real.{real};
 ghost use Rattle.network.specs.Histories.{IsFresh};
 ghost use Rattle.node_lines.specs.Texts.{KeepsEffect, effect_text};
 ghost use Rattle.std.specs.Prelude.{flat_map};
-ghost use Rattle.lasting_node.specs.Machines.{number, refusal, next, after_event, effects_of, counted, unplayed};
+ghost use Rattle.lasting_node.specs.Machines.{IsForeign, number, refusal, next, after_event, effects_of, counted, unplayed};
 ghost use Rattle.lasting_node.specs.Queries.{IsMessage};
+ghost use Rattle.lasting_node.specs.Taking.{EndsBy};
 ghost use Rattle.node_lines.specs.declared.events.NodeEvent.{NodeEvent as AnEvent};
 
 use crate::in_flight::InFlight;
@@ -110,6 +111,7 @@ impl NodeMachine {
         ensures gives { IfOk result (λ text.
             text.items ≡ flat_map (effect_text (number self.old)) (effects_of event self.old)) }
         ensures steps { OnOk result (self.new ≡ counted (after_event event self.old)) }
+        ensures ends { EndsBy (IsForeign self.old event) result }
     {
         let number = self.number()?;
         let effects = self.on_event(alloc, event)?;
@@ -119,12 +121,14 @@ impl NodeMachine {
 }
 
 impl Machine for NodeMachine {
-    ghost use Rattle.lasting_node.specs.Machines.{line_ways};
+    ghost use Rattle.lasting_node.specs.Machines.{line_ways, Foreign};
     ghost use Rattle.lasting_node.specs.Queries.{Says};
 
     ghost ways = { line_ways };
 
     ghost says = { Says };
+
+    ghost foreign = { Foreign };
 
     #[tactic(auto, using(crate::proofs::Messages::says))]
     fn refusal(&self, alloc: Global, line: &[u8]) -> Result<Option<Vec<u8>>, AllocError> {
@@ -142,6 +146,7 @@ impl Machine for NodeMachine {
     }
 
     /// `Foreign` where the reply of an entry isn't the own adjudicator's.
+    #[tactic(auto, using(crate::proofs::Endings::foreign, crate::proofs::Endings::own))]
     fn step(&mut self, alloc: Global, line: &[u8]) -> Result<Vec<u8>, Fault> {
         let event = match event_in(alloc, line) {
             Ok(event) => event,

@@ -1,10 +1,11 @@
 //! From the bytes of a state file to a machine.
 
 ghost use Rattle.std.specs.Prelude.{◌≡◌, ◌≤◌, ◌<◌, ℕ, unwrap_or, IfOk, Err};
+ghost use Rattle.lasting_lines.specs.Endings.{FullIn, ForeignIn};
 ghost use Rattle.lasting_lines.specs.Opening.{IsPlayed, IsFound};
 ghost use Rattle.lasting_lines.specs.declared.recovery.Found.TheVariants as found;
 ghost use Rattle.network.specs.Histories.{IsFresh};
-ghost use Rattle.lasting_node.specs.Machines.{node_ways, unplayed};
+ghost use Rattle.lasting_node.specs.Machines.{line_ways, node_ways, unplayed, Foreign};
 ghost use Rattle.lasting_node.specs.Runs.{last_left_out, count_in};
 
 use crate::machine::NodeMachine;
@@ -46,6 +47,8 @@ pub fn begin(alloc: Global, signer: Signer, file: &[u8], after: Option<u64>) -> 
     ensures damaged { result ≡ Err Stop.Damaged
         → IsFound node_ways (unplayed signer) file.now (last_left_out after) found.Damaged }
     ensures behind { result ≡ Err Stop.Behind → count_in signer file.now < unwrap_or after 0 }
+    ensures full { result ≡ Err Stop.Full → FullIn line_ways (unplayed signer) file.now }
+    ensures entries { result ≡ Err Stop.Entries → ForeignIn line_ways Foreign (unplayed signer) file.now }
 {
     let Ok(unplayed) = NodeMachine::unplayed(alloc, signer) else {
         return Err(Stop::NoMemory);
@@ -61,8 +64,10 @@ pub fn begin(alloc: Global, signer: Signer, file: &[u8], after: Option<u64>) -> 
         }
         Ok(Found::Torn(kept)) => Err(Stop::Torn(kept)),
         Ok(Found::Damaged) => Err(Stop::Damaged),
-        Err(Fault::NoMemory) => Err(Stop::NoMemory),
-        Err(Fault::Foreign) => Err(Stop::Entries),
-        Err(_) => Err(Stop::Full),
+        Err(fault) => match fault {
+            Fault::NoMemory => Err(Stop::NoMemory),
+            Fault::Foreign => Err(Stop::Entries),
+            _ => Err(Stop::Full),
+        },
     }
 }

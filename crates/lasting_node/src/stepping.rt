@@ -9,7 +9,8 @@ ghost use Rattle.support_rules.specs.Real.{real};
 ghost use Rattle.lasting_node.specs.Effects.{calls, sends, spent, of_entry, of_message, of_command, of_time};
 ghost use Rattle.lasting_node.specs.InFlight.{not_entered as still_flying};
 ghost use Rattle.node_lines.specs.declared.events.NodeEvent.TheVariants as events;
-ghost use Rattle.lasting_node.specs.Machines.{refusal, has_room, flying, entering, seeing, look, new_calls, watched, looking, after_entry, after_message, command_calls, after_command, ticking, look_place, after_tick, after_dropped, after_event, time_of, entry_effects, tick_effects, effects_of, next, answer};
+ghost use Rattle.lasting_node.specs.Machines.{IsForeign, refusal, has_room, flying, entering, seeing, look, new_calls, watched, looking, after_entry, after_message, command_calls, after_command, ticking, look_place, after_tick, after_dropped, after_event, time_of, entry_effects, tick_effects, effects_of, next, answer};
+ghost use Rattle.lasting_node.specs.Taking.{EndsBy};
 ghost use Rattle.lasting_node.specs.declared.stepping.Failure.TheVariants as failures;
 
 use crate::effects::{add_calls, add_entry, add_message, add_sends, add_spent, add_time};
@@ -86,8 +87,8 @@ impl NodeMachine {
 
     // Whether the newest entry has this reply.
     fn has_replied(&self, alloc: Global, reply: &Reply) -> Result<(), Failure>
-        ensures same { (e : AnEntry) (past : List AnEntry) → self.now.ledger ≡ e ∷ past
-            → OnOk result (e.reply ≡ reply.now) }
+        ensures { (e : AnEntry) (past : List AnEntry) → self.now.ledger ≡ e ∷ past
+            → EndsBy (e.reply ≢ reply.now) result }
     {
         match self.ledger.entries().last() {
             None => Ok(()),
@@ -105,6 +106,7 @@ impl NodeMachine {
     fn enter(&mut self, alloc: Global, entry: LedgerEntry) -> Result<(), Failure>
         requires room { length self.old.ledger < 2 ^ 32 - 1 }
         ensures next { OnOk result (self.new ≡ entering entry self.old) }
+        ensures ends { EndsBy (reply_to real self.old.ledger entry.op ≢ entry.reply) result }
     {
         let LedgerEntry { by, op, reply, .. } = entry;
         self.enter_op(by, op)?;
@@ -165,6 +167,7 @@ impl NodeMachine {
         requires { has_room self.old ≡ true }
         ensures next { OnOk result (self.new ≡ after_entry entry self.old) }
         ensures effects { IfOk result (λ all. all.items ≡ entry_effects entry self.old) }
+        ensures ends { EndsBy (reply_to real self.old.ledger entry.op ≢ entry.reply) result }
     {
         let before = self.time();
         self.enter(alloc, entry)?;
@@ -275,7 +278,7 @@ impl NodeMachine {
         Ok(Vec::new(alloc))
     }
 
-    /// Takes an event, all but its number.
+    /// Takes an event, all but its number. `Foreign` where the reply of an entry isn't the own adjudicator's.
     pub(crate) fn on_event(
         &mut self,
         alloc: Global,
@@ -284,6 +287,7 @@ impl NodeMachine {
         requires { refusal self.old event ≡ None }
         ensures next { OnOk result (self.new ≡ after_event event self.old) }
         ensures effects { IfOk result (λ all. all.items ≡ effects_of event self.old) }
+        ensures ends { EndsBy (IsForeign self.old event) result }
     {
         match event {
             NodeEvent::Entry(entry) => self.on_entry(alloc, entry),

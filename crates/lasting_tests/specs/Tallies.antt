@@ -16,3 +16,7 @@ tally_ways = record {
 -- what it says of an empty line
 abbrev pub Says : Tally → List ℕ → List ℕ → Type 0
 Says t line text = text ≡ codes "no line\n"
+
+-- the line `!`
+abbrev pub Foreign : Tally → List ℕ → Type 0
+Foreign t line = line ≡ codes "!"

@@ -14,11 +14,13 @@ pub struct Tally {
 }
 
 impl Machine for Tally {
-    ghost use Rattle.lasting_tests.specs.Tallies.{tally_ways, Says};
+    ghost use Rattle.lasting_tests.specs.Tallies.{tally_ways, Says, Foreign};
 
     ghost ways = { tally_ways };
 
     ghost says = { Says };
+
+    ghost foreign = { Foreign };
 
     fn refusal(&self, alloc: Global, line: &[u8]) -> Result<Option<Vec<u8>>, AllocError> {
         if line.is_empty() {

@@ -4,20 +4,31 @@ use Rattle.std.proofs.lemmas.Bool.Decides.{nat_tests}
 use Rattle.std.specs.Prelude.{nat_lt}
 use Rattle.channel_values.specs.Words.{fault_if, ◌⊳◌}
 use Rattle.lasting_lines.specs.Batches.{IsPart}
+use Rattle.lasting_lines.specs.Endings.{FailsBy}
+use Rattle.lasting_lines.specs.declared.outside.Fault.{Fault}
+use Rattle.lasting_lines.specs.declared.outside.Fault.TheVariants as faults
 use Rattle.nitro_library.specs.Endings.{is_part}
-use Rattle.nitro_library.specs.Statuses.{room_fault, line_fault, is_late}
+use Rattle.nitro_library.specs.Statuses.{room_fault, line_fault, late_of, IsLate}
 use Rattle.nitro_library.specs.declared.cores.Core.{Core}
 use Rattle.nitro_library.specs.declared.status.Failure.{Failure}
 use Rattle.nitro_library.specs.declared.status.Failure.TheVariants.{Line, Room, Kept, Ended}
 use Rattle.nitro_library.proofs.NoEnds.{part}
 
 -- a row fits where there is room for 128 bytes besides its line
-pub row_fits : (row line : List ℕ) (room : ℕ) (failure : Failure) → length row ≤ length line + 87 → length line + 128 ≤ room
-    → Some failure ≡ room_fault row room → is_late failure ≡ true
-row_fits row line room failure short fits e =
+pub row_fits : (IsForeign IsFull : Type 0) (row line : List ℕ) (room : ℕ) (failure : Failure) → length row ≤ length line + 87
+    → length line + 128 ≤ room → Some failure ≡ room_fault row room → IsLate IsForeign IsFull failure
+row_fits IsForeign IsFull row line room failure short fits e =
     let less : nat_lt room (length row) ≡ false = grind (arith, nat_tests, short, fits) in
     let clash : Some failure ≡ None = e ∙ ap (λ (b : Bool). fault_if b Room) less in
     absurd cc
+
+-- what stopped the machine is such a reason
+pub late : (IsForeign IsFull : Type 0) (fault : Fault) → FailsBy IsForeign IsFull fault → IsLate IsForeign IsFull (late_of fault)
+late IsForeign IsFull faults.NoMemory why = tt
+late IsForeign IsFull faults.Foreign why = why
+late IsForeign IsFull faults.Full why = why
+late IsForeign IsFull faults.Input why = absurd why
+late IsForeign IsFull faults.Failed why = absurd why
 
 module _ {M : Type 0} (core : Core M) (line : List ℕ) (room : ℕ) where
   -- no test of a line that is looked at fails
@@ -38,6 +49,9 @@ module _ {M : Type 0} (core : Core M) (line : List ℕ) (room : ℕ) where
       go false a true b y c z d e = absurd cc
       go false a false b true c z d e = absurd cc
       go false a false b false c true d e = absurd cc
+
+  pub goes_on : line_fault core line room ≡ None → core.is_over ≡ false
+  goes_on e = (passes e).over
 
   pub has_no_end : line_fault core line room ≡ None → IsPart line
   has_no_end e = part line (last (nat_lt 1048576 (length line)) (is_part line) (passes e).whole)

@@ -5,9 +5,9 @@ use Rattle.std.specs.Result.{result_err}
 use Rattle.nitro_library.specs.Statuses.{code_of, cut_after, status_of, status_by, EndsBy, HasStatus, IsStopped}
 use Rattle.nitro_library.specs.declared.status.Failure.{Failure}
 
-pub has_status : (fault : Option Failure) (outcome : Result (Unit {0}) Failure) (status : ℕ) → EndsBy fault outcome → status ≡ status_of outcome
-    → HasStatus fault status
-has_status fault outcome status ends is = (outcome, ends, is)
+pub has_status : (fault : Option Failure) (IsForeign IsFull : Type 0) (outcome : Result (Unit {0}) Failure) (status : ℕ)
+    → EndsBy fault IsForeign IsFull outcome → status ≡ status_of outcome → HasStatus fault IsForeign IsFull status
+has_status fault IsForeign IsFull outcome status ends is = (outcome, ends, is)
 
 pub given_status : (fault : Option Failure) (outcome : Result (Unit {0}) Failure) (status : ℕ) → result_err outcome ≡ fault → status ≡ status_of outcome
     → status ≡ status_by fault

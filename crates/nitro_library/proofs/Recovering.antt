@@ -1,5 +1,5 @@
 -- The records of a file, and a core over them.
-use Rattle.std.proofs.Common.{◌≡◌, ℕ, Bool, cond, List, [], ◌∷◌, ◌++◌, refl, ◌∙◌, ap, subst}
+use Rattle.std.proofs.Common.{◌≡◌, ℕ, Bool, false, cond, List, [], ◌∷◌, ◌++◌, refl, ◌∙◌, ap, subst}
 use Rattle.lasting_lines.specs.Lines.{IsLine, recovered}
 use Rattle.lasting_lines.specs.Machines.{Ways}
 use Rattle.lasting_lines.specs.Files.{Written, Aside}
@@ -27,12 +27,14 @@ records_some bytes row rest e is = ap records_in e ∙ go row is
 -- ---- a core that begins
 
 pub begins : {M : Type 0} (ways : Ways M) (ready : Played M → List ℕ) (p : Played M) (n : ℕ) (file : List ℕ) (again : List ℕ) (core : Core M)
-    → IsPlayed ways p file n core.played again → core.kept.items ≡ again ++ ready core.played → Begins ways ready p n file core
-begins ways ready p n file again core played keeps = record {
+    → IsPlayed ways p file n core.played again → core.kept.items ≡ again ++ ready core.played → core.is_over ≡ false
+    → Begins ways ready p n file core
+begins ways ready p n file again core played keeps goes_on = record {
   keeps = keeps ∙ ap (λ (t : List ℕ). t ++ ready core.played) played.text;
   stands =
       subst (λ (t : List ℕ). Ready ways p (owed_to ways n p (recovered ways p file)) file (Aside (ready core.played) ∷ Written t ∷ []) core.played)
       played.text (as-aside ways p (owed_to ways n p (recovered ways p file)) file (Written again ∷ []) core.played
       (begins_written ways p file n core.played again played [] (Written again ∷ []) refl refl) (ready core.played)
       (Aside (ready core.played) ∷ Written again ∷ []) refl);
+  goes_on = goes_on;
 }

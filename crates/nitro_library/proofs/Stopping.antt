@@ -3,6 +3,8 @@ use Rattle.std.proofs.Common.{◌≡◌, ◌==◌, ℕ, ◌+◌, ◌-◌, ◌<�
 use Rattle.std.proofs.lemmas.Bool.Decides.{nat_tests}
 use Rattle.std.specs.Prelude.{Option, min, nat_lt, unwrap_or}
 use Rattle.channel_values.specs.Words.{fault_if}
+use Rattle.lasting_lines.specs.Batches.{batched}
+use Rattle.lasting_lines.specs.Endings.{FullIn, ForeignIn}
 use Rattle.lasting_lines.specs.Lines.{recovered, records}
 use Rattle.lasting_lines.specs.Machines.{Ways}
 use Rattle.lasting_lines.specs.Opening.{IsFound}
@@ -26,9 +28,9 @@ records_short (b ∷ rest) = go (b == 10) (records_short rest)
     go true le = omega arith
     go false le = omega (arith, le)
 
-module _ {M : Type 0} (ways : Ways M) (p : Played M) (title : List ℕ) (file : OpenedFile) (bytes : List ℕ) (room : ℕ) (is_key : Bool) where
+module _ {M : Type 0} (ways : Ways M) (ForeignLine : M → List ℕ → Type 0) (p : Played M) (title : List ℕ) (file : OpenedFile) (bytes : List ℕ) (room : ℕ) (is_key : Bool) where
   abbrev Why : Failure → Type 0
-  Why failure = IsWhy ways p title file bytes room is_key failure
+  Why failure = IsWhy ways ForeignLine p title file bytes room is_key failure
 
   pub memory_why : (failure : Failure) → failure ≡ failures.OutOfMemory → Why failure
   memory_why failure e = subst Why (sym e) tt
@@ -58,27 +60,34 @@ module _ {M : Type 0} (ways : Ways M) (p : Played M) (title : List ℕ) (file : 
 
   -- what is cut off a torn file
   pub torn_why : (rest : List ℕ) (n kept : ℕ) (failure : Failure) → rest ≡ records_in bytes → n ≡ left_out file → length bytes < 2 ^ 64
-      → IsFound ways p rest n (found.Torn kept) → failure ≡ failures.Torn (min ((length bytes - length rest) + kept) (2 ^ 64 - 1)) → Why failure
+      → IsFound (batched ways) p rest n (found.Torn kept) → failure ≡ failures.Torn (min ((length bytes - length rest) + kept) (2 ^ 64 - 1)) → Why failure
   torn_why rest n kept failure same asked small is e =
-      let here = subst (λ (k : ℕ). IsFound ways p (records_in bytes) k (found.Torn kept)) asked (subst (λ (l : List ℕ). IsFound ways p l n (found.Torn kept)) same is) in
+      let here = subst (λ (k : ℕ). IsFound (batched ways) p (records_in bytes) k (found.Torn kept)) asked (subst (λ (l : List ℕ). IsFound (batched ways) p l n (found.Torn kept)) same is) in
       let whole = here.1.whole in
-      let long : length (records_in bytes) ≡ length (records ways p (recovered ways p (records_in bytes)) ++ here.0) = ap length whole in
-      let at : kept ≡ length (records ways p (recovered ways p (records_in bytes))) = here.3 in
+      let long : length (records_in bytes) ≡ length (records (batched ways) p (recovered (batched ways) p (records_in bytes)) ++ here.0) = ap length whole in
+      let at : kept ≡ length (records (batched ways) p (recovered (batched ways) p (records_in bytes))) = here.3 in
       let rests : length rest ≡ length (records_in bytes) = ap length same in
       let fits : min ((length bytes - length rest) + kept) (2 ^ 64 - 1) ≡ head_length bytes + kept =
-      grind (arith, rests, long, at, small, records_short bytes, length-append (records ways p (recovered ways p (records_in bytes))) here.0) in
+      grind (arith, rests, long, at, small, records_short bytes, length-append (records (batched ways) p (recovered (batched ways) p (records_in bytes))) here.0) in
       subst Why (sym e) (kept, here, fits)
 
   pub damaged_why : (rest : List ℕ) (n : ℕ) (failure : Failure) → rest ≡ records_in bytes → n ≡ left_out file
-      → IsFound ways p rest n found.Damaged → failure ≡ failures.Damaged → Why failure
+      → IsFound (batched ways) p rest n found.Damaged → failure ≡ failures.Damaged → Why failure
   damaged_why rest n failure same asked is e =
-      subst Why (sym e) (subst (λ (k : ℕ). IsFound ways p (records_in bytes) k found.Damaged) asked (subst (λ (l : List ℕ). IsFound ways p l n found.Damaged) same is))
+      subst Why (sym e) (subst (λ (k : ℕ). IsFound (batched ways) p (records_in bytes) k found.Damaged) asked (subst (λ (l : List ℕ). IsFound (batched ways) p l n found.Damaged) same is))
 
   pub behind_why : (rest : List ℕ) (after : Option ℕ) (failure : Failure) → rest ≡ records_in bytes → after ≡ after_of file
-      → (state ways p (recovered ways p rest)).count < unwrap_or after 0 → failure ≡ failures.Behind → Why failure
+      → (state (batched ways) p (recovered (batched ways) p rest)).count < unwrap_or after 0 → failure ≡ failures.Behind → Why failure
   behind_why rest after failure same asked is e =
-      subst Why (sym e) (subst (λ (o : Option ℕ). (state ways p (recovered ways p (records_in bytes))).count < unwrap_or o 0) asked
-      (subst (λ (l : List ℕ). (state ways p (recovered ways p l)).count < unwrap_or after 0) same is))
+      subst Why (sym e) (subst (λ (o : Option ℕ). (state (batched ways) p (recovered (batched ways) p (records_in bytes))).count < unwrap_or o 0) asked
+      (subst (λ (l : List ℕ). (state (batched ways) p (recovered (batched ways) p l)).count < unwrap_or after 0) same is))
+
+  pub full_why : (rest : List ℕ) (failure : Failure) → rest ≡ records_in bytes → FullIn ways p rest → failure ≡ failures.File → Why failure
+  full_why rest failure same is e = subst Why (sym e) (subst (FullIn ways p) same is)
+
+  pub entries_why : (rest : List ℕ) (failure : Failure) → rest ≡ records_in bytes → ForeignIn ways ForeignLine p rest → failure ≡ failures.Entries
+      → Why failure
+  entries_why rest failure same is e = subst Why (sym e) (subst (ForeignIn ways ForeignLine p) same is)
 
   pub key_why : (failure : Failure) → (failure ≡ failures.Key) × (is_key ≡ false) → Why failure
   key_why failure e = subst Why (sym e.0) e.1

@@ -1,5 +1,7 @@
 -- Why nothing begins over a file.
 use Rattle.std.specs.Prelude.{◌≡◌, ◌<◌, ◌+◌, ◌-◌, ℕ, Bool, false, List, length, unwrap_or}
+use Rattle.lasting_lines.specs.Batches.{batched}
+use Rattle.lasting_lines.specs.Endings.{FullIn, ForeignIn}
 use Rattle.lasting_lines.specs.Lines.{recovered}
 use Rattle.lasting_lines.specs.Machines.{Ways}
 use Rattle.lasting_lines.specs.Opening.{IsFound}
@@ -24,19 +26,19 @@ abbrev pub head_length : List ℕ → ℕ
 head_length bytes = length bytes - length (records_in bytes)
 
 -- A title, what the caller says of the file, its bytes, and the room for what it has to begin with.
-module _ {M : Type 0} (ways : Ways M) (p : Played M) (title : List ℕ) (file : OpenedFile) (bytes : List ℕ) (room : ℕ) where
-  -- Why nothing begins, if the key is one or isn't. `OutOfMemory`, `File` (no numbers are left for records) and `Entries` (the
-  -- reply of an entry isn't the adjudicator's) say no more. Torn: the records end after so many bytes of the file.
+module _ {M : Type 0} (ways : Ways M) (ForeignLine : M → List ℕ → Type 0) (p : Played M) (title : List ℕ) (file : OpenedFile) (bytes : List ℕ) (room : ℕ) where
+  -- Why nothing begins, if the key is one or isn't. Torn: the records end after so many bytes of the file. `File`: it has a row
+  -- more than there are numbers for records. `Entries`: after some records one follows that has a foreign line.
   abbrev pub IsWhy : Bool → Failure → Type 0
   IsWhy is_key OutOfMemory = Unit {0}
-  IsWhy is_key File = Unit {0}
-  IsWhy is_key Entries = Unit {0}
+  IsWhy is_key File = FullIn ways p (records_in bytes)
+  IsWhy is_key Entries = ForeignIn ways ForeignLine p (records_in bytes)
   IsWhy is_key Key = is_key ≡ false
   IsWhy is_key Foreign = is_ours title file bytes ≡ false
   IsWhy is_key Room = room < length (head_in title file bytes)
   IsWhy is_key (Torn kept) =
-      (records : ℕ) × IsFound ways p (records_in bytes) (left_out file) (found.Torn records)
+      (records : ℕ) × IsFound (batched ways) p (records_in bytes) (left_out file) (found.Torn records)
       × (kept ≡ head_length bytes + records)
-  IsWhy is_key Damaged = IsFound ways p (records_in bytes) (left_out file) found.Damaged
-  IsWhy is_key Behind = (state ways p (recovered ways p (records_in bytes))).count < unwrap_or (after_of file) 0
+  IsWhy is_key Damaged = IsFound (batched ways) p (records_in bytes) (left_out file) found.Damaged
+  IsWhy is_key Behind = (state (batched ways) p (recovered (batched ways) p (records_in bytes))).count < unwrap_or (after_of file) 0
   IsWhy is_key failure = ⊥

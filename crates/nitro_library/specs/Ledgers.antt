@@ -1,7 +1,7 @@
 -- A ledger that began.
 use Rattle.std.specs.Prelude.{ℕ, List, codes, true}
 use Rattle.lasting_lines.specs.declared.played.Played.{Played}
-use Rattle.lasting_ledger.specs.Ledgers.{ledger_ways, unplayed}
+use Rattle.lasting_ledger.specs.Ledgers.{line_ways, ledger_ways, unplayed, Foreign}
 use Rattle.lasting_ledger.specs.Runs.{ready_text}
 use Rattle.lasting_ledger.specs.declared.machine.LedgerMachine.{LedgerMachine}
 use Rattle.nitro_library.specs.Beginnings.{IsWhy}
@@ -23,4 +23,4 @@ ledger_begins n file core = Begins ledger_ways ready_of unplayed n file core
 
 -- why none begins over the bytes of a file
 abbrev pub IsWhyNone : OpenedFile → List ℕ → ℕ → Failure → Type 0
-IsWhyNone file bytes room failure = IsWhy ledger_ways unplayed ledger_title file bytes room true failure
+IsWhyNone file bytes room failure = IsWhy line_ways Foreign unplayed ledger_title file bytes room true failure

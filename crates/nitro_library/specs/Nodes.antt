@@ -6,7 +6,7 @@ use Rattle.lms_signatures.specs.Made.{made_key}
 use Rattle.lms_signatures.specs.Signing.{Signing}
 use Rattle.node_lines.specs.Texts.{ready_text}
 use Rattle.node_lines.specs.declared.events.Start.{Start}
-use Rattle.lasting_node.specs.Machines.{node_ways, unplayed}
+use Rattle.lasting_node.specs.Machines.{line_ways, node_ways, unplayed, Foreign}
 use Rattle.lasting_node.specs.Runs.{ready_of}
 use Rattle.lasting_node.specs.declared.machine.NodeMachine.{NodeMachine}
 use Rattle.nitro_library.specs.Beginnings.{IsWhy}
@@ -37,4 +37,4 @@ node_begins signer n file core = Begins node_ways ready_line (unplayed signer) n
 -- why none begins over the bytes of a file
 abbrev pub IsWhyNone : Signing → OpenedFile → List ℕ → ℕ → Bool → Failure → Type 0
 IsWhyNone signer file bytes room is_key failure =
-    IsWhy node_ways (unplayed signer) (node_title signer) file bytes room is_key failure
+    IsWhy line_ways Foreign (unplayed signer) (node_title signer) file bytes room is_key failure

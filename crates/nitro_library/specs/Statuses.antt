@@ -62,21 +62,12 @@ line_fault core line room =
 
 -- ---- calls that end later
 
--- Why a line that was looked at fails: out of memory, no numbers left for records, or an entry whose reply isn't the
--- adjudicator's.
-abbrev pub is_late : Failure → Bool
-is_late OutOfMemory = true
-is_late File = true
-is_late Entries = true
-is_late Key = false
-is_late Line = false
-is_late Damaged = false
-is_late Foreign = false
-is_late Behind = false
-is_late Room = false
-is_late Kept = false
-is_late Ended = false
-is_late (Torn kept) = false
+-- Why a line that was looked at fails: out of memory, no number left for its record, or of another story.
+abbrev pub IsLate : (IsForeign IsFull : Type 0) → Failure → Type 0
+IsLate IsForeign IsFull OutOfMemory = Unit {0}
+IsLate IsForeign IsFull File = IsFull
+IsLate IsForeign IsFull Entries = IsForeign
+IsLate IsForeign IsFull failure = ⊥
 
 -- by what stopped the machine
 abbrev pub late_of : Fault → Failure
@@ -86,12 +77,14 @@ late_of faults.Full = File
 late_of faults.Input = File
 late_of faults.Failed = File
 
--- How a call ends: with the fault, where there is one. Else it is done, or it fails later.
-abbrev pub EndsBy : Option Failure → Result (Unit {0}) Failure → Type 0
-EndsBy (Some fault) outcome = outcome ≡ Err fault
-EndsBy None (Ok done) = Unit {0}
-EndsBy None (Err failure) = is_late failure ≡ true
+-- How a call ends: with the fault, where there is one. Else it is done where none of the reasons to fail later holds, or it
+-- fails for one that does.
+abbrev pub EndsBy : Option Failure → (IsForeign IsFull : Type 0) → Result (Unit {0}) Failure → Type 0
+EndsBy (Some fault) IsForeign IsFull outcome = outcome ≡ Err fault
+EndsBy None IsForeign IsFull (Ok done) = (IsForeign → ⊥) × (IsFull → ⊥)
+EndsBy None IsForeign IsFull (Err failure) = IsLate IsForeign IsFull failure
 
 -- a status of such an end
-abbrev pub HasStatus : Option Failure → ℕ → Type 0
-HasStatus fault status = (outcome : Result (Unit {0}) Failure) × EndsBy fault outcome × (status ≡ status_of outcome)
+abbrev pub HasStatus : Option Failure → (IsForeign IsFull : Type 0) → ℕ → Type 0
+HasStatus fault IsForeign IsFull status =
+    (outcome : Result (Unit {0}) Failure) × EndsBy fault IsForeign IsFull outcome × (status ≡ status_of outcome)

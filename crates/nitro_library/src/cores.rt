@@ -1,9 +1,10 @@
 //! A machine, and the answer that the caller hasn't been given.
 
-ghost use Rattle.std.specs.Prelude.{◌≡◌, ◌≤◌, ◌+◌, [], None, true, take, length, IfErr, IfSome, OnOk, OnErr};
+ghost use Rattle.std.specs.Prelude.{◌≡◌, ◌≤◌, ◌+◌, [], None, true, false, take, length, IfSome, OnOk, OnErr};
 ghost use Rattle.std.specs.Result.{result_err};
 ghost use Rattle.lasting_lines.specs.Batches.{IsPart};
-ghost use Rattle.nitro_library.specs.Statuses.{room_fault, line_fault, is_late, EndsBy};
+ghost use Rattle.lasting_lines.specs.Endings.{IsForeignLine, HasNoNumber};
+ghost use Rattle.nitro_library.specs.Statuses.{room_fault, line_fault, EndsBy};
 ghost use Rattle.nitro_library.specs.Steps.{IsAnswer};
 
 use crate::ends::is_part;
@@ -63,7 +64,7 @@ impl<M: Machine + Drop> Core<M> {
     }
 
     // Takes a line, keeps its text, and gives its row.
-    #[tactic(auto, using(crate::proofs::Fitting::row_fits))]
+    #[tactic(auto, using(crate::proofs::Fitting::row_fits, crate::proofs::Fitting::late))]
     fn answer_line(
         &mut self,
         alloc: Global,
@@ -75,7 +76,9 @@ impl<M: Machine + Drop> Core<M> {
         requires room { length line.now + 128 ≤ length row.old }
         ensures answer { OnOk result (IsAnswer M.ways M.says self.old.played line.now (take count.new row.new)
             self.new.kept.items self.new.played) }
-        ensures late { IfErr result (λ failure. is_late failure ≡ true) }
+        ensures over { self.new.is_over ≡ self.old.is_over }
+        ensures ends { EndsBy None (IsForeignLine M.ways M.foreign self.old.played line.now)
+            (HasNoNumber M.ways self.old.played line.now) result }
     {
         let alone = match self.played.take_alone(alloc, line) {
             Ok(alone) => alone,
@@ -88,7 +91,7 @@ impl<M: Machine + Drop> Core<M> {
 
     /// Takes a line, keeps its text, and gives its row, nothing of a line that isn't taken. `row` has room for the line and
     /// 128 bytes more. A line that isn't looked at changes nothing. After one that fails later the core is over.
-    #[tactic(auto, using(crate::proofs::Fitting::has_no_end, crate::proofs::Fitting::has_room, crate::proofs::Fitting::is_empty))]
+    #[tactic(auto, using(crate::proofs::Fitting::goes_on, crate::proofs::Fitting::has_no_end, crate::proofs::Fitting::has_room, crate::proofs::Fitting::is_empty))]
     pub(crate) fn take(
         &mut self,
         alloc: Global,
@@ -96,10 +99,12 @@ impl<M: Machine + Drop> Core<M> {
         row: &mut [u8],
         count: &mut usize,
     ) -> Result<(), Failure>
-        ensures ends { EndsBy (line_fault self.old line.now (length row.old)) result }
+        ensures ends { EndsBy (line_fault self.old line.now (length row.old))
+            (IsForeignLine M.ways M.foreign self.old.played line.now) (HasNoNumber M.ways self.old.played line.now) result }
         ensures answer { OnOk result (IsAnswer M.ways M.says self.old.played line.now (take count.new row.new)
             self.new.kept.items self.new.played) }
         ensures empty { OnOk result (self.old.kept.items ≡ []) }
+        ensures goes_on { OnOk result (self.new.is_over ≡ false) }
         ensures same { IfSome (line_fault self.old line.now (length row.old)) (λ _. self.new ≡ self.old) }
         ensures over { line_fault self.old line.now (length row.old) ≡ None → OnErr result (self.new.is_over ≡ true) }
     {

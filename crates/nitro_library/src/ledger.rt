@@ -1,8 +1,9 @@
 //! The ledger.
 
-ghost use Rattle.std.specs.Prelude.{◌≡◌, ◌≢◌, ◌≤◌, ℕ, List, true, [], None, is_some, take, length, unwrap_or, IfOk, IfErr, OnOk, OnErr, IfSome};
-ghost use Rattle.lasting_ledger.specs.Ledgers.{line_ways, ledger_ways, unplayed, Says};
+ghost use Rattle.std.specs.Prelude.{◌≡◌, ◌≢◌, ◌≤◌, ℕ, List, true, false, [], None, is_some, take, length, unwrap_or, IfOk, IfErr, OnOk, OnErr, IfSome};
+ghost use Rattle.lasting_ledger.specs.Ledgers.{line_ways, ledger_ways, unplayed, Says, Foreign};
 ghost use Rattle.lasting_ledger.specs.Runs.{count_in};
+ghost use Rattle.lasting_lines.specs.Endings.{IsForeignLine, HasNoNumber};
 ghost use Rattle.lasting_lines.specs.Opening.{IsPlayed};
 ghost use Rattle.nitro_library.specs.Asked.{after_of, left_out};
 ghost use Rattle.nitro_library.specs.Heads.{is_ours, head_in};
@@ -49,7 +50,7 @@ fn core_of(alloc: Global, begun: Begun) -> Result<LedgerCore, Failure>
 }
 
 // A ledger over the bytes of its file.
-#[tactic(auto, using(crate::proofs::Stopping::memory_why, crate::proofs::Stopping::foreign_why, crate::proofs::Stopping::room_why, crate::proofs::Stopping::torn_why, crate::proofs::Stopping::damaged_why, crate::proofs::Stopping::behind_why))]
+#[tactic(auto, using(crate::proofs::Stopping::memory_why, crate::proofs::Stopping::foreign_why, crate::proofs::Stopping::room_why, crate::proofs::Stopping::torn_why, crate::proofs::Stopping::damaged_why, crate::proofs::Stopping::behind_why, crate::proofs::Stopping::full_why))]
 fn begun(
     alloc: Global,
     file: &OpenedFile,
@@ -125,6 +126,7 @@ pub extern "C" fn nitro_rt_ledger_begin(
     ensures begun { result ≡ 0 → is_some slot.new.core ≡ true }
     ensures begins { IfSome slot.new.core (λ ledger.
         ledger_begins (left_out file.now) (records_in bytes.now) ledger.core) }
+
     // The file is the caller's, and has as many records as were to be left out. `head` has what it has to begin with.
     ensures ours { result ≡ 0 → is_ours ledger_title file.now bytes.now ≡ true }
     ensures enough { result ≡ 0 → unwrap_or (after_of file.now) 0 ≤ count_in (records_in bytes.now) }
@@ -166,12 +168,15 @@ pub extern "C" fn nitro_rt_ledger_take(
     // Nothing was kept before.
     ensures empty { result ≡ 0 → IfSome slot.old.core (λ old. old.core.kept.items ≡ []) }
 
-    // A line that isn't looked at has the status of the first test that fails, and changes nothing.
-    ensures status { IfSome slot.old.core (λ old. HasStatus (line_fault old.core line.now (length row.old)) result) }
+    // A line that isn't looked at has the status of the first test that fails, and changes nothing. One that fails later has 1
+    // (out of memory), or 5 where no number is left for its record.
+    ensures status { IfSome slot.old.core (λ old. HasStatus (line_fault old.core line.now (length row.old))
+        (IsForeignLine line_ways Foreign old.core.played line.now) (HasNoNumber line_ways old.core.played line.now) result) }
     ensures same { Between (λ old new. IfSome (line_fault old.core line.now (length row.old)) (λ _. new ≡ old))
         slot.old.core slot.new.core }
 
-    // After one that fails later the ledger is over.
+    // After a call that is done the ledger goes on. After a line that fails later it is over.
+    ensures goes_on { result ≡ 0 → IfSome slot.new.core (λ new. new.core.is_over ≡ false) }
     ensures over { result ≢ 0 → Between (λ old new. line_fault old.core line.now (length row.old) ≡ None
         → new.core.is_over ≡ true) slot.old.core slot.new.core }
 {
@@ -204,6 +209,9 @@ pub extern "C" fn nitro_rt_ledger_give(
     // Its length is given in both cases.
     ensures count { IfSome slot.old.core (λ old. count.new ≡ length old.core.kept.items) }
     ensures same { Between (λ old new. new.core.played ≡ old.core.played) slot.old.core slot.new.core }
+
+    // The ledger goes on after it where it did before.
+    ensures over { Between (λ old new. new.core.is_over ≡ old.core.is_over) slot.old.core slot.new.core }
 {
     let mut ledger = mem::replace(slot, LedgerSlot::empty(alloc)).into_core();
     let outcome = ledger.core.give(text, count);

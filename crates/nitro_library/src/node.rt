@@ -3,9 +3,10 @@
 ghost use Rattle.std.specs.Prelude.{◌≡◌, ◌≢◌, ◌≤◌, ◌==◌, ◌||◌, ◌++◌, ℕ, Bool, List, true, false, [], None, is_some, take, length, unwrap_or, IfOk, IfErr, OnOk, OnErr, IfSome, IsTrue};
 ghost use Rattle.lms_signatures.specs.Signing.{IsHeight};
 ghost use Rattle.network.specs.Histories.{IsFresh};
+ghost use Rattle.lasting_lines.specs.Endings.{IsForeignLine, HasNoNumber};
 ghost use Rattle.lasting_lines.specs.Opening.{IsPlayed};
 ghost use Rattle.lasting_node.specs.Laws.{Lasts};
-ghost use Rattle.lasting_node.specs.Machines.{line_ways, node_ways, unplayed};
+ghost use Rattle.lasting_node.specs.Machines.{line_ways, node_ways, unplayed, Foreign};
 ghost use Rattle.lasting_node.specs.Queries.{Says};
 ghost use Rattle.lasting_node.specs.Runs.{count_in, signer_of};
 ghost use Rattle.lms_signatures.specs.Signing.{Signing};
@@ -133,7 +134,7 @@ fn core_of(alloc: Global, begun: Begun) -> Result<NodeCore, Failure>
 }
 
 // A node of a signer over the bytes of its file.
-#[tactic(auto, using(crate::proofs::Stopping::memory_why, crate::proofs::Stopping::foreign_why, crate::proofs::Stopping::room_why, crate::proofs::Stopping::torn_why, crate::proofs::Stopping::damaged_why, crate::proofs::Stopping::behind_why))]
+#[tactic(auto, using(crate::proofs::Stopping::memory_why, crate::proofs::Stopping::foreign_why, crate::proofs::Stopping::room_why, crate::proofs::Stopping::torn_why, crate::proofs::Stopping::damaged_why, crate::proofs::Stopping::behind_why, crate::proofs::Stopping::full_why, crate::proofs::Stopping::entries_why))]
 fn begun(
     alloc: Global,
     signer: Signer,
@@ -308,12 +309,15 @@ pub extern "C" fn nitro_rt_node_take(
     // Nothing was kept before.
     ensures empty { result ≡ 0 → IfSome slot.old.core (λ old. old.core.kept.items ≡ []) }
 
-    // A line that isn't looked at has the status of the first test that fails, and changes nothing.
-    ensures status { IfSome slot.old.core (λ old. HasStatus (line_fault old.core line.now (length row.old)) result) }
+    // A line that isn't looked at has the status of the first test that fails, and changes nothing. One that fails later has 1
+    // (out of memory), 5 where no number is left for its record, or 12 where the reply of an entry isn't the adjudicator's.
+    ensures status { IfSome slot.old.core (λ old. HasStatus (line_fault old.core line.now (length row.old))
+        (IsForeignLine line_ways Foreign old.core.played line.now) (HasNoNumber line_ways old.core.played line.now) result) }
     ensures same { Between (λ old new. IfSome (line_fault old.core line.now (length row.old)) (λ _. new ≡ old))
         slot.old.core slot.new.core }
 
-    // After one that fails later the node is over.
+    // After a call that is done the node goes on. After a line that fails later it is over.
+    ensures goes_on { result ≡ 0 → IfSome slot.new.core (λ new. new.core.is_over ≡ false) }
     ensures over { result ≢ 0 → Between (λ old new. line_fault old.core line.now (length row.old) ≡ None
         → new.core.is_over ≡ true) slot.old.core slot.new.core }
 {
@@ -346,6 +350,9 @@ pub extern "C" fn nitro_rt_node_give(
     // Its length is given in both cases.
     ensures count { IfSome slot.old.core (λ old. count.new ≡ length old.core.kept.items) }
     ensures same { Between (λ old new. new.core.played ≡ old.core.played) slot.old.core slot.new.core }
+
+    // The node goes on after it where it did before.
+    ensures over { Between (λ old new. new.core.is_over ≡ old.core.is_over) slot.old.core slot.new.core }
 {
     let mut node = mem::replace(slot, NodeSlot::empty(alloc)).into_core();
     let outcome = node.core.give(text, count);

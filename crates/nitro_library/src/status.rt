@@ -1,8 +1,8 @@
 //! Why a call fails, and the numbers for it.
 
-ghost use Rattle.std.specs.Prelude.{◌≡◌, ◌≢◌, true};
+ghost use Rattle.std.specs.Prelude.{◌≡◌, ◌≢◌};
 ghost use Rattle.nitro_library.specs.declared.status.Failure.TheVariants.{OutOfMemory};
-ghost use Rattle.nitro_library.specs.Statuses.{code_of, cut_after, status_of, is_late, late_of};
+ghost use Rattle.nitro_library.specs.Statuses.{code_of, cut_after, status_of, late_of};
 
 use channel_values::NoMemory;
 use lasting_lines::Fault;
@@ -83,8 +83,7 @@ pub(crate) fn status_of(outcome: Result<(), Failure>) -> u8
 
 /// Why a line that was looked at fails.
 pub(crate) fn late_of(fault: Fault) -> Failure
-    ensures value { result ≡ late_of fault }
-    ensures late { is_late result ≡ true }
+    ensures { result ≡ late_of fault }
 {
     match fault {
         Fault::NoMemory => Failure::OutOfMemory,
